@@ -1,0 +1,6 @@
+pub mod Least
+pub mod Words
+pub mod Positions
+pub mod Fields
+pub mod Checksum
+pub mod Link
