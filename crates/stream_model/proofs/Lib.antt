@@ -1,0 +1,5 @@
+pub mod Blocks
+pub mod Bursts
+pub mod Finish
+pub mod Listed
+pub mod OneStream

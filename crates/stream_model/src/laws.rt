@@ -1,0 +1,13 @@
+ghost use Rattle.std.specs.Prelude.{◌≡◌, ℕ, List, [], Contains};
+ghost use Rattle.stream_model.specs.BurstStream.{Source, IsSource, packets_of, IsBurstStream};
+ghost use Rattle.lk_base.specs.declared.word.Word.{Word};
+
+/// The rules allow one stream for a source.
+pub fn one_stream()
+    ensures { (source : Source) (v w : List Word) → IsBurstStream source v → IsBurstStream source w → v ≡ w }
+{}
+
+/// A channel that a source does not list has no packets.
+pub fn unlisted_is_silent()
+    ensures { (source : Source) (channel : ℕ) → IsSource source → (Contains source.channels channel → ⊥) → packets_of source channel ≡ [] }
+{}
