@@ -4,5 +4,5 @@
 mod laws;
 mod rows;
 
-pub use laws::{one_stream, unlisted_is_silent};
+pub use laws::{free_is_not_held, one_stream, unlisted_is_silent};
 pub use rows::{FlowRow, LocalRow};
