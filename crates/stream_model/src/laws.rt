@@ -2,7 +2,7 @@ ghost use Rattle.std.specs.Prelude.{◌≡◌, ℕ, List, [], Contains};
 ghost use Rattle.stream_model.specs.BurstStream.{Source, IsSource, packets_of, IsBurstStream, IsHeld};
 ghost use Rattle.lk_base.specs.declared.word.Word.{Word};
 
-/// The rules allow one stream for a source.
+/// A source has at most one stream.
 pub fn one_stream()
     ensures { (source : Source) (v w : List Word) → IsBurstStream source v → IsBurstStream source w → v ≡ w }
 {}
