@@ -1,0 +1,16 @@
+pub mod Unmet
+pub mod SpansMet
+pub mod Openings
+pub mod Sent
+pub mod ManyEpochs
+pub mod InAFile
+pub mod SentBursts
+pub mod Fill
+pub mod ChunksCut
+pub mod Carried
+pub mod Links
+pub mod Delivered
+pub mod Outputs
+pub mod Clean
+pub mod Held
+pub mod TwoPacketsArrive

@@ -1,0 +1,6 @@
+//! The laws on both ends of a link: which sent packets the received words deliver.
+#![tactic(auto)]
+
+mod laws;
+
+pub use laws::{clean_words_law, epochs_law, held_law, outputs_law, two_packets_arrive, words_law};

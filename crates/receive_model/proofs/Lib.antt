@@ -1,0 +1,15 @@
+pub mod Cuts
+pub mod Ends
+pub mod Order
+pub mod HeadsOn
+pub mod Reading
+pub mod RunEnds
+pub mod EventPackets
+pub mod AllEvents
+pub mod Reached
+pub mod Epochs
+pub mod EventSpans
+pub mod AllSpans
+pub mod Tracking
+pub mod RowChecks
+pub mod EdgesHold

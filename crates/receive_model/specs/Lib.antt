@@ -1,0 +1,10 @@
+pub mod Lists
+pub mod Positions
+pub mod Stretches
+pub mod Spans
+pub mod Pieces
+pub mod Events
+pub mod Shown
+pub mod Parts
+pub mod Rows
+pub mod EdgeCases
