@@ -1,0 +1,5 @@
+pub mod Left
+pub mod Again
+pub mod Hex
+pub mod Stand
+pub mod Sizes

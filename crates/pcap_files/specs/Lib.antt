@@ -1,0 +1,6 @@
+pub mod Numbers
+pub mod Capture
+pub mod Records
+pub mod Written
+pub mod Texts
+pub mod Examples

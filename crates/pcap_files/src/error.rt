@@ -1,0 +1,63 @@
+ghost use Rattle.std.specs.Prelude.{◌≡◌, IfOk, string_bytes};
+ghost use Rattle.std.specs.Fmt.{WritesOnOk};
+ghost use Rattle.pcap_files.specs.declared.error.PcapError.TheVariants.{Magic};
+ghost use Rattle.pcap_files.specs.Texts.{refusal_text};
+
+use lk_base::OutOfMemory;
+use std::alloc::Global;
+use std::fmt;
+use thiserror::Error;
+
+/// Why a capture is refused.
+#[derive(Clone, Copy, Debug, PartialEq, Eq, Error)]
+pub enum PcapError {
+    /// The first four bytes are none of the four magics; they are given read high byte first.
+    Magic(u32),
+    /// The file is of the newer format, pcapng.
+    NgFile,
+    /// The version, major and minor, is not 2.4.
+    Version(u16, u16),
+    /// The header, then at offset 0, or the record at this offset is not whole.
+    Short(u64),
+    /// The record of this number, from 0, captured no byte.
+    Empty(u64),
+    /// The record of this number, from 0, captured this many bytes, more than the largest packet has.
+    Long(u64, u32),
+}
+
+// Writes the text of a wrong magic.
+#[tactic(auto, using(crate::proofs::Hex::eight))]
+fn write_magic<W: fmt::Write>(f: &mut fmt::Formatter<W>, magic: u32) -> fmt::Result
+    ensures { WritesOnOk W.write_str_gives f.old result (refusal_text (Magic magic)) f.new }
+{
+    write!(f, "magic {magic:08X}")
+}
+
+impl fmt::Display for PcapError {
+    ghost use Rattle.std.specs.Prelude.{Some};
+    ghost use Rattle.pcap_files.specs.Texts.{refusal_text};
+
+    ghost output = { λ e. Some (refusal_text e) };
+
+    fn fmt<W: fmt::Write>(&self, f: &mut fmt::Formatter<W>) -> fmt::Result {
+        match self {
+            PcapError::Magic(magic) => write_magic(f, *magic),
+            PcapError::NgFile => write!(f, "pcapng"),
+            PcapError::Version(major, minor) => write!(f, "version {major}.{minor}"),
+            PcapError::Short(offset) => write!(f, "short at {offset}"),
+            PcapError::Empty(number) => write!(f, "empty record {number}"),
+            PcapError::Long(number, length) => write!(f, "long record {number} length {length}"),
+        }
+    }
+}
+
+/// The text of a refusal, the one that `Display` writes: `magic XXXXXXXX` with eight upper case hexadecimal digits,
+/// `pcapng`, `version A.B`, `short at O`, `empty record N` or `long record N length M`, with no line end.
+pub fn refusal_text(alloc: Global, why: &PcapError) -> Result<String, OutOfMemory>
+    ensures { IfOk result (λ text. string_bytes text ≡ refusal_text why.now) }
+{
+    match format!(in alloc; "{why}") {
+        Ok(text) => Ok(text),
+        Err(_) => Err(OutOfMemory),
+    }
+}

@@ -1,0 +1,18 @@
+//! Captures in the classic format, version 2.4, read and written: a header of 24 bytes, then records of a head of 16
+//! bytes and a packet. Time stamps, the original lengths and the link type of what is read are not looked at.
+#![tactic(auto)]
+
+mod capture;
+mod error;
+mod law;
+mod order;
+mod reader;
+#[cfg(test)]
+mod tests;
+mod writer;
+
+pub use capture::{CaptureError, packets_of};
+pub use error::{PcapError, refusal_text};
+pub use law::{examples, packets_fit, records_stand, written_is_read};
+pub use reader::PcapReader;
+pub use writer::{write_header, write_packet};
