@@ -4,3 +4,13 @@ pub mod Finish
 pub mod Free
 pub mod Listed
 pub mod OneStream
+pub mod ExamplesHold
+pub mod OrderExamplesHold
+pub mod Small
+pub mod StreamsHold
+pub mod QuietHolds
+pub mod OnePacketHolds
+pub mod OffThroughoutHolds
+pub mod InTurnHolds
+pub mod LongCalendarHolds
+pub mod InGroupsHolds

@@ -1,0 +1,28 @@
+-- The one line of a run that was stopped.
+use Rattle.std.specs.Prelude.{ℕ, List, ◌++◌}
+use lib.Chars.{codes}
+use Rattle.pcap_files.specs.Texts.{refusal_text}
+use Rattle.link_reports.specs.declared.faults.InputError.{InputError}
+use Rattle.link_reports.specs.declared.faults.InputError.TheVariants.{NoFile, TooLarge, Pcap}
+use Rattle.link_reports.specs.Lines.{line_end}
+
+-- the name of the cause
+abbrev pub why_text : InputError → List ℕ
+why_text NoFile = codes "no file"
+why_text TooLarge = codes "too large"
+why_text (Pcap refusal) = refusal_text refusal
+
+abbrev pub usage_line : List ℕ
+usage_line = codes "usage: interlaken burst|join|send|receive|link FILE, or interlaken generate NUMBER PREFIX" ++ line_end
+
+abbrev pub refused_line : List ℕ → List ℕ → List ℕ
+refused_line name why = codes "input refused: " ++ (name ++ (codes ": " ++ (why ++ line_end)))
+
+abbrev pub input_line : List ℕ → InputError → List ℕ
+input_line name why = refused_line name (why_text why)
+
+abbrev pub store_line : List ℕ → List ℕ
+store_line name = codes "store fault: " ++ (name ++ line_end)
+
+abbrev pub memory_line : List ℕ
+memory_line = codes "out of memory" ++ line_end

@@ -1,0 +1,91 @@
+ghost use Rattle.std.specs.Prelude.{◌≡◌, ◌++◌, OnOk, OnErr, IfOk, string_bytes};
+ghost use Rattle.link_reports.specs.Faults.{usage_line, input_line, store_line, memory_line};
+
+use crate::lines::put;
+use lk_base::OutOfMemory;
+use pcap_files::PcapError;
+use std::alloc::{AllocError, Global};
+use std::fmt;
+
+/// Why an input is refused.
+#[derive(Clone, Copy, Debug, PartialEq, Eq)]
+pub enum InputError {
+    /// The name is absent.
+    NoFile,
+    /// The file is longer than its limit.
+    TooLarge,
+    /// The file is no capture, with the first refusal of its bytes.
+    Pcap(PcapError),
+}
+
+impl fmt::Display for InputError {
+    ghost use Rattle.std.specs.Prelude.{Some};
+    ghost use Rattle.link_reports.specs.Faults.{why_text};
+
+    ghost output = { λ e. Some (why_text e) };
+
+    fn fmt<W: fmt::Write>(&self, f: &mut fmt::Formatter<W>) -> fmt::Result {
+        match self {
+            InputError::NoFile => write!(f, "no file"),
+            InputError::TooLarge => write!(f, "too large"),
+            InputError::Pcap(refusal) => write!(f, "{refusal}"),
+        }
+    }
+}
+
+fn refused_text(alloc: Global, name: &str, why: &InputError) -> Result<String, AllocError>
+    ensures { IfOk result (λ text. string_bytes text ≡ input_line name.now why.now) }
+{
+    format!(in alloc; "input refused: {name}: {why}\n")
+}
+
+fn store_text(alloc: Global, name: &str) -> Result<String, AllocError>
+    ensures { IfOk result (λ text. string_bytes text ≡ store_line name.now) }
+{
+    format!(in alloc; "store fault: {name}\n")
+}
+
+/// The line of want of memory, which itself needs none.
+pub fn memory_line() -> &'static [u8]
+    ensures { result.now ≡ memory_line }
+{
+    b"out of memory\n"
+}
+
+/// Appends the line that says how the program is called. `out` is as before where memory runs out.
+pub fn usage_line(out: &mut Vec<u8>) -> Result<(), OutOfMemory>
+    ensures ok { OnOk result (out.new.items ≡ out.old.items ++ usage_line) }
+    ensures err { OnErr result (out.new.items ≡ out.old.items) }
+{
+    put(
+        out,
+        b"usage: interlaken burst|join|send|receive|link FILE, or interlaken generate NUMBER PREFIX\n",
+    )
+}
+
+/// Appends the line of an input that is refused: its name and why. `out` is as before where memory runs out.
+pub fn input_line(
+    alloc: Global,
+    out: &mut Vec<u8>,
+    name: &str,
+    why: &InputError,
+) -> Result<(), OutOfMemory>
+    ensures ok { OnOk result (out.new.items ≡ out.old.items ++ input_line name.now why.now) }
+    ensures err { OnErr result (out.new.items ≡ out.old.items) }
+{
+    match refused_text(alloc, name, why) {
+        Ok(text) => put(out, text.as_bytes()),
+        Err(_) => Err(OutOfMemory),
+    }
+}
+
+/// Appends the line of a failed call of the store, with the name in that call. `out` is as before where memory runs out.
+pub fn store_line(alloc: Global, out: &mut Vec<u8>, name: &str) -> Result<(), OutOfMemory>
+    ensures ok { OnOk result (out.new.items ≡ out.old.items ++ store_line name.now) }
+    ensures err { OnErr result (out.new.items ≡ out.old.items) }
+{
+    match store_text(alloc, name) {
+        Ok(text) => put(out, text.as_bytes()),
+        Err(_) => Err(OutOfMemory),
+    }
+}
