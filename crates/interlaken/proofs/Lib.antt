@@ -1,0 +1,13 @@
+pub mod Moves
+pub mod Parts
+pub mod Stops
+pub mod Saying
+pub mod Runs
+pub mod Founds
+pub mod Many
+pub mod Causes
+pub mod AllSent
+pub mod Captures
+pub mod Outcomes
+pub mod Endings
+pub mod Others

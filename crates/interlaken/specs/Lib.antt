@@ -1,0 +1,11 @@
+pub mod Words
+pub mod Outcome
+pub mod Burst
+pub mod Run
+pub mod Asked
+pub mod Faults
+pub mod Ended
+pub mod Said
+pub mod Number
+pub mod Steps
+pub mod Made

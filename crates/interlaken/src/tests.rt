@@ -1,0 +1,234 @@
+ghost use Rattle.std.specs.Prelude.{◌≡◌, IfOk};
+
+use crate::{Status, run};
+use lk_base::OutOfMemory;
+use lk_outside::{MemSink, MemStore};
+use pcap_files::{write_header, write_packet};
+use std::alloc::{AllocError, Global};
+use std::test::Fail;
+
+const HEADER: [u8; 24] = [
+    0xD4, 0xC3, 0xB2, 0xA1, 2, 0, 4, 0, 0, 0, 0, 0, 0, 0, 0, 0, 0, 0, 4, 0, 1, 0, 0, 0,
+];
+
+// The words of one packet of 60 bytes, 0 to 59.
+const SIXTY: [u8; 108] = [
+    0x02, 0x81, 0xFF, 0xFF, 0x00, 0x00, 0x18, 0x81, 0x77, 0x02, 0xE1, 0xFF, 0xFF, 0x00, 0x00, 0x1E,
+    0x81, 0x42, 0x01, 0x00, 0x01, 0x02, 0x03, 0x04, 0x05, 0x06, 0x07, 0x01, 0x08, 0x09, 0x0A, 0x0B,
+    0x0C, 0x0D, 0x0E, 0x0F, 0x01, 0x10, 0x11, 0x12, 0x13, 0x14, 0x15, 0x16, 0x17, 0x01, 0x18, 0x19,
+    0x1A, 0x1B, 0x1C, 0x1D, 0x1E, 0x1F, 0x01, 0x20, 0x21, 0x22, 0x23, 0x24, 0x25, 0x26, 0x27, 0x01,
+    0x28, 0x29, 0x2A, 0x2B, 0x2C, 0x2D, 0x2E, 0x2F, 0x01, 0x30, 0x31, 0x32, 0x33, 0x34, 0x35, 0x36,
+    0x37, 0x01, 0x38, 0x39, 0x3A, 0x3B, 0x00, 0x00, 0x00, 0x00, 0x02, 0x99, 0xFF, 0xFF, 0x00, 0x00,
+    0x39, 0x1C, 0xC1, 0x02, 0x81, 0xFF, 0xFF, 0x00, 0x00, 0x18, 0x81, 0x77,
+];
+
+// The words of no packet.
+const NONE: [u8; 27] = [
+    0x02, 0x81, 0xFF, 0xFF, 0x00, 0x00, 0x18, 0x81, 0x77, 0x02, 0x81, 0xFF, 0xFF, 0x00, 0x00, 0x18,
+    0x81, 0x77, 0x02, 0x81, 0xFF, 0xFF, 0x00, 0x00, 0x18, 0x81, 0x77,
+];
+
+// A big-endian capture with stamps in nanoseconds, of one packet of two bytes.
+const BIG_NANO: [u8; 42] = [
+    0xA1, 0xB2, 0x3C, 0x4D, 0, 2, 0, 4, 9, 9, 9, 9, 0, 0, 0, 0, 0, 0, 0, 1, 0, 0, 0, 1, 1, 2, 3, 4,
+    5, 6, 7, 8, 0, 0, 0, 2, 0, 0, 0, 9, 7, 8,
+];
+
+const USAGE: &[u8] =
+    b"usage: interlaken burst|join|send|receive|link FILE, or interlaken generate NUMBER PREFIX\n";
+
+fn words_of(alloc: Global, texts: &[&str]) -> Result<Vec<String>, AllocError> {
+    let mut words = Vec::new(alloc);
+    for text in texts {
+        words.push(String::from_str(alloc, *text)?)?;
+    }
+    Ok(words)
+}
+
+// A store of one file, `a.pcap`.
+fn store_of(alloc: Global, capture: &[u8]) -> Result<MemStore, OutOfMemory>
+    ensures { IfOk result (λ store. store.faults ≡ 0) }
+{
+    let mut store = MemStore::make(alloc);
+    store.put("a.pcap", capture)?;
+    Ok(store)
+}
+
+// So many packets of this packet's bytes.
+fn capture_of(alloc: Global, packet: &[u8; 1514], count: usize) -> Result<Vec<u8>, OutOfMemory> {
+    let mut capture = Vec::new(alloc);
+    write_header(alloc, &mut capture, 1)?;
+    for _ in 0..count {
+        write_packet(alloc, &mut capture, packet)?;
+    }
+    Ok(capture)
+}
+
+fn sixty_bytes(alloc: Global) -> Result<Vec<u8>, OutOfMemory> {
+    let mut packet = [0u8; 60];
+    for (i, byte) in packet.iter_mut().enumerate() {
+        *byte = i as u8;
+    }
+    let mut capture = Vec::new(alloc);
+    write_header(alloc, &mut capture, 1)?;
+    write_packet(alloc, &mut capture, &packet)?;
+    Ok(capture)
+}
+
+#[test]
+fn one_packet_of_sixty_bytes(rt: HostRuntime) -> Result<(), Fail> {
+    let alloc = rt.alloc();
+    let words = words_of(alloc, &["burst", "a.pcap"])?;
+    let capture = sixty_bytes(alloc)?;
+    let mut store = store_of(alloc, &capture)?;
+    let mut out = MemSink::make(alloc);
+    assert_eq!(rt; run(alloc, &words, &mut store, &mut out), Status::Done);
+    let text = b"sent channel=0 packets=1 bytes=60 left=0\nslots 12\n";
+    assert_eq!(rt; out.written(), text.as_slice());
+    assert_eq!(rt; store.get("a.pcap.words"), Some(SIXTY.as_slice()));
+    assert_eq!(rt; store.get("a.pcap"), Some(capture.as_slice()));
+    Ok(())
+}
+
+#[test]
+fn a_capture_without_records(rt: HostRuntime) -> Result<(), Fail> {
+    let alloc = rt.alloc();
+    let words = words_of(alloc, &["burst", "a.pcap"])?;
+    let mut store = store_of(alloc, &HEADER)?;
+    let mut out = MemSink::make(alloc);
+    assert_eq!(rt; run(alloc, &words, &mut store, &mut out), Status::Done);
+    let text = b"sent channel=0 packets=0 bytes=0 left=0\nslots 3\n";
+    assert_eq!(rt; out.written(), text.as_slice());
+    assert_eq!(rt; store.get("a.pcap.words"), Some(NONE.as_slice()));
+    Ok(())
+}
+
+#[test]
+fn a_big_endian_capture_in_nanoseconds_is_accepted(rt: HostRuntime) -> Result<(), Fail> {
+    let alloc = rt.alloc();
+    let words = words_of(alloc, &["burst", "a.pcap"])?;
+    let mut store = store_of(alloc, &BIG_NANO)?;
+    let mut out = MemSink::make(alloc);
+    assert_eq!(rt; run(alloc, &words, &mut store, &mut out), Status::Done);
+    let text = b"sent channel=0 packets=1 bytes=2 left=0\nslots 5\n";
+    assert_eq!(rt; out.written(), text.as_slice());
+    Ok(())
+}
+
+#[test]
+fn refused_captures_are_told(rt: HostRuntime) -> Result<(), Fail> {
+    let alloc = rt.alloc();
+    let words = words_of(alloc, &["burst", "a.pcap"])?;
+    let mut cut = [0u8; 31];
+    cut[..24].copy_from_slice(&HEADER);
+    let mut empty = [0u8; 40];
+    empty[..24].copy_from_slice(&HEADER);
+    let cases = [
+        (b"\n\r\r\n".as_slice(), "input refused: a.pcap: pcapng\n"),
+        (cut.as_slice(), "input refused: a.pcap: short at 24\n"),
+        (empty.as_slice(), "input refused: a.pcap: empty record 0\n"),
+    ];
+    for (capture, line) in cases {
+        let mut store = store_of(alloc, capture)?;
+        let mut out = MemSink::make(alloc);
+        assert_eq!(rt;
+            run(alloc, &words, &mut store, &mut out),
+            Status::InputRefused
+        );
+        assert_eq!(rt; out.written(), line.as_bytes());
+        assert_eq!(rt; store.get("a.pcap.words"), None);
+    }
+    Ok(())
+}
+
+#[test]
+fn an_absent_capture_is_told(rt: HostRuntime) -> Result<(), Fail> {
+    let alloc = rt.alloc();
+    let words = words_of(alloc, &["burst", "a.pcap"])?;
+    let mut store = MemStore::make(alloc);
+    let mut out = MemSink::make(alloc);
+    assert_eq!(rt;
+        run(alloc, &words, &mut store, &mut out),
+        Status::InputRefused
+    );
+    let line = b"input refused: a.pcap: no file\n";
+    assert_eq!(rt; out.written(), line.as_slice());
+    Ok(())
+}
+
+#[test]
+fn words_that_are_not_accepted(rt: HostRuntime) -> Result<(), Fail> {
+    let alloc = rt.alloc();
+    let cases: [&[&str]; 7] = [
+        &[],
+        &["burst"],
+        &["frob", "a.pcap"],
+        &["burst", "a", "b"],
+        &["burst", "-"],
+        &["generate", "1x", "p"],
+        &["burst", "x.plan"],
+    ];
+    for texts in cases {
+        let words = words_of(alloc, texts)?;
+        let mut store = MemStore::make(alloc);
+        let mut out = MemSink::make(alloc);
+        assert_eq!(rt; run(alloc, &words, &mut store, &mut out), Status::Usage);
+        assert_eq!(rt; out.written(), USAGE);
+    }
+    Ok(())
+}
+
+#[test]
+fn a_hundred_packets_are_appended_in_three_pieces(rt: HostRuntime) -> Result<(), Fail> {
+    let alloc = rt.alloc();
+    let words = words_of(alloc, &["burst", "a.pcap"])?;
+    let capture = capture_of(alloc, &[7u8; 1514], 100)?;
+    let mut store = store_of(alloc, &capture)?;
+    store.fail(&[], &[1], &[3])?;
+    let mut out = MemSink::make(alloc);
+    assert_eq!(rt; run(alloc, &words, &mut store, &mut out), Status::Done);
+    let text = b"sent channel=0 packets=100 bytes=151400 left=0\nslots 19603\n";
+    assert_eq!(rt; out.written(), text.as_slice());
+    let mut cut = store_of(alloc, &capture)?;
+    cut.fail(&[], &[], &[2])?;
+    let mut told = MemSink::make(alloc);
+    assert_eq!(rt; run(alloc, &words, &mut cut, &mut told), Status::StoreFault);
+    let line = b"store fault: a.pcap.words\n";
+    assert_eq!(rt; told.written(), line.as_slice());
+    let whole = store.get("a.pcap.words").unwrap_or(&[]);
+    let part = cut.get("a.pcap.words").unwrap_or(&[]);
+    assert_eq!(rt; (whole.len(), part.len()), (176_427, 153_749));
+    assert!(rt; whole.starts_with(part));
+    Ok(())
+}
+
+#[test]
+fn the_first_append_fails(rt: HostRuntime) -> Result<(), Fail> {
+    let alloc = rt.alloc();
+    let words = words_of(alloc, &["burst", "a.pcap"])?;
+    let capture = sixty_bytes(alloc)?;
+    let mut store = store_of(alloc, &capture)?;
+    store.fail(&[], &[], &[0])?;
+    let mut out = MemSink::make(alloc);
+    assert_eq!(rt;
+        run(alloc, &words, &mut store, &mut out),
+        Status::StoreFault
+    );
+    let line = b"store fault: a.pcap.words\n";
+    assert_eq!(rt; out.written(), line.as_slice());
+    assert_eq!(rt; store.get("a.pcap.words"), SIXTY.get(..54));
+    Ok(())
+}
+
+#[test]
+fn the_sink_fails_alone(rt: HostRuntime) -> Result<(), Fail> {
+    let alloc = rt.alloc();
+    let words = words_of(alloc, &["burst", "a.pcap"])?;
+    let capture = sixty_bytes(alloc)?;
+    let mut store = store_of(alloc, &capture)?;
+    let mut out = MemSink::make(alloc);
+    out.fail(&[0])?;
+    assert_eq!(rt; run(alloc, &words, &mut store, &mut out), Status::SinkFault);
+    assert_eq!(rt; store.get("a.pcap.words"), Some(SIXTY.as_slice()));
+    Ok(())
+}
