@@ -15,13 +15,14 @@ use Rattle.lk_base.specs.declared.word.Word.TheVariants.{Data, Control}
 use Rattle.lk_base.specs.declared.word.RxWord.TheVariants as received
 use Rattle.receive_model.specs.Lists.{neighbours}
 use Rattle.receive_model.specs.Positions.{Placed, placed_from, numbered}
-use Rattle.receive_model.specs.Stretches.{between, stays, any_bad, data_among, has_some, breaks_protocol, fault_from, fault_of, Stretch, passes, last_word, verified}
+use Rattle.receive_model.specs.Stretches.{between, is_no_control, any_bad, data_among, has_some, breaks_protocol, fault_from, fault_of, Stretch, passes, last_word, verified}
 use Rattle.receive_model.specs.Pieces.{packets}
 use Rattle.delivery_laws.specs.LawOnCleanWords.{LawOnCleanWords}
 use Rattle.delivery_laws.proofs.ManyEpochs.{all-verified}
 use Rattle.delivery_laws.proofs.Delivered.{shows_the_sent}
 use Rattle.receive_model.specs.Events.{words_epoch}
 use Rattle.delivery_laws.proofs.Outputs.{word_events-packets}
+use Rattle.delivery_laws.proofs.InAFile.{numbered_rise}
 use Rattle.delivery_laws.specs.Law.{as_sent, sent_stretches, word_items}
 use Rattle.delivery_laws.specs.LawOnWords.{EachIsPacket}
 use Rattle.receive_model.proofs.Cuts.{split, same}
@@ -95,7 +96,7 @@ accepted source before x right = elim (legal_end source before) [
 
 -- ---- one stretch
 
-no_bad : (p : Placed) (n y : ℕ) (ds : List ℕ) (rest : List Word) → any_bad (same stays p (placed_from n (map as_sent (map Data ds ++ Control y ∷ rest)))) ≡ false
+no_bad : (p : Placed) (n y : ℕ) (ds : List ℕ) (rest : List Word) → any_bad (same is_no_control p (placed_from n (map as_sent (map Data ds ++ Control y ∷ rest)))) ≡ false
 no_bad p n y [] rest = refl
 no_bad p n y (d ∷ ds) rest = no_bad (record { at = numbered n; word = received.Data d }) (n + 1) y ds rest
 
@@ -176,37 +177,37 @@ module _ (source : Source) (m : ℕ) (each : EachIsPacket m source) where
   -- ---- all of them
 
   behind_word : (p : List Word) (x : ℕ) (q : List Word) → IsBurstStream source (p ++ Control x ∷ q)
-      → AllPass (map between (neighbours (heads_at (length p + 1) q))) → AllPass (map between (neighbours (head_at (length p) x q ∷ heads_at (length p + 1) q)))
+      → AllPass (map between (neighbours (heads_at numbered (length p + 1) q))) → AllPass (map between (neighbours (head_at numbered (length p) x q ∷ heads_at numbered (length p + 1) q)))
   behind_word p x q stream rest = elim (run_cases q) [
-    | Open ds e ↦ rw (ap (heads_at (length p + 1)) e ∙ no_heads (length p + 1) ds) tt
+    | Open ds e ↦ rw (ap (heads_at numbered (length p + 1)) e ∙ no_heads (length p + 1) ds) tt
     | Closed ds y later e ↦ closed p x q ds y later e stream rest
   ]
     where
-      no_heads : (n : ℕ) (ds : List ℕ) → heads_at n (map Data ds) ≡ []
+      no_heads : (n : ℕ) (ds : List ℕ) → heads_at numbered n (map Data ds) ≡ []
       no_heads n [] = refl
-      no_heads n (d ∷ ds) = heads-data n d (map Data ds) ∙ no_heads (n + 1) ds
+      no_heads n (d ∷ ds) = heads-data numbered n d (map Data ds) ∙ no_heads (n + 1) ds
 
       closed : (p : List Word) (x : ℕ) (q : List Word) (ds : List ℕ) (y : ℕ) (later : List Word) → q ≡ map Data ds ++ Control y ∷ later → IsBurstStream source (p ++ Control x ∷ q)
-          → AllPass (map between (neighbours (heads_at (length p + 1) q))) → AllPass (map between (neighbours (head_at (length p) x q ∷ heads_at (length p + 1) q)))
+          → AllPass (map between (neighbours (heads_at numbered (length p + 1) q))) → AllPass (map between (neighbours (head_at numbered (length p) x q ∷ heads_at numbered (length p + 1) q)))
       closed p x q ds y later e stream rest =
           let n : ℕ = length p in
           let at : Placed = record { at = numbered n; word = received.Control x } in
           let same_stream : IsBurstStream source (p ++ Control x ∷ (map Data ds ++ Control y ∷ later)) = subst (λ (v : List Word). IsBurstStream source (p ++ Control x ∷ v)) e stream in
-          let h = next_head (n + 1) y ds later in
-          let heads : heads_at (n + 1) q ≡ h.0 ∷ h.1 = ap (heads_at (n + 1)) e ∙ h.2 in
-          let words : data_among (head_at n x q).following ≡ ds = ap (λ r. data_among (same stays at (placed_from (n + 1) (map as_sent r)))) e ∙ data_between at (n + 1) y ds later in
-          let clean : any_bad (head_at n x q).following ≡ false = ap (λ r. any_bad (same stays at (placed_from (n + 1) (map as_sent r)))) e ∙ no_bad at (n + 1) y ds later in
-          let fault : fault_of (between (head_at n x q, h.0)) ≡ None = rw (clean, words, h.3) (stretch_right p x ds y later same_stream) in
+          let h = next_head numbered (n + 1) y ds later in
+          let heads : heads_at numbered (n + 1) q ≡ h.0 ∷ h.1 = ap (heads_at numbered (n + 1)) e ∙ h.2 in
+          let words : data_among (head_at numbered n x q).following ≡ ds = ap (λ r. data_among (same is_no_control at (placed_from (n + 1) (map as_sent r)))) e ∙ data_between numbered at (n + 1) y ds later in
+          let clean : any_bad (head_at numbered n x q).following ≡ false = ap (λ r. any_bad (same is_no_control at (placed_from (n + 1) (map as_sent r)))) e ∙ no_bad at (n + 1) y ds later in
+          let fault : fault_of (between (head_at numbered n x q, h.0)) ≡ None = rw (clean, words, h.3) (stretch_right p x ds y later same_stream) in
           rw heads (ap is_none fault, rw heads at rest)
 
-  all_pass : (p q : List Word) → IsBurstStream source (p ++ q) → AllPass (map between (neighbours (heads_at (length p) q)))
+  all_pass : (p q : List Word) → IsBurstStream source (p ++ q) → AllPass (map between (neighbours (heads_at numbered (length p) q)))
   all_pass p [] stream = tt
   all_pass p (Data x ∷ q) stream =
       let rest = rw (length_push p (Data x)) at (all_pass (p ++ Data x ∷ []) q (rw (append_assoc p (Data x ∷ []) q) stream)) in
-      rw (heads-data (length p) x q) rest
+      rw (heads-data numbered (length p) x q) rest
   all_pass p (Control x ∷ q) stream =
       let rest = rw (length_push p (Control x)) at (all_pass (p ++ Control x ∷ []) q (rw (append_assoc p (Control x ∷ []) q) stream)) in
-      rw (heads-control (length p) x q) (behind_word p x q stream rest)
+      rw (heads-control numbered (length p) x q) (behind_word p x q stream rest)
 
 all_kept : (all : List Stretch) → AllPass all → filter passes all ≡ all
 all_kept [] h = refl
@@ -223,4 +224,4 @@ pub the_law_on_clean_words : LawOnCleanWords
 the_law_on_clean_words source setting channel w listed stream each =
     word_events-packets setting channel (map as_sent w) listed
     ∙ ap (packets setting.max_packet channel) (all_verified source setting.max_packet w each stream)
-    ∙ shows_the_sent source setting.max_packet channel w stream each
+    ∙ shows_the_sent numbered source setting.max_packet channel w numbered_rise stream each

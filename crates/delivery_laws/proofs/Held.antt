@@ -33,7 +33,7 @@ closed_by chunk b slot c e = by _ b.next slot c.end e
     by P (Some v) None h e = cc
     by P (Some v) (Some z) h e = (z, refl)
 
-all_closed : (w : List Word) (chunks : List Chunk) (bursts : List Burst) (slots : List ℕ) → CarryInOrder chunks bursts → Match w bursts slots → Closed w slots
+all_closed : (w : List Word) (chunks : List Chunk) (bursts : List Burst) (slots : List ℕ) → CarryInOrder chunks bursts → Match numbered w bursts slots → Closed w slots
 all_closed w chunks [] [] c m = tt
 all_closed w chunks [] (s ∷ slots) c m = absurd m
 all_closed w chunks (b ∷ bursts) [] c m = absurd m
@@ -62,7 +62,7 @@ count_slots channel n (word ∷ q) =
 
 -- enough bursts for all packets
 all_sent : (m most : ℕ) (w : List Word) (ps : List (List ℕ)) (slots : List ℕ) → 0 < most → EachFits m ps → Closed w slots → length (flat_map (chunks_of_packet most) ps) ≤ length slots
-    → map (λ (p : Packet). p.bytes) (sent_from most w ps slots) ≡ ps
+    → map (λ (p : Packet). p.bytes) (sent_from numbered most w ps slots) ≡ ps
 all_sent m most w [] slots positive each closed enough = refl
 all_sent m most w (bytes ∷ ps) slots positive (some, fits, each) closed enough =
     let n : ℕ = length (chunks_of_packet most bytes) in
@@ -93,7 +93,7 @@ the_law_on_held source m channel w listed stream each not_held =
       | inr h ↦ h
     ] in
     all_sent m source.shape.burst_max w (packets_of source channel) slots (omega arith) (fits_source m channel source each).each
-    (all_closed w (chunks_of source channel) (sent_bursts channel w) slots (carries_source m channel source w stream each) (all_match channel [] w))
+    (all_closed w (chunks_of source channel) (sent_bursts numbered channel w) slots (carries_source numbered m channel source w stream each) (all_match numbered channel [] w))
     (omega arith)
 
 -- a list has a number, or has it not
@@ -110,7 +110,7 @@ has_or_not (x ∷ xs) n = split (x == n)
     not_first x xs n other none (zero, l, e) = other e
     not_first x xs n other none (suc k, l, e) = none (k, omega arith, e)
 
-none_of_none : (source : Source) (channel : ℕ) (w : List Word) (ps : List (List ℕ)) → ps ≡ [] → map (λ (p : Packet). p.bytes) (sent_from source.shape.burst_max w ps (burst_slots channel 0 w)) ≡ ps
+none_of_none : (source : Source) (channel : ℕ) (w : List Word) (ps : List (List ℕ)) → ps ≡ [] → map (λ (p : Packet). p.bytes) (sent_from numbered source.shape.burst_max w ps (burst_slots channel 0 w)) ≡ ps
 none_of_none source channel w ps e = rw e refl
 
 pub the_law_on_kept_sources : LawOnKeptSource

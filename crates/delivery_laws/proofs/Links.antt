@@ -15,10 +15,10 @@ use Rattle.lk_base.specs.declared.position.Pos.{Pos}
 use Rattle.lk_base.specs.declared.word.RxWord.TheVariants as received
 use Rattle.control_words.specs.declared.fields.Eop.TheVariants as eops
 use Rattle.receive_model.specs.Lists.{first_of}
-use Rattle.receive_model.specs.Positions.{Placed, placed_from, numbered}
+use Rattle.receive_model.specs.Positions.{Placed, placed_at}
 use Rattle.control_words.specs.ControlWord.{end_of}
-use Rattle.receive_model.specs.Stretches.{Headed, headed, between, stays, data_among, Verified, last_word}
-use Rattle.receive_model.specs.Pieces.{Burst, is_on}
+use Rattle.receive_model.specs.Stretches.{Headed, headed, between, is_no_control, data_among, Verified, last_word}
+use Rattle.receive_model.specs.Pieces.{Burst, is_of_channel}
 use Rattle.delivery_laws.specs.Law.{as_sent}
 use Rattle.delivery_laws.specs.LawOnWords.{EachIsPacket}
 use Rattle.delivery_laws.specs.SentPackets.{burst_slots, control_slot, next_control, packet_on, sent_from}
@@ -30,26 +30,26 @@ use Rattle.delivery_laws.proofs.Fill.{AreBytes, are_bytes, bytes_take, bytes_dro
 -- ---- the control words behind a control word
 
 -- the control words from a slot on
-abbrev pub heads_at : ℕ → List Word → List Headed
-heads_at n q = headed (placed_from n (map as_sent q))
+abbrev pub heads_at : (ℕ → Pos) → ℕ → List Word → List Headed
+heads_at place n q = headed (placed_at place n (map as_sent q))
 
-pub heads-data : (n x : ℕ) (q : List Word) → heads_at n (Data x ∷ q) ≡ heads_at (n + 1) q
-heads-data n x q = headed-cons (record { at = numbered n; word = received.Data x }) (placed_from (n + 1) (map as_sent q))
+pub heads-data : (place : ℕ → Pos) (n x : ℕ) (q : List Word) → heads_at place n (Data x ∷ q) ≡ heads_at place (n + 1) q
+heads-data place n x q = headed-cons (record { at = place n; word = received.Data x }) (placed_at place (n + 1) (map as_sent q))
 
-abbrev pub head_at : ℕ → ℕ → List Word → Headed
-head_at n x q = record { at = numbered n; number = x; following = same stays (record { at = numbered n; word = received.Control x }) (placed_from (n + 1) (map as_sent q)) }
+abbrev pub head_at : (ℕ → Pos) → ℕ → ℕ → List Word → Headed
+head_at place n x q = record { at = place n; number = x; following = same is_no_control (record { at = place n; word = received.Control x }) (placed_at place (n + 1) (map as_sent q)) }
 
-pub heads-control : (n x : ℕ) (q : List Word) → heads_at n (Control x ∷ q) ≡ head_at n x q ∷ heads_at (n + 1) q
-heads-control n x q = headed-cons (record { at = numbered n; word = received.Control x }) (placed_from (n + 1) (map as_sent q))
+pub heads-control : (place : ℕ → Pos) (n x : ℕ) (q : List Word) → heads_at place n (Control x ∷ q) ≡ head_at place n x q ∷ heads_at place (n + 1) q
+heads-control place n x q = headed-cons (record { at = place n; word = received.Control x }) (placed_at place (n + 1) (map as_sent q))
 
 -- the first control word behind data words
-pub next_head : (n y : ℕ) (ds : List ℕ) (rest : List Word) → (h : Headed) × (later : List Headed) × (heads_at n (map Data ds ++ Control y ∷ rest) ≡ h ∷ later) × (h.number ≡ y)
-next_head n y [] rest = (head_at n y rest, heads_at (n + 1) rest, heads-control n y rest, refl)
-next_head n y (d ∷ ds) rest = let r = next_head (n + 1) y ds rest in (r.0, r.1, heads-data n d (map Data ds ++ Control y ∷ rest) ∙ r.2, r.3)
+pub next_head : (place : ℕ → Pos) (n y : ℕ) (ds : List ℕ) (rest : List Word) → (h : Headed) × (later : List Headed) × (heads_at place n (map Data ds ++ Control y ∷ rest) ≡ h ∷ later) × (h.number ≡ y)
+next_head place n y [] rest = (head_at place n y rest, heads_at place (n + 1) rest, heads-control place n y rest, refl)
+next_head place n y (d ∷ ds) rest = let r = next_head place (n + 1) y ds rest in (r.0, r.1, heads-data place n d (map Data ds ++ Control y ∷ rest) ∙ r.2, r.3)
 
-pub data_between : (p : Placed) (n y : ℕ) (ds : List ℕ) (rest : List Word) → data_among (same stays p (placed_from n (map as_sent (map Data ds ++ Control y ∷ rest)))) ≡ ds
-data_between p n y [] rest = refl
-data_between p n y (d ∷ ds) rest = ap (λ xs. d ∷ xs) (data_between (record { at = numbered n; word = received.Data d }) (n + 1) y ds rest)
+pub data_between : (place : ℕ → Pos) (p : Placed) (n y : ℕ) (ds : List ℕ) (rest : List Word) → data_among (same is_no_control p (placed_at place n (map as_sent (map Data ds ++ Control y ∷ rest)))) ≡ ds
+data_between place p n y [] rest = refl
+data_between place p n y (d ∷ ds) rest = ap (λ xs. d ∷ xs) (data_between place (record { at = place n; word = received.Data d }) (n + 1) y ds rest)
 
 -- ---- a burst carries its chunk
 
@@ -87,17 +87,17 @@ carries_from chunk at x v start words end bytes = record {
   end = end_right v.number chunk.bytes chunk.is_last end ∙ ap (λ ds. cond chunk.is_last (eops.End (8 - padding ds chunk.bytes)) eops.Going) (sym words);
 }
 
-carries-at : (source : Source) (p : List Word) (x : ℕ) (q : List Word) (c : IsCarried source p x q) → AreBytes c.chunk.bytes
-    → Carries c.chunk (record { at = numbered (length p); number = x; next = word_after (head_at (length p) x q) (heads_at (length p + 1) q) })
-carries-at source p x q c bytes =
+carries-at : (place : ℕ → Pos) (source : Source) (p : List Word) (x : ℕ) (q : List Word) (c : IsCarried source p x q) → AreBytes c.chunk.bytes
+    → Carries c.chunk (record { at = place (length p); number = x; next = word_after (head_at place (length p) x q) (heads_at place (length p + 1) q) })
+carries-at place source p x q c bytes =
     let n : ℕ = length p in
     let ds : List ℕ = data_words c.chunk.bytes in
-    let h = next_head (n + 1) c.end_word ds c.rest in
-    let next : heads_at (n + 1) q ≡ h.0 ∷ h.1 = ap (heads_at (n + 1)) c.words ∙ h.2 in
-    let words : data_among (head_at n x q).following ≡ ds = ap (λ r. data_among (same stays (record { at = numbered n; word = received.Control x }) (placed_from (n + 1) (map as_sent r)))) c.words
-    ∙ data_between (record { at = numbered n; word = received.Control x }) (n + 1) c.end_word ds c.rest in
-    subst (λ hs. Carries c.chunk (record { at = numbered n; number = x; next = word_after (head_at n x q) hs })) (sym next)
-    (carries_from c.chunk (numbered n) x (last_word (between (head_at n x q, h.0))) c.start words (ap eop_field h.3 ∙ c.end) bytes)
+    let h = next_head place (n + 1) c.end_word ds c.rest in
+    let next : heads_at place (n + 1) q ≡ h.0 ∷ h.1 = ap (heads_at place (n + 1)) c.words ∙ h.2 in
+    let words : data_among (head_at place n x q).following ≡ ds = ap (λ r. data_among (same is_no_control (record { at = place n; word = received.Control x }) (placed_at place (n + 1) (map as_sent r)))) c.words
+    ∙ data_between place (record { at = place n; word = received.Control x }) (n + 1) c.end_word ds c.rest in
+    subst (λ hs. Carries c.chunk (record { at = place n; number = x; next = word_after (head_at place n x q) hs })) (sym next)
+    (carries_from c.chunk (place n) x (last_word (between (head_at place n x q, h.0))) c.start words (ap eop_field h.3 ∙ c.end) bytes)
 
 -- ---- all bursts of a channel, from any slot on
 
@@ -112,9 +112,9 @@ drop-get (x ∷ chunks) (suc k) chunk h = let e : suc k + 1 ≡ suc (k + 1) = om
 bursts-push : (p : List Word) (word : Word) (channel : ℕ) → bursts_in (p ++ word ∷ []) channel ≡ bursts_in p channel + (if is_burst_on channel word then 1 else 0)
 bursts-push p word channel = sum_by-append (λ (v : Word). cond (is_burst_on channel v) 1 0) p (word ∷ []) ∙ ap (λ n. bursts_in p channel + n) (sum_by-cons (λ (v : Word). cond (is_burst_on channel v) 1 0) word [] ∙ omega arith)
 
-module _ (source : Source) (channel : ℕ) (bytes : HaveBytes (chunks_of source channel)) where
+module _ (place : ℕ → Pos) (source : Source) (channel : ℕ) (bytes : HaveBytes (chunks_of source channel)) where
   abbrev Carried : List Word → List Word → Type 0
-  Carried p q = CarryInOrder (drop (bursts_in p channel) (chunks_of source channel)) (filter (is_on channel) (head_bursts (heads_at (length p) q)))
+  Carried p q = CarryInOrder (drop (bursts_in p channel) (chunks_of source channel)) (filter (is_of_channel channel) (head_bursts (heads_at place (length p) q)))
 
   one_on : (p : List Word) (x : ℕ) (q : List Word) → IsBurstStream source (p ++ Control x ∷ q) → burst_field x ≡ 1 → channel_field x ≡ channel
       → Carried (p ++ Control x ∷ []) q → Carried p (Control x ∷ q)
@@ -123,14 +123,14 @@ module _ (source : Source) (channel : ℕ) (bytes : HaveBytes (chunks_of source 
       let next : slice_get (chunks_of source channel) (bursts_in p channel) ≡ Some c.chunk = rw on at c.next in
       let more : bursts_in (p ++ Control x ∷ []) channel ≡ bursts_in p channel + 1 = bursts-push p (Control x) channel ∙ rw (burst, eq-eqb (channel_field x) channel on) refl in
       let later = rw (length_push p (Control x), more) at rest in
-      rw (heads-control (length p) x q, burst, eq-eqb (channel_field x) channel on, drop-get (chunks_of source channel) (bursts_in p channel) c.chunk next)
-      (carries-at source p x q c (bytes (bursts_in p channel) c.chunk next), later)
+      rw (heads-control place (length p) x q, burst, eq-eqb (channel_field x) channel on, drop-get (chunks_of source channel) (bursts_in p channel) c.chunk next)
+      (carries-at place source p x q c (bytes (bursts_in p channel) c.chunk next), later)
 
   one_off : (p : List Word) (x : ℕ) (q : List Word) → is_burst_on channel (Control x) ≡ false → Carried (p ++ Control x ∷ []) q → Carried p (Control x ∷ q)
   one_off p x q off rest =
       let same_count : bursts_in (p ++ Control x ∷ []) channel ≡ bursts_in p channel = bursts-push p (Control x) channel ∙ rw off (omega arith) in
       let later = rw (length_push p (Control x), same_count) at rest in
-      rw (heads-control (length p) x q) (elim (and_cases (burst_field x == 1) (channel_field x == channel) off) [
+      rw (heads-control place (length p) x q) (elim (and_cases (burst_field x == 1) (channel_field x == channel) off) [
         | inl h ↦ rw h later
         | inr h ↦ split (has_burst x) (λ g. rw (g, h) later) (λ g. rw g later)
       ])
@@ -141,7 +141,7 @@ module _ (source : Source) (channel : ℕ) (bytes : HaveBytes (chunks_of source 
       let rest = all_carried (p ++ Data x ∷ []) q (rw (append_assoc p (Data x ∷ []) q) stream) in
       let same_count : bursts_in (p ++ Data x ∷ []) channel ≡ bursts_in p channel = bursts-push p (Data x) channel ∙ omega arith in
       let later = rw (length_push p (Data x), same_count) at rest in
-      rw (heads-data (length p) x q) later
+      rw (heads-data place (length p) x q) later
   all_carried p (Control x ∷ q) stream =
       let rest = all_carried (p ++ Control x ∷ []) q (rw (append_assoc p (Control x ∷ []) q) stream) in
       split (is_burst_on channel (Control x))
@@ -152,70 +152,70 @@ module _ (source : Source) (channel : ℕ) (bytes : HaveBytes (chunks_of source 
 -- ---- the same bursts and slots
 
 -- each burst stands at its slot, and the control word that comes next is the first one behind it
-abbrev pub Match : List Word → List Burst → List ℕ → Type 0
-Match w [] [] = Unit {0}
-Match w [] (s ∷ slots) = ⊥
-Match w (b ∷ bursts) [] = ⊥
-Match w (b ∷ bursts) (s ∷ slots) = (b.at ≡ numbered s) × (option_map (λ (v : Verified). v.at) b.next ≡ option_map numbered (next_control w s)) × Match w bursts slots
+abbrev pub Match : (ℕ → Pos) → List Word → List Burst → List ℕ → Type 0
+Match place w [] [] = Unit {0}
+Match place w [] (s ∷ slots) = ⊥
+Match place w (b ∷ bursts) [] = ⊥
+Match place w (b ∷ bursts) (s ∷ slots) = (b.at ≡ place s) × (option_map (λ (v : Verified). v.at) b.next ≡ option_map place (next_control w s)) × Match place w bursts slots
 
-next_slot : (a : Headed) (n : ℕ) (q : List Word) → option_map (λ (v : Verified). v.at) (word_after a (heads_at n q)) ≡ option_map numbered (control_slot n q)
-next_slot a n [] = refl
-next_slot a n (Data x ∷ q) = rw (heads-data n x q) (next_slot a (n + 1) q)
-next_slot a n (Control x ∷ q) = rw (heads-control n x q) refl
+next_slot : (place : ℕ → Pos) (a : Headed) (n : ℕ) (q : List Word) → option_map (λ (v : Verified). v.at) (word_after a (heads_at place n q)) ≡ option_map place (control_slot n q)
+next_slot place a n [] = refl
+next_slot place a n (Data x ∷ q) = rw (heads-data place n x q) (next_slot place a (n + 1) q)
+next_slot place a n (Control x ∷ q) = rw (heads-control place n x q) refl
 
-pub all_match : (channel : ℕ) (p q : List Word) → Match (p ++ q) (filter (is_on channel) (head_bursts (heads_at (length p) q))) (burst_slots channel (length p) q)
-all_match channel p [] = tt
-all_match channel p (Data x ∷ q) =
-    let rest = rw (append_assoc p (Data x ∷ []) q, length_push p (Data x)) at (all_match channel (p ++ Data x ∷ []) q) in
-    rw (heads-data (length p) x q) rest
-all_match channel p (Control x ∷ q) =
-    let rest = rw (append_assoc p (Control x ∷ []) q, length_push p (Control x)) at (all_match channel (p ++ Control x ∷ []) q) in
-    rw (heads-control (length p) x q)
+pub all_match : (place : ℕ → Pos) (channel : ℕ) (p q : List Word) → Match place (p ++ q) (filter (is_of_channel channel) (head_bursts (heads_at place (length p) q))) (burst_slots channel (length p) q)
+all_match place channel p [] = tt
+all_match place channel p (Data x ∷ q) =
+    let rest = rw (append_assoc p (Data x ∷ []) q, length_push p (Data x)) at (all_match place channel (p ++ Data x ∷ []) q) in
+    rw (heads-data place (length p) x q) rest
+all_match place channel p (Control x ∷ q) =
+    let rest = rw (append_assoc p (Control x ∷ []) q, length_push p (Control x)) at (all_match place channel (p ++ Control x ∷ []) q) in
+    rw (heads-control place (length p) x q)
     (split (is_burst_on channel (Control x))
     (λ h. let both = and_parts (burst_field x == 1) (channel_field x == channel) h in
-    rw (both.0, both.1) (refl, next_slot (head_at (length p) x q) (length p + 1) q ∙ ap (λ r. option_map numbered (control_slot (length p + 1) r)) (sym (drop_seam p (Control x) q)), rest))
+    rw (both.0, both.1) (refl, next_slot place (head_at place (length p) x q) (length p + 1) q ∙ ap (λ r. option_map place (control_slot (length p + 1) r)) (sym (drop_seam p (Control x) q)), rest))
     (λ h. elim (and_cases (burst_field x == 1) (channel_field x == channel) h) [
       | inl g ↦ rw g rest
       | inr g ↦ split (has_burst x) (λ k. rw (k, g) rest) (λ k. rw k rest)
     ]))
 
-match-drop : (w : List Word) (k : ℕ) (bursts : List Burst) (slots : List ℕ) → Match w bursts slots → Match w (drop k bursts) (drop k slots)
-match-drop w zero bursts slots h = h
-match-drop w (suc k) [] [] h = tt
-match-drop w (suc k) [] (s ∷ slots) h = absurd h
-match-drop w (suc k) (b ∷ bursts) [] h = absurd h
-match-drop w (suc k) (b ∷ bursts) (s ∷ slots) h = match-drop w k bursts slots h.2
+match-drop : (place : ℕ → Pos) (w : List Word) (k : ℕ) (bursts : List Burst) (slots : List ℕ) → Match place w bursts slots → Match place w (drop k bursts) (drop k slots)
+match-drop place w zero bursts slots h = h
+match-drop place w (suc k) [] [] h = tt
+match-drop place w (suc k) [] (s ∷ slots) h = absurd h
+match-drop place w (suc k) (b ∷ bursts) [] h = absurd h
+match-drop place w (suc k) (b ∷ bursts) (s ∷ slots) h = match-drop place w k bursts slots h.2
 
-ended : (bytes : List ℕ) (at : Pos) (a : ℕ) (next : Option Verified) (slot : Option ℕ) → at ≡ numbered a → option_map (λ (v : Verified). v.at) next ≡ option_map numbered slot
-    → packet_ended bytes at next ≡ option_map (λ z. record { bytes = bytes; first = numbered a; last = numbered z }) slot
-ended bytes at a None None e h = refl
-ended bytes at a None (Some z) e h = cc
-ended bytes at a (Some v) None e h = cc
-ended bytes at a (Some v) (Some z) e h = let last : v.at ≡ numbered z = cc in ap₂ (λ (f l : Pos). Some (record { bytes = bytes; first = f; last = l })) e last
+ended : (place : ℕ → Pos) (bytes : List ℕ) (at : Pos) (a : ℕ) (next : Option Verified) (slot : Option ℕ) → at ≡ place a → option_map (λ (v : Verified). v.at) next ≡ option_map place slot
+    → packet_ended bytes at next ≡ option_map (λ z. record { bytes = bytes; first = place a; last = place z }) slot
+ended place bytes at a None None e h = refl
+ended place bytes at a None (Some z) e h = cc
+ended place bytes at a (Some v) None e h = cc
+ended place bytes at a (Some v) (Some z) e h = let last : v.at ≡ place z = cc in ap₂ (λ (f l : Pos). Some (record { bytes = bytes; first = f; last = l })) e last
 
-last_match : (w : List Word) (bytes : List ℕ) (at : Pos) (a : ℕ) (k : ℕ) (b : Burst) (bursts : List Burst) (slots : List ℕ) → at ≡ numbered a → b.at ≡ at → Match w bursts slots
-    → packet_between bytes (Some b) (slice_get bursts k) ≡ packet_on w bytes (Some a) (slice_get slots k)
-last_match w bytes at a k b [] [] e f h = refl
-last_match w bytes at a k b [] (s ∷ slots) e f h = absurd h
-last_match w bytes at a k b (z ∷ bursts) [] e f h = absurd h
-last_match w bytes at a zero b (z ∷ bursts) (s ∷ slots) e f h = ended bytes b.at a z.next (next_control w s) (f ∙ e) h.1
-last_match w bytes at a (suc k) b (z ∷ bursts) (s ∷ slots) e f h = last_match w bytes at a k b bursts slots e f h.2
+last_match : (place : ℕ → Pos) (w : List Word) (bytes : List ℕ) (at : Pos) (a : ℕ) (k : ℕ) (b : Burst) (bursts : List Burst) (slots : List ℕ) → at ≡ place a → b.at ≡ at → Match place w bursts slots
+    → packet_between bytes (Some b) (slice_get bursts k) ≡ packet_on place w bytes (Some a) (slice_get slots k)
+last_match place w bytes at a k b [] [] e f h = refl
+last_match place w bytes at a k b [] (s ∷ slots) e f h = absurd h
+last_match place w bytes at a k b (z ∷ bursts) [] e f h = absurd h
+last_match place w bytes at a zero b (z ∷ bursts) (s ∷ slots) e f h = ended place bytes b.at a z.next (next_control w s) (f ∙ e) h.1
+last_match place w bytes at a (suc k) b (z ∷ bursts) (s ∷ slots) e f h = last_match place w bytes at a k b bursts slots e f h.2
 
-packet_match : (w : List Word) (bytes : List ℕ) (k : ℕ) (bursts : List Burst) (slots : List ℕ) → Match w bursts slots
-    → packet_between bytes (first_of bursts) (slice_get bursts k) ≡ packet_on w bytes (first_of slots) (slice_get slots k)
-packet_match w bytes k [] [] h = refl
-packet_match w bytes k [] (s ∷ slots) h = absurd h
-packet_match w bytes k (b ∷ bursts) [] h = absurd h
-packet_match w bytes k (b ∷ bursts) (s ∷ slots) h = last_match w bytes b.at s k b (b ∷ bursts) (s ∷ slots) h.0 refl h
+packet_match : (place : ℕ → Pos) (w : List Word) (bytes : List ℕ) (k : ℕ) (bursts : List Burst) (slots : List ℕ) → Match place w bursts slots
+    → packet_between bytes (first_of bursts) (slice_get bursts k) ≡ packet_on place w bytes (first_of slots) (slice_get slots k)
+packet_match place w bytes k [] [] h = refl
+packet_match place w bytes k [] (s ∷ slots) h = absurd h
+packet_match place w bytes k (b ∷ bursts) [] h = absurd h
+packet_match place w bytes k (b ∷ bursts) (s ∷ slots) h = last_match place w bytes b.at s k b (b ∷ bursts) (s ∷ slots) h.0 refl h
 
-sent_match : (most : ℕ) (w : List Word) (ps : List (List ℕ)) (bursts : List Burst) (slots : List ℕ) → Match w bursts slots → carried_from most ps bursts ≡ sent_from most w ps slots
-sent_match most w [] bursts slots h = refl
-sent_match most w (bytes ∷ ps) bursts slots h =
+sent_match : (place : ℕ → Pos) (most : ℕ) (w : List Word) (ps : List (List ℕ)) (bursts : List Burst) (slots : List ℕ) → Match place w bursts slots → carried_from most ps bursts ≡ sent_from place most w ps slots
+sent_match place most w [] bursts slots h = refl
+sent_match place most w (bytes ∷ ps) bursts slots h =
     let n : ℕ = length (chunks_of_packet most bytes) in
-    ap₂ (λ o rest. cons_option o rest) (packet_match w bytes (n - 1) bursts slots h) (sent_match most w ps (drop n bursts) (drop n slots) (match-drop w n bursts slots h))
+    ap₂ (λ o rest. cons_option o rest) (packet_match place w bytes (n - 1) bursts slots h) (sent_match place most w ps (drop n bursts) (drop n slots) (match-drop place w n bursts slots h))
 
-pub sent_slots : (most channel : ℕ) (w : List Word) (ps : List (List ℕ)) → carried_from most ps (sent_bursts channel w) ≡ sent_from most w ps (burst_slots channel 0 w)
-sent_slots most channel w ps = sent_match most w ps (sent_bursts channel w) (burst_slots channel 0 w) (all_match channel [] w)
+pub sent_slots : (place : ℕ → Pos) (most channel : ℕ) (w : List Word) (ps : List (List ℕ)) → carried_from most ps (sent_bursts place channel w) ≡ sent_from place most w ps (burst_slots channel 0 w)
+sent_slots place most channel w ps = sent_match place most w ps (sent_bursts place channel w) (burst_slots channel 0 w) (all_match place channel [] w)
 
 -- ---- the packets of the source
 
@@ -261,8 +261,8 @@ fit-channel max_packet most channel (p ∷ all) h =
 pub fits_source : (max_packet channel : ℕ) (source : Source) → EachIsPacket max_packet source → Fit max_packet source.shape.burst_max (packets_of source channel)
 fits_source max_packet channel source h = fit-channel max_packet source.shape.burst_max channel source.packets h
 
-pub carries_source : (max_packet channel : ℕ) (source : Source) (w : List Word) → IsBurstStream source w → EachIsPacket max_packet source → CarryInOrder (chunks_of source channel) (sent_bursts channel w)
-carries_source max_packet channel source w stream h = all_carried source channel (have-get (chunks_of source channel) (fits_source max_packet channel source h).have) [] w stream
+pub carries_source : (place : ℕ → Pos) (max_packet channel : ℕ) (source : Source) (w : List Word) → IsBurstStream source w → EachIsPacket max_packet source → CarryInOrder (chunks_of source channel) (sent_bursts place channel w)
+carries_source place max_packet channel source w stream h = all_carried place source channel (have-get (chunks_of source channel) (fits_source max_packet channel source h).have) [] w stream
 
 -- the first word is an idle
 warm : (source : Source) → 0 < source.shape.warmup * source.shape.group
@@ -271,10 +271,10 @@ warm source = by source.shape.warmup source.shape.group source.shape.warmup_low 
     by : (a b : ℕ) → 1 ≤ a → 1 ≤ b → 0 < a * b
     by a b h k = mul-le 1 1 a b h k
 
-first_head : (w : List Word) (x : ℕ) → IsAt w 0 (Control x) → burst_field x ≡ 0 → MatchOption (first_of (sent_heads w)) (Unit {0}) (λ a. has_burst a.number ≡ false)
-first_head [] x at idle = tt
-first_head (Data y ∷ w) x at idle = cc at
-first_head (Control y ∷ w) x at idle = let e : y ≡ x = cc in rw (heads-control 0 y w, e, idle) refl
+first_head : (place : ℕ → Pos) (w : List Word) (x : ℕ) → IsAt w 0 (Control x) → burst_field x ≡ 0 → MatchOption (first_of (sent_heads place w)) (Unit {0}) (λ a. has_burst a.number ≡ false)
+first_head place [] x at idle = tt
+first_head place (Data y ∷ w) x at idle = cc at
+first_head place (Control y ∷ w) x at idle = let e : y ≡ x = cc in rw (heads-control place 0 y w, e, idle) refl
 
-pub first_idle : (source : Source) (w : List Word) → IsBurstStream source w → MatchOption (first_of (sent_heads w)) (Unit {0}) (λ a. has_burst a.number ≡ false)
-first_idle source w stream = let f = stream.warmup 0 (warm source) in first_head w f.0 f.1 f.2
+pub first_idle : (place : ℕ → Pos) (source : Source) (w : List Word) → IsBurstStream source w → MatchOption (first_of (sent_heads place w)) (Unit {0}) (λ a. has_burst a.number ≡ false)
+first_idle place source w stream = let f = stream.warmup 0 (warm source) in first_head place w f.0 f.1 f.2

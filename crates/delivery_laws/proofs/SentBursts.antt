@@ -8,16 +8,16 @@ use Rattle.lk_base.specs.declared.word.Word.{Word}
 use Rattle.control_words.specs.declared.fields.Eop.{Eop}
 use Rattle.control_words.specs.declared.fields.Eop.TheVariants as eops
 use Rattle.receive_model.specs.Lists.{first_of}
-use Rattle.receive_model.specs.Positions.{placed_from}
+use Rattle.receive_model.specs.Positions.{placed_at}
 use Rattle.lk_base.specs.Fields.{has_sop}
 use Rattle.control_words.specs.ControlWord.{end_of}
 use Rattle.receive_model.specs.Stretches.{Headed, headed, between, Verified, last_word}
-use Rattle.receive_model.specs.Pieces.{Burst, Packet, add_burst, is_on, next_data}
+use Rattle.receive_model.specs.Pieces.{Burst, Packet, add_burst, is_of_channel, next_data}
 use Rattle.delivery_laws.specs.Law.{as_sent}
 
 -- the control words that were sent, each with the data words after it
-abbrev pub sent_heads : List Word → List Headed
-sent_heads w = headed (placed_from 0 (map as_sent w))
+abbrev pub sent_heads : (ℕ → Pos) → List Word → List Headed
+sent_heads place w = headed (placed_at place 0 (map as_sent w))
 
 -- the control word that comes next
 abbrev pub word_after : Headed → List Headed → Option Verified
@@ -30,8 +30,8 @@ head_bursts [] = []
 head_bursts (a ∷ rest) = add_burst a.at a.number (word_after a rest) (head_bursts rest)
 
 -- the bursts of one channel, in order of slot
-abbrev pub sent_bursts : ℕ → List Word → List Burst
-sent_bursts channel w = filter (is_on channel) (head_bursts (sent_heads w))
+abbrev pub sent_bursts : (ℕ → Pos) → ℕ → List Word → List Burst
+sent_bursts place channel w = filter (is_of_channel channel) (head_bursts (sent_heads place w))
 
 -- bytes cut into chunks of `most` bytes and one last chunk; there are at most `count` of them
 abbrev pub cut : ℕ → ℕ → Bool → List ℕ → List Chunk

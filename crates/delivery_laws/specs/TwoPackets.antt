@@ -57,7 +57,7 @@ damaged = map as_sent (take 11 stream) ++ received.Data 0xc000000000000000 ∷ m
 
 pub record TwoPacketsArrive : Type 0 where
   -- both are sent
-  pub sent : sent_from 64 stream (first_bytes ∷ second_bytes ∷ []) (burst_slots 0 0 stream) ≡ first_packet ∷ second_packet ∷ []
+  pub sent : sent_from numbered 64 stream (first_bytes ∷ second_bytes ∷ []) (burst_slots 0 0 stream) ≡ first_packet ∷ second_packet ∷ []
   -- and delivered, where all words come as they were sent
   pub arrives : delivered 0 (word_events one_channel (map as_sent stream)) ≡ first_packet ∷ second_packet ∷ []
   -- where the words are damaged, the first meets a span

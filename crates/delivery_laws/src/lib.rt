@@ -3,4 +3,7 @@
 
 mod laws;
 
-pub use laws::{clean_words_law, epochs_law, held_law, outputs_law, two_packets_arrive, words_law};
+pub use laws::{
+    clean_words_law, epochs_law, group_places_rise, held_law, outputs_law, premises_are_met,
+    stream_law, two_packets_arrive, words_law,
+};

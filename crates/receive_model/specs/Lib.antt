@@ -4,7 +4,10 @@ pub mod Stretches
 pub mod Spans
 pub mod Pieces
 pub mod Events
+pub mod Outcomes
 pub mod Shown
-pub mod Parts
+pub mod StretchRows
 pub mod Rows
 pub mod EdgeCases
+pub mod PieceCases
+pub mod SpanCases

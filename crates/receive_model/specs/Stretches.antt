@@ -28,17 +28,17 @@ data_number (Data x) = Some x
 data_number (Control x) = None
 data_number Bad = None
 
--- a control word with the words after it, up to the next control word
+-- a control word with the words after it, up to the next control word and without it
 pub record Headed : Type 0 where
   pub at : Pos
   pub number : ℕ
   pub following : List Placed
 
--- q does not begin a new part: it is no control word
-abbrev pub stays : Placed → Placed → Bool
-stays p q = not (is_control q.word)
+-- q is no control word, so it belongs to what p belongs to
+abbrev pub is_no_control : Placed → Placed → Bool
+is_no_control p q = not (is_control q.word)
 
--- a control word with the words after it; none where the part begins with another word
+-- a control word with the words after it; none where these words begin with another word
 abbrev pub head_from : Pos → RxWord → List Placed → Option Headed
 head_from at (Data x) rest = None
 head_from at (Control x) rest = Some (record { at = at; number = x; following = rest })
@@ -48,11 +48,11 @@ abbrev pub head_of : List Placed → Option Headed
 head_of [] = None
 head_of (p ∷ rest) = head_from p.at p.word rest
 
--- the words cut before each control word: the control words, each with the words after it up to the next
+-- the words cut before each control word: the control words, each with the words after it, up to the next and without it
 abbrev pub headed : List Placed → List Headed
-headed words = filter_map head_of (parts_by stays words)
+headed words = filter_map head_of (parts_by is_no_control words)
 
--- the words after a control word up to the next one
+-- the words after a control word, up to and including the next
 pub record Stretch : Type 0 where
   -- the control word before it
   pub opened_at : Pos
@@ -90,7 +90,7 @@ abbrev pub has_some : List ℕ → Bool
 has_some [] = false
 has_some (x ∷ rest) = true
 
--- the last word is not accepted; or data stand behind a word that is no accepted burst word; or a packet ends behind no data
+-- the last word is not accepted; or data stand behind a word that is no accepted burst word; or it has an end format without data before it
 abbrev pub breaks_protocol : ℕ → List ℕ → ℕ → Bool
 breaks_protocol before words last =
     not (is_control_word last)
@@ -110,11 +110,11 @@ fault_of s = fault_from (any_bad s.inner) s.opened_by (data_of s) s.closed_by
 
 -- what the words of the epochs show, in order: a stretch, or the end of an epoch
 pub data Item : Type 0 where
-  Part : Stretch → Item
+  OfStretch : Stretch → Item
   Break : Pos → Why → Item
 
 abbrev pub items_of_epoch : Epoch → List Item
-items_of_epoch e = map Part (stretches e.words) ++ Break e.ended_at e.ended_by ∷ []
+items_of_epoch e = map OfStretch (stretches e.words) ++ Break e.ended_at e.ended_by ∷ []
 
 -- the stretches and breaks of all epochs
 abbrev pub items_of : List Epoch → List Item
@@ -122,12 +122,12 @@ items_of epochs = flat_map items_of_epoch epochs
 
 -- the fault of a stretch, or the break's cause
 abbrev pub item_fault : Item → Option Why
-item_fault (Part s) = fault_of s
+item_fault (OfStretch s) = fault_of s
 item_fault (Break at why) = Some why
 
 -- the place of its last word, or of the break
 abbrev pub item_place : Item → Pos
-item_place (Part s) = s.closed_at
+item_place (OfStretch s) = s.closed_at
 item_place (Break at why) = at
 
 -- a verified control word: it ends a passing stretch
@@ -145,10 +145,11 @@ last_word s = record { at = s.closed_at; number = s.closed_by; data_before = dat
 abbrev pub passes : Stretch → Bool
 passes s = is_none (fault_of s)
 
-abbrev pub passing_part : Item → Option Verified
-passing_part (Part s) = cond (passes s) (Some (last_word s)) None
-passing_part (Break at why) = None
+-- the verified word that the item ends in, where it is a passing stretch
+abbrev pub passing_word : Item → Option Verified
+passing_word (OfStretch s) = cond (passes s) (Some (last_word s)) None
+passing_word (Break at why) = None
 
 -- the verified control words, in order
 abbrev pub verified : List Item → List Verified
-verified items = filter_map passing_part items
+verified items = filter_map passing_word items
