@@ -1,7 +1,6 @@
 -- A fault with its line, as what the work came to.
 use Rattle.std.proofs.Common.{◌≡◌, ℕ, List, sym, subst, Option, Some, None, IfSome, Err, inl, inr}
 use Rattle.interlaken.specs.declared.Status.{Status}
-use Rattle.interlaken.specs.declared.Status.TheVariants.{OutOfMemory}
 use Rattle.interlaken.specs.declared.fault.Fault.{Fault}
 use Rattle.interlaken.specs.declared.top.Ending.{Ending}
 use Rattle.lk_outside.specs.Files.{Files}

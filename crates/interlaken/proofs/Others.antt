@@ -1,7 +1,7 @@
 -- That the files which a command does not create are as they were.
-use Rattle.std.proofs.Common.{◌≡◌, ℕ, List, [], refl, sym, ◌∙◌, subst, Option, Some, None, MatchOption, Result, Ok, Err}
+use Rattle.std.proofs.Common.{◌≡◌, ℕ, List, [], refl, sym, ◌∙◌, subst, Option, Some, MatchOption, Ok, Err}
 use Rattle.interlaken.specs.declared.fault.Fault.{Fault}
-use Rattle.lk_outside.specs.Files.{Files, file, Told, Sets}
+use Rattle.lk_outside.specs.Files.{Files, Told, Sets}
 use Rattle.interlaken.specs.Words.{Asked, asked}
 use Rattle.interlaken.specs.Faults.{MadeBy, AppendedBy}
 use Rattle.interlaken.specs.Burst.{IsCreatedBy, IsCreated, LeavesOthers}

@@ -10,7 +10,7 @@ use Rattle.burst_maker.specs.OneChannel.{one_channel_source}
 use Rattle.lk_outside.specs.Files.{Files, file}
 use Rattle.interlaken.specs.Outcome.{Output, Outcome}
 use Rattle.interlaken.specs.Words.{Asked, burst, asked}
-use Rattle.interlaken.specs.Burst.{input_refused, misused, capture_limit, IsStatusOf, IsBurst, HasBurst, BurstOf, AnswerOf, OutcomeOf}
+use Rattle.interlaken.specs.Burst.{input_refused, misused, capture_limit, IsStatusOf, HasBurst, BurstOf, AnswerOf, OutcomeOf}
 use Rattle.interlaken.proofs.Stops.{burst_is}
 
 same_parts : (o p : Outcome) → o.status ≡ p.status → o.files ≡ p.files → o.text ≡ p.text → o ≡ p

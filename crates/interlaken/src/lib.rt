@@ -16,7 +16,7 @@ mod texts;
 mod top;
 mod words;
 
-pub use law::{one_outcome, steps_go_on};
+pub use law::{accepted_words, one_outcome, steps_go_on};
 pub use top::{number, run};
 
 /// What a run came to.

@@ -1,4 +1,4 @@
-use Rattle.std.proofs.Common.{map, refl, sym, ◌∙◌}
+use Rattle.std.proofs.Common.{refl, ◌∙◌}
 use Rattle.std.proofs.lemmas.Result.{err_from_is_err_and}
 use Rattle.interlaken.proofs.Stops.{create_stops, making_stops, append_stops_burst, burst_done, untouched}
 use Rattle.interlaken.proofs.Founds.{burst_found}
