@@ -1,0 +1,11 @@
+//! The calendar of flow control: which channels the far end turned off, and what this end tells of its own.
+#![tactic(auto)]
+
+mod incoming;
+mod outgoing;
+
+pub use incoming::CalendarIn;
+pub use outgoing::CalendarOut;
+
+#[cfg(test)]
+mod tests;

@@ -1,0 +1,93 @@
+ghost use Rattle.std.specs.Prelude.{◌≡◌, ◌↔◌, ℕ, ◌+◌, ◌-◌, ◌<◌, ◌≤◌, ◌==◌, List, [], ◌∷◌, ◌++◌, length, true, All, IfOk, if◌then◌else◌};
+ghost use Rattle.std.specs.Int.{bit_at};
+
+use lk_base::OutOfMemory;
+use std::alloc::Global;
+
+/// What this end tells of its own channels in its control words.
+#[derive(Drop)]
+pub struct CalendarOut {
+    entries: Vec<u16>,
+    // The first entry of the next control word.
+    first: usize,
+    // The state of each channel by its number.
+    on: Vec<bool>,
+}
+
+// 1 for true.
+fn one_if(b: bool) -> u16
+    ensures { result ≡ (if b then 1 else 0) }
+{
+    b as u16
+}
+
+impl CalendarOut {
+    ghost use Rattle.std.specs.Prelude.{◌≡◌, ◌↔◌, ℕ, ◌+◌, ◌-◌, ◌<◌, ◌≤◌, ◌==◌, List, [], ◌∷◌, ◌++◌, length, true, All, IfOk};
+    ghost use Rattle.std.specs.Int.{bit_at};
+    ghost use Rattle.stream_model.specs.Calendar.{first_entry, calendar_bit};
+    ghost use Rattle.stream_model.specs.declared.rows.LocalRow.{LocalRow};
+    ghost use Rattle.calendar.specs.Outgoing.{StandsOut};
+
+    /// All channels are on, and the next control word is the first.
+    pub fn make(alloc: Global, entries: &[u16]) -> Result<CalendarOut, OutOfMemory>
+        requires low { 1 ≤ length entries.now }
+        requires high { length entries.now ≤ 1024 }
+        ensures { IfOk result (λ calendar. StandsOut calendar entries.now [] 0) }
+    {
+        let mut on = Vec::new(alloc);
+        for _channel in 0..65536usize {
+            if on.push(true).is_err() {
+                return Err(OutOfMemory);
+            }
+        }
+        let mut own = Vec::new(alloc);
+        if own.extend_from_slice(entries).is_err() {
+            return Err(OutOfMemory);
+        }
+        Ok(CalendarOut {
+            entries: own,
+            first: 0,
+            on,
+        })
+    }
+
+    /// A channel of this end is on or off from the next control word on.
+    pub fn set(&mut self, channel: u16, on: bool)
+        requires stands { (entries : List ℕ) × (local : List LocalRow) × (j : ℕ) × StandsOut self.old entries local j }
+        ensures { (entries : List ℕ) (local : List LocalRow) (j slot : ℕ) → StandsOut self.old entries local j → StandsOut self.new entries (local ++ record { slot = slot; channel = channel; on = on } ∷ []) j }
+    {
+        self.on[channel as usize] = on;
+    }
+
+    // What the next control word tells at a place.
+    fn bit(&self, place: usize) -> bool
+        requires stands { (entries : List ℕ) × (local : List LocalRow) × (j : ℕ) × StandsOut self.now entries local j }
+        requires place { place < 16 }
+        ensures { (entries : List ℕ) (local : List LocalRow) (j t : ℕ) → StandsOut self.now entries local j → All (λ (row : LocalRow). row.slot ≤ t) local → result ≡ calendar_bit entries local j t place }
+    {
+        let n = self.first + place;
+        if n < self.entries.len() {
+            let channel = self.entries[n];
+            self.on[channel as usize]
+        } else {
+            true
+        }
+    }
+
+    /// The reset bit and the flow bits of the next control word.
+    pub fn next(&mut self) -> (bool, u16)
+        requires stands { (entries : List ℕ) × (local : List LocalRow) × (j : ℕ) × StandsOut self.old entries local j }
+        ensures reset { (entries : List ℕ) (local : List LocalRow) (j : ℕ) → StandsOut self.old entries local j → (result.0 ≡ true) ↔ (first_entry entries j ≡ 0) }
+        ensures flow { (entries : List ℕ) (local : List LocalRow) (j t i : ℕ) → StandsOut self.old entries local j → All (λ (row : LocalRow). row.slot ≤ t) local → i < 16 → (bit_at result.1 (15 - i) == 1) ≡ calendar_bit entries local j t i }
+        ensures stands { (entries : List ℕ) (local : List LocalRow) (j : ℕ) → StandsOut self.old entries local j → StandsOut self.new entries local (j + 1) }
+    {
+        let reset = self.first == 0;
+        let mut flow: u16 = 0;
+        for i in 0..16usize {
+            flow = flow * 2 + one_if(self.bit(i));
+        }
+        let after = self.first + 16;
+        self.first = if after < self.entries.len() { after } else { 0 };
+        (reset, flow)
+    }
+}

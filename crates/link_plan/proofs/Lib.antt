@@ -1,0 +1,7 @@
+pub mod Hex
+pub mod Places
+pub mod Links
+pub mod Clashes
+pub mod Channels
+pub mod Whole
+pub mod TimedRows
