@@ -7,7 +7,7 @@ use Rattle.csv_rows.specs.declared.table.Times.TheVariants.{Once, UpTo, Distinct
 use Rattle.csv_rows.specs.declared.items.Item.{Item}
 
 -- the table: the name, the least number, the greatest and what it is a multiple of, or the longest text, how often the key
--- may stand, and its default
+-- may stand, and its default. No two channels have one number, so that at most 256 of them stand, below their count.
 unfoldable pub keys : List KeyRule
 keys =
     key_rule (codes "lanes") (Number 1 64 1) Once None ∷

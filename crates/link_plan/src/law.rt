@@ -12,7 +12,7 @@ pub fn plan_examples()
     ensures repeat { plan_of (pair (codes "lanes") (codes "1") ∷ pair (codes "lanes") (codes "2") ∷ []) ≡ Err (Repeat 2) }
     ensures missing { plan_of (pair (codes "lanes") (codes "1") ∷ []) ≡ Err (Missing key.Metaframe) }
     ensures empty { plan_of [] ≡ Err (Missing key.Lanes) }
-    ensures unknown { plan_of (pair (codes "schedule") (codes "s") ∷ []) ≡ Err (UnknownKey 1) }
+    ensures unknown { plan_of (pair (codes "lane") (codes "1") ∷ []) ≡ Err (UnknownKey 1) }
     ensures deskew { plan_of (pair (codes "deskew") (codes "16") ∷ short_plan) ≡ Err (Clash 1) }
     ensures half { plan_of (short_plan ++ pair (codes "deskew") (codes "15") ∷ pair (codes "burst_short") (codes "264") ∷ []) ≡ Err (Clash 7) }
     ensures entry { plan_of (short_plan ++ pair (codes "entry") (codes "3") ∷ pair (codes "entry") (codes "4") ∷ []) ≡ Err (Clash 7) }
