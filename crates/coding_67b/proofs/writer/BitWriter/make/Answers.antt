@@ -1,0 +1,6 @@
+-- No bit waits.
+use Rattle.coding_67b.proofs.Cut.{no_bits}
+use Rattle.coding_67b.proofs.writer.BitWriter.make.Goals as goal
+
+pub returns : goal.returns
+returns c = no_bits 0

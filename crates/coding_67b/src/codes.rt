@@ -1,0 +1,82 @@
+ghost use Rattle.std.specs.Prelude.{◌≡◌, ◌^◌, ◌<◌, ◌≤ℤ◌, ◌&&◌, ◌||◌, ◌↔◌, ◌⊎◌, ◌-ℤ◌, ◌+ℤ◌, if◌then◌else◌, pos, negsuc, int_le, int_lt};
+ghost use Rattle.lk_base.specs.declared.word.RxWord.TheVariants as received;
+ghost use Rattle.lk_base.specs.Words.{payload as payload_of};
+ghost use Rattle.lane_model.specs.Coding.{code_of, header_in, is_inverted, weight, word_of_code, next_disparity};
+
+use lk_base::{RxWord, Word};
+
+/// The word that a code of 67 bits means: the word whose header it has, with the payload complemented where bit 66 is 1.
+/// It is Bad exactly where the header, bits 65:64, is 00 or 11.
+#[tactic(auto, unfolding(lane_model::specs::Coding::word_of_code))]
+pub fn decode(code: u128) -> RxWord
+    requires { code < 2 ^ 67 }
+    ensures value { result ≡ word_of_code code }
+    ensures bad { (result ≡ received.Bad) ↔ ((header_in code ≡ 0) ⊎ (header_in code ≡ 3)) }
+{
+    let low = (code & u64::MAX as u128) as u64;
+    let payload = if code >> 66 == 1 { !low } else { low };
+    match code >> 64 & 3 {
+        1 => RxWord::Data(payload),
+        2 => RxWord::Control(payload),
+        _ => RxWord::Bad,
+    }
+}
+
+/// The number that a word carries.
+pub fn payload(word: Word) -> u64
+    ensures { result ≡ payload_of word }
+{
+    match word {
+        Word::Data(x) => x,
+        Word::Control(x) => x,
+    }
+}
+
+/// The ones less the zeros in a payload and one further zero bit.
+pub fn weight_of(payload: u64) -> i32
+    ensures value { result ≡ weight payload }
+    ensures low { negsuc 64 ≤ℤ result }
+    ensures high { result ≤ℤ pos 63 }
+{
+    2 * payload.count_ones() as i32 - 65
+}
+
+/// Whether a word of this weight is sent inverted at this disparity.
+pub fn inverts(disparity: i32, weight: i32) -> bool
+    ensures { result ≡ ((int_le (pos 0) disparity && int_lt (pos 0) weight) || (int_lt disparity (pos 0) && int_lt weight (pos 0))) }
+{
+    disparity >= 0 && weight > 0 || disparity < 0 && weight < 0
+}
+
+/// The code of a word, inverted or plain.
+#[tactic(auto, unfolding(lane_model::specs::Coding::code_of))]
+pub fn code(inverted: bool, word: Word) -> u128
+    ensures value { result ≡ code_of inverted word }
+    ensures below { result < 2 ^ 67 }
+{
+    let header: u128 = match word {
+        Word::Data(_) => 1,
+        Word::Control(_) => 2,
+    };
+    let payload = payload(word);
+    if inverted {
+        (4 | header) << 64 | !payload as u128
+    } else {
+        header << 64 | payload as u128
+    }
+}
+
+/// The disparity behind a word of this weight, sent inverted or plain.
+pub fn disparity_after(disparity: i32, weight: i32, inverted: bool) -> i32
+    requires disparity_low { negsuc 64 ≤ℤ disparity }
+    requires disparity_high { disparity ≤ℤ pos 64 }
+    requires weight_low { negsuc 64 ≤ℤ weight }
+    requires weight_high { weight ≤ℤ pos 63 }
+    ensures { result ≡ (if inverted then disparity -ℤ weight else disparity +ℤ weight) }
+{
+    if inverted {
+        disparity - weight
+    } else {
+        disparity + weight
+    }
+}

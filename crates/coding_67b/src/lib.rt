@@ -1,0 +1,15 @@
+//! Codes of 67 bits both ways, and the bits of a lane as bytes both ways.
+#![tactic(auto)]
+
+mod codes;
+mod encoder;
+mod reader;
+mod writer;
+
+pub use codes::decode;
+pub use encoder::Encoder;
+pub use reader::BitReader;
+pub use writer::BitWriter;
+
+#[cfg(test)]
+mod tests;

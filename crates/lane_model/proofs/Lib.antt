@@ -1,0 +1,9 @@
+pub mod Numbers
+pub mod Keys
+pub mod KeyHolds
+pub mod Codes
+pub mod Disparities
+pub mod CodesOfWords
+pub mod FilesHold
+pub mod ExamplesHold
+pub mod StripingHolds

@@ -1,0 +1,13 @@
+pub mod Bits
+pub mod Framing
+pub mod Key
+pub mod LaneWords
+pub mod Coding
+pub mod Striping
+pub mod LaneBits
+pub mod Damage
+pub mod KeyLaw
+pub mod CodingLaw
+pub mod FileLaw
+pub mod Examples
+pub mod StripingLaw

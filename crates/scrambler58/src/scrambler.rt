@@ -1,0 +1,56 @@
+ghost use Rattle.std.specs.Prelude.{◌≡◌, ℕ, ◌+◌, ◌^◌, ◌<◌, ◌≤◌, Bool, List, length, bit_xor};
+ghost use Rattle.lane_model.specs.Key.{start_of, state_before, key_word};
+
+use crate::strides::{moved, next_bits};
+use std::marker::Model;
+
+/// The key of a lane at the word that comes next: its state, which is the last 58 key bits, the latest in bit 0.
+#[derive(Clone, Copy, Debug, PartialEq, Eq)]
+pub struct Scrambler {
+    state: u64,
+}
+
+impl Model for Scrambler {
+    ghost use Rattle.std.specs.Prelude.{ℕ, ◌^◌, ◌<◌};
+
+    ghost Value = { ℕ };
+
+    ghost view = { λ s. s.state };
+
+    ghost invariant = { λ s. s.state < 2 ^ 58 };
+
+    ghost inverse = { λ n. record { state = n } };
+}
+
+impl Scrambler {
+    /// The key from a state on. The state has 58 bits.
+    pub fn load(state: u64) -> Scrambler
+        requires { state < 2 ^ 58 }
+        ensures { result ≡ state }
+    {
+        Scrambler { state }
+    }
+
+    /// The payload xored with the next 64 key bits, the first of them with bit 63. The state moves by these bits; so
+    /// where it was that before word number j of a key, it is that before the next word of the same key.
+    pub fn apply(&mut self, payload: u64) -> u64
+        ensures value { result ≡ bit_xor payload (key_word (start_of self.old) 0) }
+        ensures state { self.new ≡ state_before (start_of self.old) 1 }
+        ensures key { (start : List Bool) (j : ℕ) → 58 ≤ length start → self.old ≡ state_before start j → (result ≡ bit_xor payload (key_word start j)) × (self.new ≡ state_before start (j + 1)) }
+    {
+        let first = next_bits(self.state, 39);
+        let middle = moved(self.state, first, 39);
+        let second = next_bits(middle, 25);
+        let last = moved(middle, second, 25);
+        self.state = last;
+        payload ^ (first << 25 | second)
+    }
+
+    /// The state: below 2^58.
+    pub fn state(&self) -> u64
+        ensures value { result ≡ self.now }
+        ensures bound { result < 2 ^ 58 }
+    {
+        self.state
+    }
+}
