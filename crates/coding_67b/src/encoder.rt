@@ -1,6 +1,6 @@
 ghost use Rattle.std.specs.Prelude.{◌≡◌, List, [], ◌∷◌, ◌++◌, ◌^◌, ◌<◌, ℕ, ◌≤ℤ◌, pos, negsuc};
-ghost use Rattle.lk_base.specs.Words.{payload as payload_of};
-ghost use Rattle.lane_model.specs.Coding.{as_sent, code_behind, code_of, disparity, is_inverted, next_disparity, word_of_code};
+ghost use Rattle.lk_base.specs.Words.{payload as payload_of, as_sent};
+ghost use Rattle.lane_model.specs.Coding.{code_behind, code_of, disparity, is_inverted, next_disparity, word_of_code};
 
 use crate::codes::{code, disparity_after, inverts, payload, weight_of};
 use lk_base::Word;

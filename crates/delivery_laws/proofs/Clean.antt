@@ -4,7 +4,7 @@ use Rattle.std.specs.Option.{option_map_or}
 use Rattle.std.proofs.lemmas.Bool.{false_from_ne_true, cases_lt}
 use Rattle.std.proofs.lemmas.List.{length_push, length-take-le}
 use Rattle.std.proofs.Math.Seq.{take-append_seam}
-use Rattle.lk_base.specs.Words.{block, is_data, word_at}
+use Rattle.lk_base.specs.Words.{block, is_data, word_at, as_sent}
 use Rattle.lk_base.specs.Fields.{burst_field, eop_field, channel_field, crc_field, has_burst, has_end, is_control_word}
 use Rattle.lk_base.specs.Checksum.{control_crc}
 use Rattle.stream_model.specs.BurstStream.{Source, Chunk, is_burst, packets_of, chunks_of, chunks_of_packet, data_words, data_since, end_format, format_after, parts, StandsInBurst, IsRightControl, IsBurstStream}
@@ -23,7 +23,7 @@ use Rattle.delivery_laws.proofs.Delivered.{shows_the_sent}
 use Rattle.receive_model.specs.Events.{words_epoch}
 use Rattle.delivery_laws.proofs.Outputs.{word_events-packets}
 use Rattle.delivery_laws.proofs.InAFile.{numbered_rise}
-use Rattle.delivery_laws.specs.Law.{as_sent, sent_stretches, word_items}
+use Rattle.delivery_laws.specs.Law.{sent_stretches, word_items}
 use Rattle.delivery_laws.specs.LawOnWords.{EachIsPacket}
 use Rattle.receive_model.proofs.Cuts.{split, same}
 use Rattle.delivery_laws.proofs.SentBursts.{cut, EachFits}

@@ -11,7 +11,8 @@ use Rattle.receive_model.specs.Stretches.{Headed, headed, between, Stretch, stre
 use Rattle.receive_model.specs.Events.{words_epoch}
 use Rattle.receive_model.proofs.Order.{same-from, before_from, before-trans, before-irrefl}
 use Rattle.receive_model.proofs.Epochs.{HeadsIn, HeadsFrom, heads-from}
-use Rattle.delivery_laws.specs.Law.{as_sent, sent_stretches, sent_stretches_at, SlotPlacesRise, PassingIsSent}
+use Rattle.delivery_laws.specs.Law.{sent_stretches, sent_stretches_at, SlotPlacesRise, PassingIsSent}
+use Rattle.lk_base.specs.Words.{as_sent}
 use Rattle.delivery_laws.specs.LawOnEpochs.{InARow, PassingAreSent, FollowAsSlots}
 use Rattle.delivery_laws.proofs.Openings.{open_alike}
 

@@ -2,8 +2,8 @@
 use Rattle.std.proofs.Common.{ℕ, ◌≡◌, refl, ◌+◌, ◌*◌, ◌/◌, ◌%◌, ◌^◌, ◌<◌, Bool, true, false, arith}
 use Rattle.lk_base.specs.declared.word.Word.{Word}
 use Rattle.lk_base.specs.declared.word.Word.TheVariants.{Data, Control}
-use Rattle.lk_base.specs.Words.{payload}
-use Rattle.lane_model.specs.Coding.{header_for, code_of, word_of_code, is_legal, header_in, payload_in, inverse_of, as_sent}
+use Rattle.lk_base.specs.Words.{payload, as_sent}
+use Rattle.lane_model.specs.Coding.{header_for, code_of, word_of_code, is_legal, header_in, payload_in, inverse_of}
 use Rattle.lane_model.specs.CodingLaw.{CodesMeanTheirWords}
 
 -- the parts of a code

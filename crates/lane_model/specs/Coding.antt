@@ -73,8 +73,3 @@ word_of_code code =
     if header_in code == 1 then received.Data (payload_in code) else
     if header_in code == 2 then received.Control (payload_in code) else
     received.Bad
-
--- a sent word, received as it was sent
-abbrev pub as_sent : Word → RxWord
-as_sent (Data x) = received.Data x
-as_sent (Control x) = received.Control x

@@ -1,8 +1,8 @@
 -- The laws on codes.
 use Rattle.std.specs.Prelude.{ℕ, ◌≡◌, ◌<◌, ◌^◌, Bool, List, [], ◌∷◌, ◌++◌, length, take, get_or, ℤ, pos, negsuc, ◌≤ℤ◌}
 use Rattle.lk_base.specs.declared.word.Word.{Word}
-use Rattle.lk_base.specs.Words.{payload}
-use Rattle.lane_model.specs.Coding.{code_of, code_behind, codes_of, disparity, next_disparity, word_of_code, as_sent}
+use Rattle.lk_base.specs.Words.{payload, as_sent}
+use Rattle.lane_model.specs.Coding.{code_of, code_behind, codes_of, disparity, next_disparity, word_of_code}
 
 -- each code is that of its word behind the codes before
 pub record AreCodes (words : List Word) (codes : List ℕ) : Type 0 where

@@ -3,8 +3,8 @@ use Rattle.std.proofs.Common.{◌≡◌, ℕ, sym, ap, ◌∙◌, ◌<◌, ◌^�
 use Rattle.std.proofs.lemmas.Int.{ints}
 use Rattle.std.specs.Prelude.{ℤ, pos, negsuc, ◌+ℤ◌, ◌-ℤ◌, ◌≤ℤ◌, ◌&&◌, ◌||◌, int_le, int_lt}
 use Rattle.lk_base.specs.declared.word.Word.{Word}
-use Rattle.lk_base.specs.Words.{payload as payload_of}
-use Rattle.lane_model.specs.Coding.{as_sent, code_behind, code_of, disparity, is_inverted, next_disparity, weight, word_of_code}
+use Rattle.lk_base.specs.Words.{payload as payload_of, as_sent}
+use Rattle.lane_model.specs.Coding.{code_behind, code_of, disparity, is_inverted, next_disparity, weight, word_of_code}
 use Rattle.lane_model.proofs.Codes.{word-code_of}
 use Rattle.lane_model.proofs.Disparities.{bounds, disparity_runs}
 use Rattle.coding_67b.proofs.encoder.Encoder.encode.Goals as goal
