@@ -5,3 +5,4 @@ pub mod Clashes
 pub mod Channels
 pub mod Whole
 pub mod TimedRows
+pub mod InOrder
