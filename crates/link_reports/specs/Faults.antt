@@ -2,8 +2,11 @@
 use Rattle.std.specs.Prelude.{ℕ, List, ◌++◌}
 use lib.Chars.{codes}
 use Rattle.pcap_files.specs.Texts.{refusal_text}
+use Rattle.words_files.specs.Texts.{words_refusal_text}
+use Rattle.link_plan.specs.Texts.{refusal_text as rows_text}
+use Rattle.link_plan.specs.declared.error.PlanError.{PlanError}
 use Rattle.link_reports.specs.declared.faults.InputError.{InputError}
-use Rattle.link_reports.specs.declared.faults.InputError.TheVariants.{NoFile, TooLarge, Pcap}
+use Rattle.link_reports.specs.declared.faults.InputError.TheVariants.{NoFile, TooLarge, Pcap, Words, Rows}
 use Rattle.link_reports.specs.Lines.{line_end}
 
 -- the name of the cause
@@ -11,6 +14,8 @@ abbrev pub why_text : InputError → List ℕ
 why_text NoFile = codes "no file"
 why_text TooLarge = codes "too large"
 why_text (Pcap refusal) = refusal_text refusal
+why_text (Words refusal) = words_refusal_text refusal
+why_text (Rows refusal) = rows_text refusal
 
 abbrev pub usage_line : List ℕ
 usage_line = codes "usage: interlaken burst|join|send|receive|link FILE, or interlaken generate NUMBER PREFIX" ++ line_end
@@ -20,6 +25,9 @@ refused_line name why = codes "input refused: " ++ (name ++ (codes ": " ++ (why 
 
 abbrev pub input_line : List ℕ → InputError → List ℕ
 input_line name why = refused_line name (why_text why)
+
+abbrev pub plan_line : PlanError → List ℕ
+plan_line why = codes "plan refused: " ++ (rows_text why ++ line_end)
 
 abbrev pub store_line : List ℕ → List ℕ
 store_line name = codes "store fault: " ++ (name ++ line_end)

@@ -1,11 +1,13 @@
 ghost use Rattle.std.specs.Prelude.{◌≡◌, ◌++◌, OnOk, OnErr, IfOk, string_bytes};
-ghost use Rattle.link_reports.specs.Faults.{usage_line, input_line, store_line, memory_line};
+ghost use Rattle.link_reports.specs.Faults.{usage_line, input_line, plan_line, store_line, memory_line};
 
 use crate::lines::put;
+use link_plan::PlanError;
 use lk_base::OutOfMemory;
 use pcap_files::PcapError;
 use std::alloc::{AllocError, Global};
 use std::fmt;
+use words_files::WordsError;
 
 /// Why an input is refused.
 #[derive(Clone, Copy, Debug, PartialEq, Eq)]
@@ -16,6 +18,10 @@ pub enum InputError {
     TooLarge,
     /// The file is no capture, with the first refusal of its bytes.
     Pcap(PcapError),
+    /// The file is no words file, with the refusal of its bytes.
+    Words(WordsError),
+    /// The rows of the file are not accepted, with the first refusal among them.
+    Rows(PlanError),
 }
 
 impl fmt::Display for InputError {
@@ -29,6 +35,8 @@ impl fmt::Display for InputError {
             InputError::NoFile => write!(f, "no file"),
             InputError::TooLarge => write!(f, "too large"),
             InputError::Pcap(refusal) => write!(f, "{refusal}"),
+            InputError::Words(refusal) => write!(f, "{refusal}"),
+            InputError::Rows(refusal) => write!(f, "{refusal}"),
         }
     }
 }
@@ -37,6 +45,12 @@ fn refused_text(alloc: Global, name: &str, why: &InputError) -> Result<String, A
     ensures { IfOk result (λ text. string_bytes text ≡ input_line name.now why.now) }
 {
     format!(in alloc; "input refused: {name}: {why}\n")
+}
+
+fn plan_text(alloc: Global, why: &PlanError) -> Result<String, AllocError>
+    ensures { IfOk result (λ text. string_bytes text ≡ plan_line why.now) }
+{
+    format!(in alloc; "plan refused: {why}\n")
 }
 
 fn store_text(alloc: Global, name: &str) -> Result<String, AllocError>
@@ -74,6 +88,17 @@ pub fn input_line(
     ensures err { OnErr result (out.new.items ≡ out.old.items) }
 {
     match refused_text(alloc, name, why) {
+        Ok(text) => put(out, text.as_bytes()),
+        Err(_) => Err(OutOfMemory),
+    }
+}
+
+/// Appends the line of a plan that is refused. `out` is as before where memory runs out.
+pub fn plan_line(alloc: Global, out: &mut Vec<u8>, why: &PlanError) -> Result<(), OutOfMemory>
+    ensures ok { OnOk result (out.new.items ≡ out.old.items ++ plan_line why.now) }
+    ensures err { OnErr result (out.new.items ≡ out.old.items) }
+{
+    match plan_text(alloc, why) {
         Ok(text) => put(out, text.as_bytes()),
         Err(_) => Err(OutOfMemory),
     }
