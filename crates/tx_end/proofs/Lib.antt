@@ -3,3 +3,13 @@ pub mod Loading
 pub mod Steps
 pub mod HeldOn
 pub mod Kept
+pub mod Counting
+pub mod LaneSteps
+pub mod LanePlaces
+pub mod LaneFiles
+pub mod Shapes
+pub mod Opening
+pub mod Slots
+pub mod Listing
+pub mod ListedSent
+pub mod SentExamplesHold

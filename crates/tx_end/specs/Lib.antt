@@ -1,2 +1,10 @@
 pub mod Sources
 pub mod Driving
+pub mod Counts
+pub mod Tallies
+pub mod Lanes
+pub mod Whole
+pub mod Sent
+pub mod Places
+pub mod SentLaw
+pub mod SentExamples

@@ -5,6 +5,8 @@ ghost use Rattle.lk_base.specs.declared.shape.Shape.{Shape};
 ghost use Rattle.stream_model.specs.BurstStream.{IsPacket, IsSource, longest_packet};
 ghost use Rattle.stream_model.specs.declared.rows.FlowRow.{FlowRow};
 ghost use Rattle.stream_model.specs.declared.rows.LocalRow.{LocalRow};
+ghost use Rattle.tx_end.specs.SentExamples.{CountExamples, SentExamples};
+ghost use Rattle.tx_end.specs.SentLaw.{ListsTheSent, OneList, StartsItsPackets};
 ghost use Rattle.tx_end.specs.Sources.{source_by};
 ghost use Rattle.tx_end.specs.declared.packet.Packet.{Packet};
 
@@ -17,4 +19,17 @@ pub fn arguments_are_source()
         All (λ packet. Contains channels packet.channel) packets → All (λ packet. IsPacket longest_packet packet.bytes.now) packets →
         IsNonDecreasing (map (λ row. row.slot) flow) → All (λ row. row.word < 2 ^ 64) flow → IsNonDecreasing (map (λ row. row.slot) local) →
         IsSource (source_by shape channels entries packets flow local) }
+{}
+
+/// A packet is listed with its end word exactly where it is sent, and a stream starts no packet but those of its source.
+pub fn listed_packets_are_sent()
+    ensures sent { ListsTheSent }
+    ensures few { StartsItsPackets }
+    ensures one { OneList }
+{}
+
+/// What is counted and listed of a few small streams.
+pub fn small_streams()
+    ensures counts { CountExamples }
+    ensures sent { SentExamples }
 {}
