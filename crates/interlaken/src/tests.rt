@@ -34,6 +34,9 @@ const BIG_NANO: [u8; 42] = [
     5, 6, 7, 8, 0, 0, 0, 2, 0, 0, 0, 9, 7, 8,
 ];
 
+const NOTHING_CAME: &[u8] = b"got channel=0 packets=0 bytes=0\nspans 1\n\
+    dropped bad=0 crc=0 protocol=0 lost=0 end=0 toolong=0 unlisted=0 sender=0\n";
+
 const USAGE: &[u8] =
     b"usage: interlaken burst|join|send|receive|link FILE, or interlaken generate NUMBER PREFIX\n";
 
@@ -51,6 +54,15 @@ fn store_of(alloc: Global, capture: &[u8]) -> Result<MemStore, OutOfMemory>
 {
     let mut store = MemStore::make(alloc);
     store.put("a.pcap", capture)?;
+    Ok(store)
+}
+
+// A store of one file, `a.pcap.words`.
+fn words_store(alloc: Global, file: &[u8]) -> Result<MemStore, OutOfMemory>
+    ensures { IfOk result (λ store. store.faults ≡ 0) }
+{
+    let mut store = MemStore::make(alloc);
+    store.put("a.pcap.words", file)?;
     Ok(store)
 }
 
@@ -159,14 +171,15 @@ fn an_absent_capture_is_told(rt: HostRuntime) -> Result<(), Fail> {
 #[test]
 fn words_that_are_not_accepted(rt: HostRuntime) -> Result<(), Fail> {
     let alloc = rt.alloc();
-    let cases: [&[&str]; 7] = [
+    let cases: [&[&str]; 8] = [
         &[],
         &["burst"],
         &["frob", "a.pcap"],
         &["burst", "a", "b"],
         &["burst", "-"],
         &["generate", "1x", "p"],
-        &["burst", "x.plan"],
+        &["join"],
+        &["receive", "x.plan"],
     ];
     for texts in cases {
         let words = words_of(alloc, texts)?;
@@ -175,6 +188,76 @@ fn words_that_are_not_accepted(rt: HostRuntime) -> Result<(), Fail> {
         assert_eq!(rt; run(alloc, &words, &mut store, &mut out), Status::Usage);
         assert_eq!(rt; out.written(), USAGE);
     }
+    Ok(())
+}
+
+#[test]
+fn refused_plans_are_told(rt: HostRuntime) -> Result<(), Fail> {
+    let alloc = rt.alloc();
+    let words = words_of(alloc, &["burst", "p.plan"])?;
+    let cases = [
+        ("lanes,0\n", "plan refused: row 1: range\n"),
+        ("lanes,1\nlanes,1\n", "plan refused: row 2: repeat\n"),
+        ("lanes,1\n", "plan refused: missing metaframe\n"),
+        (
+            "lanes,1\nmetaframe,32\ndeskew,16\nchannel,0\nout,o\n",
+            "plan refused: row 3: clash\n",
+        ),
+    ];
+    for (plan, line) in cases {
+        let mut store = MemStore::make(alloc);
+        store.put("p.plan", plan.as_bytes())?;
+        let mut out = MemSink::make(alloc);
+        assert_eq!(rt;
+            run(alloc, &words, &mut store, &mut out),
+            Status::PlanRefused
+        );
+        assert_eq!(rt; out.written(), line.as_bytes());
+    }
+    Ok(())
+}
+
+#[test]
+fn an_absent_plan_is_told(rt: HostRuntime) -> Result<(), Fail> {
+    let alloc = rt.alloc();
+    let words = words_of(alloc, &["burst", "p.plan"])?;
+    let mut store = MemStore::make(alloc);
+    let mut out = MemSink::make(alloc);
+    assert_eq!(rt;
+        run(alloc, &words, &mut store, &mut out),
+        Status::PlanRefused
+    );
+    assert_eq!(rt; out.written(), b"plan refused: no file\n".as_slice());
+    Ok(())
+}
+
+#[test]
+fn the_first_refused_input_of_a_plan_is_told(rt: HostRuntime) -> Result<(), Fail> {
+    let alloc = rt.alloc();
+    let words = words_of(alloc, &["burst", "p.plan"])?;
+    let plan = b"lanes,1\nmetaframe,32\nchannel,2\nchannel,1,a.pcap\nflow,f\nlocal,g\nout,o\n";
+    let mut store = MemStore::make(alloc);
+    store.put("p.plan", plan.as_slice())?;
+    store.put("f", b"0,80BFFFFF000000A9\n1,x\n".as_slice())?;
+    let mut out = MemSink::make(alloc);
+    assert_eq!(rt;
+        run(alloc, &words, &mut store, &mut out),
+        Status::InputRefused
+    );
+    assert_eq!(rt;
+        out.written(),
+        b"input refused: a.pcap: no file\n".as_slice()
+    );
+    store.put("a.pcap", HEADER.as_slice())?;
+    let mut told = MemSink::make(alloc);
+    assert_eq!(rt;
+        run(alloc, &words, &mut store, &mut told),
+        Status::InputRefused
+    );
+    assert_eq!(rt;
+        told.written(),
+        b"input refused: f: row 2: number\n".as_slice()
+    );
     Ok(())
 }
 
@@ -230,5 +313,136 @@ fn the_sink_fails_alone(rt: HostRuntime) -> Result<(), Fail> {
     out.fail(&[0])?;
     assert_eq!(rt; run(alloc, &words, &mut store, &mut out), Status::SinkFault);
     assert_eq!(rt; store.get("a.pcap.words"), Some(SIXTY.as_slice()));
+    Ok(())
+}
+
+#[test]
+fn the_packet_of_a_words_file(rt: HostRuntime) -> Result<(), Fail> {
+    let alloc = rt.alloc();
+    let words = words_of(alloc, &["join", "a.pcap.words"])?;
+    let mut store = words_store(alloc, &SIXTY)?;
+    let mut out = MemSink::make(alloc);
+    assert_eq!(rt; run(alloc, &words, &mut store, &mut out), Status::Done);
+    let text = b"got channel=0 packets=1 bytes=60\nspans 2\n\
+        dropped bad=0 crc=0 protocol=0 lost=0 end=0 toolong=0 unlisted=0 sender=0\n";
+    assert_eq!(rt; out.written(), text.as_slice());
+    let capture = store.get("a.pcap.words.0.pcap").unwrap_or(&[]);
+    assert_eq!(rt; capture.len(), 100);
+    assert_eq!(rt; capture.get(..24), Some(HEADER.as_slice()));
+    let head = [0, 0, 0, 0, 0, 0, 0, 0, 60, 0, 0, 0, 60, 0, 0, 0];
+    assert_eq!(rt; capture.get(24..40), Some(head.as_slice()));
+    let whole = sixty_bytes(alloc)?;
+    assert_eq!(rt; capture.get(40..), whole.get(40..));
+    let table =
+        b"after_group,after_index,before_group,before_index,why\n-,-,0,1,start\n0,11,-,-,end\n";
+    assert_eq!(rt; store.get("a.pcap.words.spans.csv"), Some(table.as_slice()));
+    assert_eq!(rt; store.get("a.pcap.words"), Some(SIXTY.as_slice()));
+    Ok(())
+}
+
+#[test]
+fn an_inverted_bit_and_a_bad_word(rt: HostRuntime) -> Result<(), Fail> {
+    let alloc = rt.alloc();
+    let words = words_of(alloc, &["join", "a.pcap.words"])?;
+    let mut inverted = SIXTY;
+    inverted[50] ^= 1;
+    let mut bad = SIXTY;
+    bad[45] = 3;
+    let cases = [
+        (
+            inverted.as_slice(),
+            b"got channel=0 packets=0 bytes=0\nspans 3\ndropped bad=0 crc=1 protocol=0 lost=0 end=0 toolong=0 unlisted=0 sender=0\n".as_slice(),
+            b"after_group,after_index,before_group,before_index,why\n-,-,0,1,start\n0,1,0,11,crc\n0,11,-,-,end\n".as_slice(),
+        ),
+        (
+            bad.as_slice(),
+            b"got channel=0 packets=0 bytes=0\nspans 3\ndropped bad=1 crc=0 protocol=0 lost=0 end=0 toolong=0 unlisted=0 sender=0\n".as_slice(),
+            b"after_group,after_index,before_group,before_index,why\n-,-,0,1,start\n0,1,0,11,bad\n0,11,-,-,end\n".as_slice(),
+        ),
+    ];
+    for (file, text, table) in cases {
+        let mut store = words_store(alloc, file)?;
+        let mut out = MemSink::make(alloc);
+        assert_eq!(rt; run(alloc, &words, &mut store, &mut out), Status::Done);
+        assert_eq!(rt; out.written(), text);
+        assert_eq!(rt; store.get("a.pcap.words.spans.csv"), Some(table));
+        assert_eq!(rt; store.get("a.pcap.words.0.pcap"), Some(HEADER.as_slice()));
+    }
+    Ok(())
+}
+
+#[test]
+fn an_empty_words_file(rt: HostRuntime) -> Result<(), Fail> {
+    let alloc = rt.alloc();
+    let words = words_of(alloc, &["join", "a.pcap.words"])?;
+    let mut store = words_store(alloc, &[])?;
+    let mut out = MemSink::make(alloc);
+    assert_eq!(rt; run(alloc, &words, &mut store, &mut out), Status::Done);
+    assert_eq!(rt; out.written(), NOTHING_CAME);
+    let table = b"after_group,after_index,before_group,before_index,why\n-,-,-,-,start\n";
+    assert_eq!(rt; store.get("a.pcap.words.spans.csv"), Some(table.as_slice()));
+    assert_eq!(rt; store.get("a.pcap.words.0.pcap"), Some(HEADER.as_slice()));
+    Ok(())
+}
+
+#[test]
+fn refused_words_files_are_told(rt: HostRuntime) -> Result<(), Fail> {
+    let alloc = rt.alloc();
+    let words = words_of(alloc, &["join", "a.pcap.words"])?;
+    let mut tagged = SIXTY;
+    tagged[0] = 7;
+    let cases = [
+        (&SIXTY[..107], "input refused: a.pcap.words: short at 99\n"),
+        (tagged.as_slice(), "input refused: a.pcap.words: tag at 0\n"),
+    ];
+    for (file, line) in cases {
+        let mut store = words_store(alloc, file)?;
+        let mut out = MemSink::make(alloc);
+        assert_eq!(rt;
+            run(alloc, &words, &mut store, &mut out),
+            Status::InputRefused
+        );
+        assert_eq!(rt; out.written(), line.as_bytes());
+        assert_eq!(rt; store.get("a.pcap.words.0.pcap"), None);
+        assert_eq!(rt; store.get("a.pcap.words.spans.csv"), None);
+    }
+    let mut absent = MemStore::make(alloc);
+    let mut out = MemSink::make(alloc);
+    assert_eq!(rt;
+        run(alloc, &words, &mut absent, &mut out),
+        Status::InputRefused
+    );
+    let line = b"input refused: a.pcap.words: no file\n";
+    assert_eq!(rt; out.written(), line.as_slice());
+    Ok(())
+}
+
+#[test]
+fn a_fault_leaves_prefixes_of_both_files(rt: HostRuntime) -> Result<(), Fail> {
+    let alloc = rt.alloc();
+    let words = words_of(alloc, &["join", "a.pcap.words"])?;
+    let mut store = words_store(alloc, &SIXTY)?;
+    store.fail(&[], &[], &[0])?;
+    let mut out = MemSink::make(alloc);
+    assert_eq!(rt;
+        run(alloc, &words, &mut store, &mut out),
+        Status::StoreFault
+    );
+    let line = b"store fault: a.pcap.words.0.pcap\n";
+    assert_eq!(rt; out.written(), line.as_slice());
+    let whole = sixty_bytes(alloc)?;
+    assert_eq!(rt; store.get("a.pcap.words.0.pcap"), whole.get(..50));
+    assert_eq!(rt; store.get("a.pcap.words.spans.csv"), Some([].as_slice()));
+    let mut alone = words_store(alloc, &SIXTY)?;
+    alone.fail(&[], &[1], &[])?;
+    let mut told = MemSink::make(alloc);
+    assert_eq!(rt;
+        run(alloc, &words, &mut alone, &mut told),
+        Status::StoreFault
+    );
+    let line = b"store fault: a.pcap.words.spans.csv\n";
+    assert_eq!(rt; told.written(), line.as_slice());
+    assert_eq!(rt; alone.get("a.pcap.words.0.pcap"), Some([].as_slice()));
+    assert_eq!(rt; alone.get("a.pcap.words.spans.csv"), None);
     Ok(())
 }

@@ -4,7 +4,7 @@ ghost use Rattle.lk_outside.specs.Files.{Told};
 ghost use Rattle.interlaken.specs.Words.{asked};
 ghost use Rattle.interlaken.specs.Asked.{asked_by};
 ghost use Rattle.interlaken.specs.Outcome.{Outcome, IsFault};
-ghost use Rattle.interlaken.specs.Burst.{OutcomeOf, AnswerOf, IsNamed, IsNamedBy, IsCreated, IsCreatedBy, LeavesOthers, IsInputRefused};
+ghost use Rattle.interlaken.specs.Burst.{OutcomeOf, AnswerOf, IsNamed, IsNamedBy, IsCreated, IsCreatedBy, LeavesOthers, IsPlanRefused, IsInputRefused, IsStreamHeld};
 ghost use Rattle.interlaken.specs.Faults.{FaultCount, fault_status, is_of_store, IsUsageFault};
 ghost use Rattle.interlaken.specs.Ended.{EndsBy, Found, FoundBy, held_status};
 ghost use Rattle.interlaken.specs.Run.{StoreCount, TellsStore, Ends, Says, Settles, Tells, IsAnswer, sink_failed};
@@ -15,6 +15,8 @@ use crate::Status;
 use crate::burst::burst;
 use crate::fault::Fault;
 use crate::finished::Finished;
+use crate::join::join;
+use crate::plan_tasks::obey_plan;
 use crate::texts::fault_line;
 use crate::words::{Command, command_of};
 use link_reports::memory_line;
@@ -58,6 +60,7 @@ fn status_of(fault: &Fault) -> Status
 {
     match fault {
         Fault::Usage => Status::Usage,
+        Fault::Plan(_) => Status::PlanRefused,
         Fault::Input(_, _) => Status::InputRefused,
         Fault::Store(_) => Status::StoreFault,
         Fault::StoreNoMemory | Fault::OutOfMemory => Status::OutOfMemory,
@@ -71,17 +74,19 @@ fn is_of_store(fault: &Fault) -> bool
 }
 
 // The work of a command: each has an arm here and a module of its own.
-fn obey<S: Store>(alloc: Global, command: Command<'_>, store: &mut S) -> Result<Finished, Fault>
+fn obey<S: Store>(alloc: Global, command: Command, store: &mut S) -> Result<Finished, Fault>
     requires { S.faults store.old < 2 ^ 60 }
     ensures cause { FaultCount result (S.faults store.old) (S.faults store.new) }
     ensures not_usage { IsUsageFault result → ⊥ }
-    ensures others { Told (S.files store.old) (S.files store.new) (LeavesOthers (IsCreatedBy (asked_by command.entry))) }
-    ensures found { IfSome (S.files store.old) (λ files. FoundBy (AnswerOf (asked_by command.entry) files) result) }
-    ensures ends { IfSome (S.files store.old) (λ files. (o : Outcome) → AnswerOf (asked_by command.entry) files o →
-        EndsBy o (IsNamedBy (asked_by command.entry)) result (S.files store.old) (S.files store.new)) }
+    ensures others { Told (S.files store.old) (S.files store.new) (LeavesOthers (IsCreatedBy (asked_by command))) }
+    ensures found { IfSome (S.files store.old) (λ files. FoundBy (AnswerOf (asked_by command) files) result) }
+    ensures ends { IfSome (S.files store.old) (λ files. (o : Outcome) → AnswerOf (asked_by command) files o →
+        EndsBy o (IsNamedBy (asked_by command) files) result (S.files store.old) (S.files store.new)) }
 {
     match command {
-        Command::Burst(name) => burst(alloc, store, name),
+        Command::Burst(name) => burst(alloc, store, name.as_str()),
+        Command::Join(name) => join(alloc, store, name.as_str()),
+        Command::Planned(task, name) => obey_plan(alloc, store, task, name.as_str()),
     }
 }
 
@@ -95,7 +100,7 @@ fn perform<S: Store>(alloc: Global, words: &[String], store: &mut S) -> Result<F
     ensures ends { IfSome (S.files store.old) (λ files. (o : Outcome) → OutcomeOf (map string_bytes words.now) files o →
         EndsBy o (IsNamed (map string_bytes words.now) files) result (S.files store.old) (S.files store.new)) }
 {
-    match command_of(words) {
+    match command_of(alloc, words)? {
         None => Err(Fault::Usage),
         Some(command) => obey(alloc, command, store),
     }
@@ -166,20 +171,36 @@ fn say<K: Sink>(status: Status, store_failed: bool, text: &[u8], out: &mut K) ->
 
 /// Does all that the program does: the work that the words ask for, and then its text, in one write.
 ///
-/// The words are those of the command line without the program's name. `run` reads them, reads the inputs whole, creates
-/// the outputs, does the work, appends the outputs, and gives the text to the sink.
+/// The words are those of the command line without the program's name. `run` reads them, reads the plan where one is
+/// wanted and the inputs whole, creates the outputs, does the work, appends the outputs, and gives the text to the sink.
 ///
-/// The status. `StoreFault` comes only where the store's count of faults rose, and `SinkFault` only where the sink's rose
-/// and the store's did not; where that is so, no other status comes. Every other status but `OutOfMemory` comes only where
-/// neither rose. One run raises each count by one at most, since it stops at a call of the store that failed, and writes
-/// once. `Usage` comes exactly where the words are not accepted. `InputRefused` comes exactly where the words are accepted
-/// and an input is absent, too large or refused. Accepted words with an input that is not refused give `Done`. Each
-/// "exactly" yields to `StoreFault`, `SinkFault` and `OutOfMemory`, and want of memory may come anywhere. `Held` and
-/// `PlanRefused` come from no command yet.
+/// `burst FILE` makes of a capture of at most 268,435,456 bytes the words file `FILE.words`: the one payload stream of the
+/// capture's packets on channel 0. Where FILE ends in `.plan` it is a plan: its captures, of at most 268,435,456 bytes
+/// together, become the words file `OUT.words`, by the rows of its flow and local files. Its text counts for each channel the
+/// sent packets, their bytes and the packets left, and then the slots; where bytes are left at the finish its last line
+/// names the least such channel. `send FILE` makes of the same inputs of a plan the lane files `OUT.lane.I`, one for each
+/// lane, with the same text.
+///
+/// `join FILE` makes of a words file of at most 1,073,741,824 bytes, as received, two files in this order: `FILE.0.pcap`, the
+/// capture of the packets that are delivered on channel 0, and `FILE.spans.csv`, the table of the fault spans. Where FILE
+/// ends in `.plan` it reads `OUT.words`, and makes `OUT.C.pcap` for each channel C of the plan by number, and
+/// `OUT.spans.csv`. Its text counts for each channel the packets and their bytes, then the spans, and the drops for each of
+/// the eight reasons. Damage is no refusal: where every word is damaged the captures have no packet, and the status is `Done`.
+///
+/// The status. `StoreFault` comes only where the store's count of faults rose; where it rose, the status is `StoreFault` or
+/// `OutOfMemory`. `SinkFault` comes exactly where the sink's count rose and the store's did not. Every other status but
+/// `OutOfMemory` comes only where neither rose. One run raises each count by one at most, since it stops at a call of the
+/// store that failed, and writes once. `Usage` comes exactly where the words are not accepted. `PlanRefused` comes exactly
+/// where the words want a plan that is absent, has more than 1,048,576 bytes, or is refused by its rows. `InputRefused` comes
+/// exactly where the words are accepted, the plan too where one is wanted, and an input is absent, too large or refused; the
+/// first is told, in the order of the plan's captures, its flow file and its local file. `Held` comes exactly where all inputs
+/// of a stream are accepted and bytes are left at its finish. Otherwise accepted words give `Done`. Each "exactly" yields to
+/// `StoreFault`, `SinkFault` and `OutOfMemory`, and want of memory may come anywhere.
 ///
 /// What stands. Words and files have one outcome at most: a status, files with their contents, and a text. Where the store
 /// tells its files, a status that is no fault is the outcome's, each of its files holds its content, and every other file is
-/// as it was. So with `Usage` and `InputRefused` no file is changed. After a fault some first of the outcome's files are
+/// as it was. So with `Usage`, `PlanRefused` and `InputRefused` no file is
+/// changed. After a fault some first of the outcome's files are
 /// there, each with a prefix of its content, and every other file is as it was. Where the counts did not rise, the status is
 /// the outcome's, or `OutOfMemory`.
 ///
@@ -206,12 +227,21 @@ pub fn run<S: Store, K: Sink>(alloc: Global, words: &[String], store: &mut S, ou
     ensures usage { result ≡ Status.Usage → IsNone (asked (map string_bytes words.now)) }
     ensures misused { IsNone (asked (map string_bytes words.now)) → (result ≡ Status.Usage) ⊎ IsFault result }
 
+    // A plan is refused exactly where one is wanted that is absent, too large or refused, but for faults.
+    ensures plan_refused { IfSome (S.files store.old) (λ files. result ≡ Status.PlanRefused → IsPlanRefused (map string_bytes words.now) files) }
+    ensures refused_plan { IfSome (S.files store.old) (λ files. IsPlanRefused (map string_bytes words.now) files → (result ≡ Status.PlanRefused) ⊎ IsFault result) }
+
     // An input is refused exactly where it is absent, too large or refused, but for faults.
     ensures input_refused { IfSome (S.files store.old) (λ files. result ≡ Status.InputRefused → IsInputRefused (map string_bytes words.now) files) }
     ensures refused_input { IfSome (S.files store.old) (λ files. IsInputRefused (map string_bytes words.now) files → (result ≡ Status.InputRefused) ⊎ IsFault result) }
 
-    // Accepted words with an input that is not refused are done, but for faults.
-    ensures accepted { IfSome (S.files store.old) (λ files. IsSome (asked (map string_bytes words.now)) → (IsInputRefused (map string_bytes words.now) files → ⊥) → (result ≡ Status.Done) ⊎ IsFault result) }
+    // A stream is held exactly where all inputs are accepted and bytes are left at its finish, but for faults.
+    ensures held { IfSome (S.files store.old) (λ files. result ≡ Status.Held → IsStreamHeld (map string_bytes words.now) files) }
+    ensures held_stream { IfSome (S.files store.old) (λ files. IsStreamHeld (map string_bytes words.now) files → (result ≡ Status.Held) ⊎ IsFault result) }
+
+    // Accepted words with inputs that are accepted, whose stream is not held, are done, but for faults.
+    ensures accepted { IfSome (S.files store.old) (λ files. IsSome (asked (map string_bytes words.now)) → (IsPlanRefused (map string_bytes words.now) files → ⊥) → (IsInputRefused (map string_bytes words.now) files → ⊥) →
+        (IsStreamHeld (map string_bytes words.now) files → ⊥) → (result ≡ Status.Done) ⊎ IsFault result) }
 
     // An answer is that of an outcome.
     ensures found { IfSome (S.files store.old) (λ files. IsAnswer result → Found (OutcomeOf (map string_bytes words.now) files) result) }
