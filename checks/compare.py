@@ -3,7 +3,8 @@
     python3 compare.py PROGRAM MODEL_FOLDER [SEED..]
 
 Each case is a folder of input files and a list of words. Both run in a copy of it. A case agrees where the status, the
-text and every file are the same.
+text and every file are the same. The captures of `burst` are made here; the cases with plans, words files and lanes are those
+of the model's own maker of random cases, malformed ones among them.
 """
 
 import os
@@ -14,7 +15,7 @@ import sys
 import tempfile
 
 # The stage of the model that has the commands that are built.
-STAGE = "4"
+STAGE = "5"
 
 
 def capture(packets, order="<", magic=0xA1B2C3D4, version=(2, 4)):
@@ -38,7 +39,7 @@ def random_capture(r):
     return data
 
 
-def burst_case(seed):
+def burst_case(model, seed):
     r = random.Random("burst %d" % seed)
     words = ["burst", "a.pcap"]
     files = {"a.pcap": random_capture(r)}
@@ -47,17 +48,46 @@ def burst_case(seed):
     return words, files
 
 
+def files_in(folder):
+    found = {}
+    for name in sorted(os.listdir(folder)):
+        with open(os.path.join(folder, name), "rb") as file:
+            found[name] = file.read()
+    return found
+
+
+def model_case(model, kind, seed):
+    """A case of the model's own maker: the words that it prints, and the files that it writes."""
+    with tempfile.TemporaryDirectory() as folder:
+        maker = os.path.join(model, "fuzzcase.py")
+        command = [sys.executable, "-B", maker, "--stage", STAGE, "--kind", kind, str(seed), folder]
+        done = subprocess.run(command, stdout=subprocess.PIPE, check=True)
+        return done.stdout.decode().split(), files_in(folder)
+
+
+def planned_case(model, seed):
+    return model_case(model, "burst", seed)
+
+
+def join_case(model, seed):
+    return model_case(model, "join", seed)
+
+
+def send_case(model, seed):
+    return model_case(model, "send", seed)
+
+
+# Which cases are made from which seeds.
+MAKERS = [(burst_case, range(20)), (planned_case, range(40)), (join_case, range(40)), (send_case, range(40))]
+
+
 def left_by(command, words, files):
     with tempfile.TemporaryDirectory() as folder:
         for name, data in files.items():
             with open(os.path.join(folder, name), "wb") as file:
                 file.write(data)
         done = subprocess.run(command + words, cwd=folder, stdout=subprocess.PIPE, stderr=subprocess.PIPE)
-        found = {}
-        for name in sorted(os.listdir(folder)):
-            with open(os.path.join(folder, name), "rb") as file:
-                found[name] = file.read()
-        return done.returncode, done.stdout, found
+        return done.returncode, done.stdout, files_in(folder)
 
 
 def differences(program, model, words, files):
@@ -75,15 +105,16 @@ def differences(program, model, words, files):
 
 def main():
     program, model = sys.argv[1], os.path.abspath(sys.argv[2])
-    seeds = [int(seed) for seed in sys.argv[3:]] or range(40)
+    wanted = [int(seed) for seed in sys.argv[3:]]
+    cases = [(maker, seed) for maker, seeds in MAKERS for seed in wanted or seeds]
     failed = 0
-    for seed in seeds:
-        words, files = burst_case(seed)
+    for maker, seed in cases:
+        words, files = maker(model, seed)
         told = differences(program, model, words, files)
         if told:
             failed += 1
             print("seed %d, %s: %s" % (seed, " ".join(words), "; ".join(told)))
-    print("compared with the model: %d passed, %d failed" % (len(seeds) - failed, failed))
+    print("compared with the model: %d passed, %d failed" % (len(cases) - failed, failed))
     return 1 if failed else 0
 
 
