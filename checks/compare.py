@@ -104,7 +104,7 @@ def differences(program, model, words, files):
 
 
 def main():
-    program, model = sys.argv[1], os.path.abspath(sys.argv[2])
+    program, model = (os.path.abspath(name) for name in sys.argv[1:3])
     wanted = [int(seed) for seed in sys.argv[3:]]
     cases = [(maker, seed) for maker, seeds in MAKERS for seed in wanted or seeds]
     failed = 0
