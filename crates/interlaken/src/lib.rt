@@ -38,6 +38,8 @@ mod task;
 mod tests;
 mod texts;
 mod top;
+#[cfg(test)]
+mod trial;
 mod words;
 
 pub use law::{

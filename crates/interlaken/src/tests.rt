@@ -1,6 +1,7 @@
 ghost use Rattle.std.specs.Prelude.{◌≡◌, IfOk};
 
-use crate::{Status, run};
+use crate::Status;
+use crate::trial::{holds, tried};
 use lk_base::OutOfMemory;
 use lk_outside::{MemSink, MemStore};
 use pcap_files::{write_header, write_packet};
@@ -36,6 +37,13 @@ const BIG_NANO: [u8; 42] = [
 
 const NOTHING_CAME: &[u8] = b"got channel=0 packets=0 bytes=0\nspans 1\n\
     dropped bad=0 crc=0 protocol=0 lost=0 end=0 toolong=0 unlisted=0 sender=0\n";
+
+// The spans of a stream that came whole, and of one that never came.
+const WHOLE_TABLE: &[u8] =
+    b"after_group,after_index,before_group,before_index,why\n-,-,0,1,start\n0,11,-,-,end\n";
+
+const START_TABLE: &[u8] =
+    b"after_group,after_index,before_group,before_index,why\n-,-,-,-,start\n";
 
 const USAGE: &[u8] =
     b"usage: interlaken burst|join|send|receive|link FILE, or interlaken generate NUMBER PREFIX\n";
@@ -94,11 +102,11 @@ fn one_packet_of_sixty_bytes(rt: HostRuntime) -> Result<(), Fail> {
     let capture = sixty_bytes(alloc)?;
     let mut store = store_of(alloc, &capture)?;
     let mut out = MemSink::make(alloc);
-    assert_eq!(rt; run(alloc, &words, &mut store, &mut out), Status::Done);
+    assert_eq!(rt; tried(alloc, &words, &mut store, &mut out), Status::Done);
     let text = b"sent channel=0 packets=1 bytes=60 left=0\nslots 12\n";
     assert_eq!(rt; out.written(), text.as_slice());
-    assert_eq!(rt; store.get("a.pcap.words"), Some(SIXTY.as_slice()));
-    assert_eq!(rt; store.get("a.pcap"), Some(capture.as_slice()));
+    assert!(rt; holds(&store, "a.pcap.words", &SIXTY));
+    assert!(rt; holds(&store, "a.pcap", &capture));
     Ok(())
 }
 
@@ -108,10 +116,10 @@ fn a_capture_without_records(rt: HostRuntime) -> Result<(), Fail> {
     let words = words_of(alloc, &["burst", "a.pcap"])?;
     let mut store = store_of(alloc, &HEADER)?;
     let mut out = MemSink::make(alloc);
-    assert_eq!(rt; run(alloc, &words, &mut store, &mut out), Status::Done);
+    assert_eq!(rt; tried(alloc, &words, &mut store, &mut out), Status::Done);
     let text = b"sent channel=0 packets=0 bytes=0 left=0\nslots 3\n";
     assert_eq!(rt; out.written(), text.as_slice());
-    assert_eq!(rt; store.get("a.pcap.words"), Some(NONE.as_slice()));
+    assert!(rt; holds(&store, "a.pcap.words", &NONE));
     Ok(())
 }
 
@@ -121,7 +129,7 @@ fn a_big_endian_capture_in_nanoseconds_is_accepted(rt: HostRuntime) -> Result<()
     let words = words_of(alloc, &["burst", "a.pcap"])?;
     let mut store = store_of(alloc, &BIG_NANO)?;
     let mut out = MemSink::make(alloc);
-    assert_eq!(rt; run(alloc, &words, &mut store, &mut out), Status::Done);
+    assert_eq!(rt; tried(alloc, &words, &mut store, &mut out), Status::Done);
     let text = b"sent channel=0 packets=1 bytes=2 left=0\nslots 5\n";
     assert_eq!(rt; out.written(), text.as_slice());
     Ok(())
@@ -144,11 +152,11 @@ fn refused_captures_are_told(rt: HostRuntime) -> Result<(), Fail> {
         let mut store = store_of(alloc, capture)?;
         let mut out = MemSink::make(alloc);
         assert_eq!(rt;
-            run(alloc, &words, &mut store, &mut out),
+            tried(alloc, &words, &mut store, &mut out),
             Status::InputRefused
         );
         assert_eq!(rt; out.written(), line.as_bytes());
-        assert_eq!(rt; store.get("a.pcap.words"), None);
+        assert!(rt; store.get("a.pcap.words").is_none());
     }
     Ok(())
 }
@@ -160,7 +168,7 @@ fn an_absent_capture_is_told(rt: HostRuntime) -> Result<(), Fail> {
     let mut store = MemStore::make(alloc);
     let mut out = MemSink::make(alloc);
     assert_eq!(rt;
-        run(alloc, &words, &mut store, &mut out),
+        tried(alloc, &words, &mut store, &mut out),
         Status::InputRefused
     );
     let line = b"input refused: a.pcap: no file\n";
@@ -185,7 +193,7 @@ fn words_that_are_not_accepted(rt: HostRuntime) -> Result<(), Fail> {
         let words = words_of(alloc, texts)?;
         let mut store = MemStore::make(alloc);
         let mut out = MemSink::make(alloc);
-        assert_eq!(rt; run(alloc, &words, &mut store, &mut out), Status::Usage);
+        assert_eq!(rt; tried(alloc, &words, &mut store, &mut out), Status::Usage);
         assert_eq!(rt; out.written(), USAGE);
     }
     Ok(())
@@ -209,7 +217,7 @@ fn refused_plans_are_told(rt: HostRuntime) -> Result<(), Fail> {
         store.put("p.plan", plan.as_bytes())?;
         let mut out = MemSink::make(alloc);
         assert_eq!(rt;
-            run(alloc, &words, &mut store, &mut out),
+            tried(alloc, &words, &mut store, &mut out),
             Status::PlanRefused
         );
         assert_eq!(rt; out.written(), line.as_bytes());
@@ -224,7 +232,7 @@ fn an_absent_plan_is_told(rt: HostRuntime) -> Result<(), Fail> {
     let mut store = MemStore::make(alloc);
     let mut out = MemSink::make(alloc);
     assert_eq!(rt;
-        run(alloc, &words, &mut store, &mut out),
+        tried(alloc, &words, &mut store, &mut out),
         Status::PlanRefused
     );
     assert_eq!(rt; out.written(), b"plan refused: no file\n".as_slice());
@@ -241,7 +249,7 @@ fn the_first_refused_input_of_a_plan_is_told(rt: HostRuntime) -> Result<(), Fail
     store.put("f", b"0,80BFFFFF000000A9\n1,x\n".as_slice())?;
     let mut out = MemSink::make(alloc);
     assert_eq!(rt;
-        run(alloc, &words, &mut store, &mut out),
+        tried(alloc, &words, &mut store, &mut out),
         Status::InputRefused
     );
     assert_eq!(rt;
@@ -251,7 +259,7 @@ fn the_first_refused_input_of_a_plan_is_told(rt: HostRuntime) -> Result<(), Fail
     store.put("a.pcap", HEADER.as_slice())?;
     let mut told = MemSink::make(alloc);
     assert_eq!(rt;
-        run(alloc, &words, &mut store, &mut told),
+        tried(alloc, &words, &mut store, &mut told),
         Status::InputRefused
     );
     assert_eq!(rt;
@@ -269,13 +277,16 @@ fn a_hundred_packets_are_appended_in_three_pieces(rt: HostRuntime) -> Result<(),
     let mut store = store_of(alloc, &capture)?;
     store.fail(&[], &[1], &[3])?;
     let mut out = MemSink::make(alloc);
-    assert_eq!(rt; run(alloc, &words, &mut store, &mut out), Status::Done);
+    assert_eq!(rt; tried(alloc, &words, &mut store, &mut out), Status::Done);
     let text = b"sent channel=0 packets=100 bytes=151400 left=0\nslots 19603\n";
     assert_eq!(rt; out.written(), text.as_slice());
     let mut cut = store_of(alloc, &capture)?;
     cut.fail(&[], &[], &[2])?;
     let mut told = MemSink::make(alloc);
-    assert_eq!(rt; run(alloc, &words, &mut cut, &mut told), Status::StoreFault);
+    assert_eq!(rt;
+        tried(alloc, &words, &mut cut, &mut told),
+        Status::StoreFault
+    );
     let line = b"store fault: a.pcap.words\n";
     assert_eq!(rt; told.written(), line.as_slice());
     let whole = store.get("a.pcap.words").unwrap_or(&[]);
@@ -294,12 +305,12 @@ fn the_first_append_fails(rt: HostRuntime) -> Result<(), Fail> {
     store.fail(&[], &[], &[0])?;
     let mut out = MemSink::make(alloc);
     assert_eq!(rt;
-        run(alloc, &words, &mut store, &mut out),
+        tried(alloc, &words, &mut store, &mut out),
         Status::StoreFault
     );
     let line = b"store fault: a.pcap.words\n";
     assert_eq!(rt; out.written(), line.as_slice());
-    assert_eq!(rt; store.get("a.pcap.words"), SIXTY.get(..54));
+    assert!(rt; holds(&store, "a.pcap.words", &SIXTY[..54]));
     Ok(())
 }
 
@@ -311,8 +322,11 @@ fn the_sink_fails_alone(rt: HostRuntime) -> Result<(), Fail> {
     let mut store = store_of(alloc, &capture)?;
     let mut out = MemSink::make(alloc);
     out.fail(&[0])?;
-    assert_eq!(rt; run(alloc, &words, &mut store, &mut out), Status::SinkFault);
-    assert_eq!(rt; store.get("a.pcap.words"), Some(SIXTY.as_slice()));
+    assert_eq!(rt;
+        tried(alloc, &words, &mut store, &mut out),
+        Status::SinkFault
+    );
+    assert!(rt; holds(&store, "a.pcap.words", &SIXTY));
     Ok(())
 }
 
@@ -322,21 +336,20 @@ fn the_packet_of_a_words_file(rt: HostRuntime) -> Result<(), Fail> {
     let words = words_of(alloc, &["join", "a.pcap.words"])?;
     let mut store = words_store(alloc, &SIXTY)?;
     let mut out = MemSink::make(alloc);
-    assert_eq!(rt; run(alloc, &words, &mut store, &mut out), Status::Done);
+    assert_eq!(rt; tried(alloc, &words, &mut store, &mut out), Status::Done);
     let text = b"got channel=0 packets=1 bytes=60\nspans 2\n\
         dropped bad=0 crc=0 protocol=0 lost=0 end=0 toolong=0 unlisted=0 sender=0\n";
     assert_eq!(rt; out.written(), text.as_slice());
     let capture = store.get("a.pcap.words.0.pcap").unwrap_or(&[]);
     assert_eq!(rt; capture.len(), 100);
-    assert_eq!(rt; capture.get(..24), Some(HEADER.as_slice()));
+    assert!(rt; capture.starts_with(&HEADER));
     let head = [0, 0, 0, 0, 0, 0, 0, 0, 60, 0, 0, 0, 60, 0, 0, 0];
-    assert_eq!(rt; capture.get(24..40), Some(head.as_slice()));
+    assert_eq!(rt; capture.get(24..40).unwrap_or(&[]), head.as_slice());
     let whole = sixty_bytes(alloc)?;
-    assert_eq!(rt; capture.get(40..), whole.get(40..));
-    let table =
-        b"after_group,after_index,before_group,before_index,why\n-,-,0,1,start\n0,11,-,-,end\n";
-    assert_eq!(rt; store.get("a.pcap.words.spans.csv"), Some(table.as_slice()));
-    assert_eq!(rt; store.get("a.pcap.words"), Some(SIXTY.as_slice()));
+    let packet = whole.get(40..).unwrap_or(&[]);
+    assert_eq!(rt; capture.get(40..).unwrap_or(&[]), packet);
+    assert!(rt; holds(&store, "a.pcap.words.spans.csv", WHOLE_TABLE));
+    assert!(rt; holds(&store, "a.pcap.words", &SIXTY));
     Ok(())
 }
 
@@ -363,10 +376,10 @@ fn an_inverted_bit_and_a_bad_word(rt: HostRuntime) -> Result<(), Fail> {
     for (file, text, table) in cases {
         let mut store = words_store(alloc, file)?;
         let mut out = MemSink::make(alloc);
-        assert_eq!(rt; run(alloc, &words, &mut store, &mut out), Status::Done);
+        assert_eq!(rt; tried(alloc, &words, &mut store, &mut out), Status::Done);
         assert_eq!(rt; out.written(), text);
-        assert_eq!(rt; store.get("a.pcap.words.spans.csv"), Some(table));
-        assert_eq!(rt; store.get("a.pcap.words.0.pcap"), Some(HEADER.as_slice()));
+        assert!(rt; holds(&store, "a.pcap.words.spans.csv", table));
+        assert!(rt; holds(&store, "a.pcap.words.0.pcap", &HEADER));
     }
     Ok(())
 }
@@ -377,11 +390,10 @@ fn an_empty_words_file(rt: HostRuntime) -> Result<(), Fail> {
     let words = words_of(alloc, &["join", "a.pcap.words"])?;
     let mut store = words_store(alloc, &[])?;
     let mut out = MemSink::make(alloc);
-    assert_eq!(rt; run(alloc, &words, &mut store, &mut out), Status::Done);
+    assert_eq!(rt; tried(alloc, &words, &mut store, &mut out), Status::Done);
     assert_eq!(rt; out.written(), NOTHING_CAME);
-    let table = b"after_group,after_index,before_group,before_index,why\n-,-,-,-,start\n";
-    assert_eq!(rt; store.get("a.pcap.words.spans.csv"), Some(table.as_slice()));
-    assert_eq!(rt; store.get("a.pcap.words.0.pcap"), Some(HEADER.as_slice()));
+    assert!(rt; holds(&store, "a.pcap.words.spans.csv", START_TABLE));
+    assert!(rt; holds(&store, "a.pcap.words.0.pcap", &HEADER));
     Ok(())
 }
 
@@ -399,17 +411,17 @@ fn refused_words_files_are_told(rt: HostRuntime) -> Result<(), Fail> {
         let mut store = words_store(alloc, file)?;
         let mut out = MemSink::make(alloc);
         assert_eq!(rt;
-            run(alloc, &words, &mut store, &mut out),
+            tried(alloc, &words, &mut store, &mut out),
             Status::InputRefused
         );
         assert_eq!(rt; out.written(), line.as_bytes());
-        assert_eq!(rt; store.get("a.pcap.words.0.pcap"), None);
-        assert_eq!(rt; store.get("a.pcap.words.spans.csv"), None);
+        assert!(rt; store.get("a.pcap.words.0.pcap").is_none());
+        assert!(rt; store.get("a.pcap.words.spans.csv").is_none());
     }
     let mut absent = MemStore::make(alloc);
     let mut out = MemSink::make(alloc);
     assert_eq!(rt;
-        run(alloc, &words, &mut absent, &mut out),
+        tried(alloc, &words, &mut absent, &mut out),
         Status::InputRefused
     );
     let line = b"input refused: a.pcap.words: no file\n";
@@ -425,24 +437,25 @@ fn a_fault_leaves_prefixes_of_both_files(rt: HostRuntime) -> Result<(), Fail> {
     store.fail(&[], &[], &[0])?;
     let mut out = MemSink::make(alloc);
     assert_eq!(rt;
-        run(alloc, &words, &mut store, &mut out),
+        tried(alloc, &words, &mut store, &mut out),
         Status::StoreFault
     );
     let line = b"store fault: a.pcap.words.0.pcap\n";
     assert_eq!(rt; out.written(), line.as_slice());
     let whole = sixty_bytes(alloc)?;
-    assert_eq!(rt; store.get("a.pcap.words.0.pcap"), whole.get(..50));
-    assert_eq!(rt; store.get("a.pcap.words.spans.csv"), Some([].as_slice()));
+    let part = whole.get(..50).unwrap_or(&[]);
+    assert!(rt; holds(&store, "a.pcap.words.0.pcap", part));
+    assert!(rt; holds(&store, "a.pcap.words.spans.csv", &[]));
     let mut alone = words_store(alloc, &SIXTY)?;
     alone.fail(&[], &[1], &[])?;
     let mut told = MemSink::make(alloc);
     assert_eq!(rt;
-        run(alloc, &words, &mut alone, &mut told),
+        tried(alloc, &words, &mut alone, &mut told),
         Status::StoreFault
     );
     let line = b"store fault: a.pcap.words.spans.csv\n";
     assert_eq!(rt; told.written(), line.as_slice());
-    assert_eq!(rt; alone.get("a.pcap.words.0.pcap"), Some([].as_slice()));
-    assert_eq!(rt; alone.get("a.pcap.words.spans.csv"), None);
+    assert!(rt; holds(&alone, "a.pcap.words.0.pcap", &[]));
+    assert!(rt; alone.get("a.pcap.words.spans.csv").is_none());
     Ok(())
 }
