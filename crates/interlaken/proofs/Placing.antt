@@ -4,14 +4,15 @@ use Rattle.std.specs.List.{list_all}
 use Rattle.std.specs.Prelude.{◌==◌}
 use Rattle.std.proofs.lemmas.Bool.{lt-ltb}
 use Rattle.std.proofs.lemmas.List.{take_more}
-use Rattle.stream_model.specs.BurstStream.{longest_packet}
+use Rattle.lk_base.specs.Limits.{longest_packet}
 use Rattle.receive_model.proofs.Cuts.{split}
 use Rattle.lk_base.specs.declared.fault.Why.TheVariants as whys
 use Rattle.lk_base.specs.declared.word.RxWord.{RxWord}
 use Rattle.lk_base.specs.declared.word.Aligned.TheVariants.{Word, Break}
 use Rattle.receive_model.specs.Positions.{placed_from, numbered}
 use Rattle.receive_model.specs.Events.{Setting, Event, is_rising, word_events}
-use Rattle.reassembly.specs.SoFar.{is_earlier, outputs_so_far, aligned_word}
+use Rattle.reassembly.specs.SoFar.{outputs_so_far, aligned_word}
+use Rattle.receive_model.specs.Behind.{is_earlier}
 use Rattle.reassembly.proofs.SoFarHold.{words_files}
 use Rattle.reassembly.specs.Settings.{IsSettingOf, is_among}
 use Rattle.interlaken.specs.declared.gather.Gathered.{Gathered}

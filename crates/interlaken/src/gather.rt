@@ -3,9 +3,10 @@ ghost use Rattle.std.specs.Prelude.{◌≡◌, ◌<◌, ◌≤◌, ◌+◌, ◌^
 ghost use Rattle.std.specs.List.{list_all};
 ghost use Rattle.lk_base.specs.declared.position.Pos.{Pos};
 ghost use Rattle.lk_base.specs.declared.word.Aligned.{Aligned};
-ghost use Rattle.stream_model.specs.BurstStream.{longest_packet};
+ghost use Rattle.lk_base.specs.Limits.{longest_packet};
 ghost use Rattle.receive_model.specs.Events.{Setting, Event, Delivered, Dropped, FaultSpan, is_rising, word_events};
-ghost use Rattle.reassembly.specs.SoFar.{comes_behind, outputs_so_far};
+ghost use Rattle.receive_model.specs.Behind.{comes_behind};
+ghost use Rattle.reassembly.specs.SoFar.{outputs_so_far};
 ghost use Rattle.reassembly.specs.States.{NothingWaits, TellsLength, event_of, is_packet};
 ghost use Rattle.interlaken.specs.Sized.{GivesSized, IsSized};
 ghost use Rattle.interlaken.specs.Gathered.{IsFor, IsGathered, IsGoing, words_put};

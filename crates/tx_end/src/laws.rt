@@ -2,7 +2,8 @@ ghost use Rattle.std.specs.Prelude.{◌≡◌, ℕ, ◌<◌, ◌≤◌, ◌^◌,
 ghost use Rattle.std.specs.List.{AllPairs};
 ghost use Rattle.std.specs.List.Sorted.{IsNonDecreasing};
 ghost use Rattle.lk_base.specs.declared.shape.Shape.{Shape};
-ghost use Rattle.stream_model.specs.BurstStream.{IsPacket, IsSource, longest_packet};
+ghost use Rattle.stream_model.specs.BurstStream.{IsPacket, IsSource};
+ghost use Rattle.lk_base.specs.Limits.{longest_packet};
 ghost use Rattle.stream_model.specs.declared.rows.FlowRow.{FlowRow};
 ghost use Rattle.stream_model.specs.declared.rows.LocalRow.{LocalRow};
 ghost use Rattle.tx_end.specs.SentExamples.{CountExamples, SentExamples};

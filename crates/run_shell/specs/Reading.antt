@@ -1,0 +1,106 @@
+-- Inputs of a command that are read one after another: all of them, or the first that is refused.
+use Rattle.std.specs.Prelude.{◌≡◌, ◌⊎◌, ℕ, List, [], length, nat_lt, Option, Some, None, Result, Ok, Err, MatchResult, Vec, string_bytes, if◌then◌else◌}
+use Rattle.std.specs.declared.alloc.Global.{Global}
+use Rattle.link_reports.specs.declared.faults.InputError.{InputError}
+use Rattle.link_reports.specs.declared.faults.InputError.TheVariants as refused
+use Rattle.link_plan.specs.declared.error.PlanError.{PlanError}
+use Rattle.link_plan.specs.declared.error.PlanError.TheVariants as plans
+use Rattle.link_reports.specs.Faults.{plan_line, input_line}
+use Rattle.lk_outside.specs.Files.{Files, file}
+use Rattle.run_shell.specs.declared.status.Status.{Status}
+use Rattle.run_shell.specs.declared.status.Status.TheVariants.{Done, Held, PlanRefused, InputRefused}
+use Rattle.run_shell.specs.declared.stop.Stop.{Stop}
+use Rattle.run_shell.specs.declared.stop.Stop.TheVariants as stop
+use Rattle.run_shell.specs.Outcome.{Outcome}
+use Rattle.run_shell.specs.Meaning.{Meaning}
+
+-- why the inputs of a command are not had
+pub data Refusal : Type 0 where
+  of_plan : PlanError → Refusal
+  of_input : List ℕ → InputError → Refusal
+
+-- what a refusal comes to: nothing is created
+abbrev pub refused_outcome : Refusal → Outcome
+refused_outcome (of_plan why) = record { status = PlanRefused; files = []; text = plan_line why }
+refused_outcome (of_input name why) = record { status = InputRefused; files = []; text = input_line name why }
+
+abbrev pub IsOfPlan : Refusal → Type 0
+IsOfPlan (of_plan why) = Unit {0}
+IsOfPlan (of_input name why) = ⊥
+
+abbrev pub IsOfInputs : Refusal → Type 0
+IsOfInputs (of_plan why) = ⊥
+IsOfInputs (of_input name why) = Unit {0}
+
+-- what is read next, behind what was read
+abbrev pub behind : {A B : Type 0} → Result A Refusal → (A → Result B Refusal) → Result B Refusal
+behind (Ok a) next = next a
+behind (Err r) next = Err r
+
+-- the bytes of a file that may be there, of at most so many
+abbrev pub bytes_by : List ℕ → ℕ → Option (List ℕ) → Result (List ℕ) Refusal
+bytes_by name limit None = Err (of_input name refused.NoFile)
+bytes_by name limit (Some bytes) = if nat_lt limit (length bytes) then Err (of_input name refused.TooLarge) else Ok bytes
+
+abbrev pub bytes_in : Files → List ℕ → ℕ → Result (List ℕ) Refusal
+bytes_in files name limit = bytes_by name limit (file files name)
+
+-- the bytes of a plan, of at most so many
+abbrev pub plan_by : ℕ → Option (List ℕ) → Result (List ℕ) Refusal
+plan_by limit None = Err (of_plan plans.NoFile)
+plan_by limit (Some bytes) = if nat_lt limit (length bytes) then Err (of_plan plans.TooLarge) else Ok bytes
+
+abbrev pub plan_bytes : Files → List ℕ → ℕ → Result (List ℕ) Refusal
+plan_bytes files name limit = plan_by limit (file files name)
+
+-- ---- a command by what it reads
+
+pub record Work : Type 1 where
+  -- what it reads
+  pub Inputs : Type 0
+  pub inputs_in : Files → Result Inputs Refusal
+  -- what it makes of its inputs, with `Done` or `Held`
+  pub IsMade : Inputs → Outcome → Type 0
+  -- bytes are left at the finish
+  pub IsHeld : Inputs → Type 0
+  -- the names that it creates, of its inputs
+  pub Creates : Inputs → List ℕ → Type 0
+  -- the names that it reads
+  pub Names : Files → List ℕ → Type 0
+
+abbrev pub meaning_by : Work → Meaning
+meaning_by w = record {
+  IsOutcome = λ files o. MatchResult (w.inputs_in files) (λ i. w.IsMade i o) (λ r. o ≡ refused_outcome r);
+  Creates = λ files q. MatchResult (w.inputs_in files) (λ i. w.Creates i q) (λ r. ⊥);
+  Names = λ files q. w.Names files q ⊎ MatchResult (w.inputs_in files) (λ i. w.Creates i q) (λ r. ⊥);
+  IsPlanRefused = λ files. MatchResult (w.inputs_in files) (λ i. ⊥) IsOfPlan;
+  IsInputRefused = λ files. MatchResult (w.inputs_in files) (λ i. ⊥) IsOfInputs;
+  IsHeld = λ files. MatchResult (w.inputs_in files) w.IsHeld (λ r. ⊥);
+}
+
+-- what a work has to bring: one outcome of its inputs, held exactly where bytes are left
+pub record IsWork (w : Work) : Type 0 where
+  pub one_made : (i : w.Inputs) (o p : Outcome) → w.IsMade i o → w.IsMade i p → o ≡ p
+  pub made_status : (i : w.Inputs) (o : Outcome) → w.IsMade i o → ((o.status ≡ Held) × w.IsHeld i) ⊎ ((o.status ≡ Done) × (w.IsHeld i → ⊥))
+
+-- ---- what reading came to
+
+abbrev pub vec_items : Vec ℕ Global → List ℕ
+vec_items v = v.items
+
+-- the only stop is that this input is refused so, or memory
+abbrev pub IsOfInput : List ℕ → InputError → Stop → Type 0
+IsOfInput name why (stop.Plan p) = ⊥
+IsOfInput name why (stop.Input n w) = (string_bytes n ≡ name) × (w ≡ why)
+IsOfInput name why (stop.Store n) = ⊥
+IsOfInput name why stop.StoreNoMemory = ⊥
+IsOfInput name why stop.OutOfMemory = Unit {0}
+
+-- what was read is this, and a refusal is this one, unless the store, at one of these names, or memory stopped it
+abbrev pub Reads : {T V : Type 0} → (T → V) → (List ℕ → Type 0) → Result T Stop → Result V Refusal → Type 0
+Reads value named (Ok t) answer = answer ≡ Ok (value t)
+Reads value named (Err (stop.Plan why)) answer = answer ≡ Err (of_plan why)
+Reads value named (Err (stop.Input n why)) answer = answer ≡ Err (of_input (string_bytes n) why)
+Reads value named (Err (stop.Store n)) answer = named (string_bytes n)
+Reads value named (Err stop.StoreNoMemory) answer = Unit {0}
+Reads value named (Err stop.OutOfMemory) answer = Unit {0}

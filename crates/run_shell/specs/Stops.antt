@@ -1,0 +1,91 @@
+-- Why the work of a command stopped, and what it came to.
+use Rattle.std.specs.Prelude.{Bool, true, false, ◌≡◌, ℕ, ◌+◌, List, [], Result, Ok, Err, Option, string_bytes}
+use Rattle.link_reports.specs.Faults.{plan_line, input_line, store_line, memory_line}
+use Rattle.run_shell.specs.declared.stop.Stop.{Stop}
+use Rattle.run_shell.specs.declared.stop.Stop.TheVariants as stop
+use Rattle.run_shell.specs.declared.stop.Finished.{Finished}
+use Rattle.run_shell.specs.declared.status.Status.{Status}
+use Rattle.run_shell.specs.declared.status.Status.TheVariants.{Done, StoreFault, Usage, Held, PlanRefused, InputRefused, OutOfMemory, SinkFault}
+use Rattle.lk_outside.specs.Files.{Files, Told}
+use Rattle.run_shell.specs.Outcome.{Outcome, Holds, HoldsPart}
+use Rattle.run_shell.specs.Meaning.{Meaning}
+
+abbrev pub stop_status : Stop → Status
+stop_status (stop.Plan why) = PlanRefused
+stop_status (stop.Input name why) = InputRefused
+stop_status (stop.Store name) = StoreFault
+stop_status stop.StoreNoMemory = OutOfMemory
+stop_status stop.OutOfMemory = OutOfMemory
+
+abbrev pub stop_text : Stop → List ℕ
+stop_text (stop.Plan why) = plan_line why
+stop_text (stop.Input name why) = input_line (string_bytes name) why
+stop_text (stop.Store name) = store_line (string_bytes name)
+stop_text stop.StoreNoMemory = memory_line
+stop_text stop.OutOfMemory = memory_line
+
+-- whether the store failed
+abbrev pub is_of_store : Stop → Bool
+is_of_store (stop.Plan why) = false
+is_of_store (stop.Input name why) = false
+is_of_store (stop.Store name) = true
+is_of_store stop.StoreNoMemory = true
+is_of_store stop.OutOfMemory = false
+
+-- the store's count rose exactly where the store failed
+abbrev pub StoreCount : Bool → ℕ → ℕ → Type 0
+StoreCount true before now = now ≡ before + 1
+StoreCount false before now = now ≡ before
+
+abbrev pub StopCount : {T : Type 0} → Result T Stop → ℕ → ℕ → Type 0
+StopCount (Ok _) before now = now ≡ before
+StopCount (Err (stop.Plan why)) before now = now ≡ before
+StopCount (Err (stop.Input name why)) before now = now ≡ before
+StopCount (Err (stop.Store name)) before now = now ≡ before + 1
+StopCount (Err stop.StoreNoMemory) before now = now ≡ before + 1
+StopCount (Err stop.OutOfMemory) before now = now ≡ before
+
+-- the only stops are of this file in the store, and of memory
+abbrev pub IsOfStore : (List ℕ → Type 0) → Stop → Type 0
+IsOfStore named (stop.Plan why) = ⊥
+IsOfStore named (stop.Input n why) = ⊥
+IsOfStore named (stop.Store n) = named (string_bytes n)
+IsOfStore named stop.StoreNoMemory = Unit {0}
+IsOfStore named stop.OutOfMemory = Unit {0}
+
+abbrev pub StoreStops : {T : Type 0} → (List ℕ → Type 0) → Result T Stop → Type 0
+StoreStops named (Ok _) = Unit {0}
+StoreStops named (Err s) = IsOfStore named s
+
+-- ---- what the work came to
+
+abbrev pub held_status : Bool → Status
+held_status true = Held
+held_status false = Done
+
+-- an outcome's status and text, and its files stand
+pub record Answers (m : Meaning) (before : Files) (its_status : Status) (its_text : List ℕ) (old new : Option Files) : Type 0 where
+  pub outcome : Outcome
+  pub is_outcome : m.IsOutcome before outcome
+  pub status : its_status ≡ outcome.status
+  pub text : its_text ≡ outcome.text
+  pub files : Told old new (Holds outcome.files)
+
+-- a part of the outcome stands, where there is one
+abbrev pub Stopped : Meaning → Files → Option Files → Option Files → Type 0
+Stopped m files old new = (o : Outcome) → m.IsOutcome files o → Told old new (HoldsPart o.files)
+
+-- the status and text that the work came to, and the files then
+abbrev pub Ends : Meaning → Files → Status → List ℕ → Option Files → Option Files → Type 0
+Ends m files StoreFault text old new = ((name : List ℕ) × m.Names files name × (text ≡ store_line name)) × Stopped m files old new
+Ends m files OutOfMemory text old new = (text ≡ memory_line) × Stopped m files old new
+Ends m files SinkFault text old new = ⊥
+Ends m files Done text old new = Answers m files Done text old new
+Ends m files Usage text old new = Answers m files Usage text old new
+Ends m files Held text old new = Answers m files Held text old new
+Ends m files PlanRefused text old new = Answers m files PlanRefused text old new
+Ends m files InputRefused text old new = Answers m files InputRefused text old new
+
+abbrev pub Comes : Meaning → Option Files → Option Files → Result Finished Stop → Files → Type 0
+Comes m old new (Ok f) files = Ends m files (held_status f.held) f.text.items old new
+Comes m old new (Err s) files = Ends m files (stop_status s) (stop_text s) old new

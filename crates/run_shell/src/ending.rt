@@ -1,0 +1,191 @@
+//! How the work of a command ends, and the saying of its text.
+ghost use Rattle.std.specs.Prelude.{◌≡◌, ◌++◌, ◌<◌, ◌^◌, OnOk, IfOk};
+ghost use Rattle.run_shell.specs.Stops.{stop_status, stop_text, is_of_store, held_status};
+ghost use Rattle.run_shell.specs.Run.{Says, sink_failed};
+ghost use Rattle.run_shell.specs.Ending.{IsEndingOf, IsEnding, IsMisused};
+ghost use Rattle.link_reports.specs.Faults.{usage_line};
+
+use crate::command::Command;
+use crate::status::Status;
+use crate::stop::Stop;
+use lk_base::OutOfMemory;
+use lk_outside::{Sink, Store, WriteError};
+use std::alloc::Global;
+use std::marker::Model;
+use link_reports::{input_line, memory_line, plan_line, store_line, usage_line};
+
+// What is to be said: a text that was made, or the line that needs no memory.
+#[derive(Drop)]
+enum Said {
+    Made(Vec<u8>),
+    NoMemory,
+}
+
+/// A status, what is to be said with it, and whether the store failed.
+#[derive(Drop)]
+pub struct Ending {
+    status: Status,
+    said: Said,
+    store_failed: bool,
+}
+
+impl Model for Ending {
+    ghost use Rattle.run_shell.specs.Ended.{Ended};
+    ghost use Rattle.run_shell.specs.Ending.{said_bytes};
+
+    ghost Value = { Ended };
+
+    ghost view = { λ e. record { status = e.status; text = said_bytes e.said; store_failed = e.store_failed } };
+}
+
+impl Said {
+    ghost use Rattle.run_shell.specs.Ending.{said_bytes};
+
+    fn bytes(&self) -> &[u8]
+        ensures { result.now ≡ said_bytes self.now }
+    {
+        match self {
+            Said::Made(text) => text.as_slice(),
+            Said::NoMemory => memory_line(),
+        }
+    }
+}
+
+fn status_when(held: bool) -> Status
+    ensures { result ≡ held_status held }
+{
+    if held { Status::Held } else { Status::Done }
+}
+
+fn status_of(stop: &Stop) -> Status
+    ensures { result ≡ stop_status stop.now }
+{
+    match stop {
+        Stop::Plan(_) => Status::PlanRefused,
+        Stop::Input(_, _) => Status::InputRefused,
+        Stop::Store(_) => Status::StoreFault,
+        Stop::StoreNoMemory | Stop::OutOfMemory => Status::OutOfMemory,
+    }
+}
+
+fn is_of_store(stop: &Stop) -> bool
+    ensures { result ≡ is_of_store stop.now }
+{
+    matches!(stop, Stop::Store(_) | Stop::StoreNoMemory)
+}
+
+// Appends the line of a stop.
+fn append_stop(alloc: Global, line: &mut Vec<u8>, stop: &Stop) -> Result<(), OutOfMemory>
+    ensures { OnOk result (line.new.items ≡ line.old.items ++ stop_text stop.now) }
+{
+    match stop {
+        Stop::Plan(why) => plan_line(alloc, line, why),
+        Stop::Input(name, why) => input_line(alloc, line, name.as_str(), why),
+        Stop::Store(name) => store_line(alloc, line, name.as_str()),
+        Stop::StoreNoMemory | Stop::OutOfMemory => match line.extend_from_slice(memory_line()) {
+            Ok(()) => Ok(()),
+            Err(_) => Err(OutOfMemory),
+        },
+    }
+}
+
+// The one line of a stop.
+fn stop_line(alloc: Global, stop: &Stop) -> Result<Vec<u8>, OutOfMemory>
+    ensures { IfOk result (λ line. line.items ≡ stop_text stop.now) }
+{
+    let mut line = Vec::new(alloc);
+    append_stop(alloc, &mut line, stop)?;
+    Ok(line)
+}
+
+// The line that says how the program is called.
+fn usage_text(alloc: Global) -> Result<Vec<u8>, OutOfMemory>
+    ensures { IfOk result (λ line. line.items ≡ usage_line) }
+{
+    let mut line = Vec::new(alloc);
+    usage_line(&mut line)?;
+    Ok(line)
+}
+
+fn ending_of(alloc: Global, stop: &Stop) -> Ending
+    ensures { IsEndingOf stop.now result }
+{
+    let store_failed = is_of_store(stop);
+    match stop_line(alloc, stop) {
+        Ok(text) => Ending {
+            status: status_of(stop),
+            said: Said::Made(text),
+            store_failed,
+        },
+        Err(_) => Ending {
+            status: Status::OutOfMemory,
+            said: Said::NoMemory,
+            store_failed,
+        },
+    }
+}
+
+/// The work of a command, ended with a status and a text.
+pub fn end<C: Command, S: Store>(alloc: Global, command: &C, store: &mut S) -> Ending
+    requires { S.faults store.old < 2 ^ 60 }
+    ensures { IsEnding (Unit {0}) (C.meaning command.now) result (S.faults store.old) (S.faults store.new) (S.files store.old) (S.files store.new) }
+{
+    match command.obey(alloc, store) {
+        Ok(finished) => Ending {
+            status: status_when(finished.held),
+            said: Said::Made(finished.text),
+            store_failed: false,
+        },
+        Err(stop) => ending_of(alloc, &stop),
+    }
+}
+
+/// The ending where the words are not accepted: the line of the usage, or want of memory for it.
+pub fn misused(alloc: Global) -> Ending
+    ensures { IsMisused result }
+{
+    match usage_text(alloc) {
+        Ok(text) => Ending {
+            status: Status::Usage,
+            said: Said::Made(text),
+            store_failed: false,
+        },
+        Err(_) => Ending {
+            status: Status::OutOfMemory,
+            said: Said::NoMemory,
+            store_failed: false,
+        },
+    }
+}
+
+// A fault of the sink replaces every status, where the store did not fail.
+fn sink_failed(status: Status, store_failed: bool) -> Status
+    ensures { result ≡ sink_failed status store_failed }
+{
+    if store_failed {
+        status
+    } else {
+        Status::SinkFault
+    }
+}
+
+// Gives a text to the sink, in one write.
+fn write_text<K: Sink>(status: Status, store_failed: bool, text: &[u8], out: &mut K) -> Status
+    requires { K.faults out.old < 2 ^ 60 }
+    ensures { Says status store_failed text.now result (K.faults out.old) (K.faults out.new) (K.written out.old) (K.written out.new) }
+{
+    match out.write(text) {
+        Ok(()) => status,
+        Err(WriteError::Failed) => sink_failed(status, store_failed),
+        Err(WriteError::OutOfMemory) => Status::OutOfMemory,
+    }
+}
+
+/// Gives the text to the sink, in one write. The status of the run.
+pub fn say<K: Sink>(ending: &Ending, out: &mut K) -> Status
+    requires { K.faults out.old < 2 ^ 60 }
+    ensures { Says ending.now.status ending.now.store_failed ending.now.text result (K.faults out.old) (K.faults out.new) (K.written out.old) (K.written out.new) }
+{
+    let text = ending.said.bytes();
+    write_text(ending.status, ending.store_failed, text, out)
+}

@@ -1,0 +1,87 @@
+//! What the work of a command came to: its end, or why it stopped.
+ghost use Rattle.std.specs.Prelude.{◌≡◌, true};
+ghost use Rattle.run_shell.specs.Stops.{IsOfStore, is_of_store};
+ghost use Rattle.run_shell.specs.Reading.{IsOfInput};
+
+use lk_base::OutOfMemory;
+use std::alloc::{AllocError, AllocFailed, Global};
+use link_plan::PlanError;
+use link_reports::InputError;
+
+/// What a command came to where nothing stopped it.
+#[derive(Drop)]
+pub struct Finished {
+    /// Whether bytes were left at the finish of the stream.
+    pub held: bool,
+    /// The text that the command prints.
+    pub text: Vec<u8>,
+}
+
+/// What stopped a command.
+#[derive(Debug, Drop)]
+pub enum Stop {
+    /// The plan is refused.
+    Plan(PlanError),
+    /// The input of this name is refused.
+    Input(String, InputError),
+    /// A call of the store with this name failed.
+    Store(String),
+    /// A call of the store failed, and its name found no memory.
+    StoreNoMemory,
+    /// Memory ran out.
+    OutOfMemory,
+}
+
+impl From<OutOfMemory> for Stop {
+    ghost use Rattle.std.specs.Prelude.{◌≡◌};
+    ghost use Rattle.run_shell.specs.declared.stop.Stop.TheVariants as stop;
+
+    ghost from_gives = { λ _ e. e ≡ stop.OutOfMemory };
+
+    fn from(_: OutOfMemory) -> Stop {
+        Stop::OutOfMemory
+    }
+}
+
+impl From<AllocError> for Stop {
+    ghost use Rattle.std.specs.Prelude.{◌≡◌};
+    ghost use Rattle.run_shell.specs.declared.stop.Stop.TheVariants as stop;
+
+    ghost from_gives = { λ _ e. e ≡ stop.OutOfMemory };
+
+    fn from(_: AllocError) -> Stop {
+        Stop::OutOfMemory
+    }
+}
+
+impl<T: Drop> From<AllocFailed<T>> for Stop {
+    ghost use Rattle.std.specs.Prelude.{◌≡◌};
+    ghost use Rattle.run_shell.specs.declared.stop.Stop.TheVariants as stop;
+
+    ghost from_gives = { λ _ e. e ≡ stop.OutOfMemory };
+
+    fn from(_: AllocFailed<T>) -> Stop {
+        Stop::OutOfMemory
+    }
+}
+
+/// A call of the store with this name failed.
+pub fn store_stop(alloc: Global, name: &str) -> Stop
+    ensures name { IsOfStore (λ n. n ≡ name.now) result }
+    ensures store { is_of_store result ≡ true }
+{
+    match String::from_str(alloc, name) {
+        Ok(name) => Stop::Store(name),
+        Err(_) => Stop::StoreNoMemory,
+    }
+}
+
+/// The input of this name is refused.
+pub fn input_stop(alloc: Global, name: &str, why: InputError) -> Stop
+    ensures { IsOfInput name.now why result }
+{
+    match String::from_str(alloc, name) {
+        Ok(name) => Stop::Input(name, why),
+        Err(_) => Stop::OutOfMemory,
+    }
+}
