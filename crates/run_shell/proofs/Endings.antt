@@ -92,6 +92,7 @@ stop_ends m s e sb sa x y law count others comes h = record {
 pub misused_lawful : (accepted : Type 0) → (accepted → ⊥) → IsLawful accepted misused_meaning
 misused_lawful accepted none = record {
   one_outcome = λ files o p h k. h ∙ sym k;
+  some_outcome = λ files bytes. (misused, refl);
   one_cause = λ files o h. subst (λ (p : Outcome). Cause accepted ⊥ ⊥ ⊥ p.status) (sym h) (of_words none (λ z. z) (λ z. z) (λ z. z));
 }
 
@@ -129,7 +130,7 @@ cause_for accepted plan input held s (of_none p i h) = of_none p i h
 -- the end of a command, for words that ask for it
 pub asked_ends : (accepted : Type 0) → accepted → (m : Meaning) (e : Ended) (sb sa : ℕ) (x y : Option Files) → IsEnding (Unit {0}) m e sb sa x y → IsEnding accepted m e sb sa x y
 asked_ends accepted a m e sb sa x y h = record {
-  lawful = record { one_outcome = h.lawful.one_outcome; one_cause = λ files o w. cause_for accepted _ _ _ o.status (h.lawful.one_cause files o w) };
+  lawful = record { one_outcome = h.lawful.one_outcome; some_outcome = h.lawful.some_outcome; one_cause = λ files o w. cause_for accepted _ _ _ o.status (h.lawful.one_cause files o w) };
   count = h.count;
   store = h.store;
   usage = λ used. absurd (h.usage used tt);

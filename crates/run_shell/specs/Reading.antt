@@ -6,7 +6,7 @@ use Rattle.link_reports.specs.declared.faults.InputError.TheVariants as refused
 use Rattle.link_plan.specs.declared.error.PlanError.{PlanError}
 use Rattle.link_plan.specs.declared.error.PlanError.TheVariants as plans
 use Rattle.link_reports.specs.Faults.{plan_line, input_line}
-use Rattle.lk_outside.specs.Files.{Files, file}
+use Rattle.lk_outside.specs.Files.{Files, file, AreBytes}
 use Rattle.run_shell.specs.declared.status.Status.{Status}
 use Rattle.run_shell.specs.declared.status.Status.TheVariants.{Done, Held, PlanRefused, InputRefused}
 use Rattle.run_shell.specs.declared.stop.Stop.{Stop}
@@ -78,9 +78,11 @@ meaning_by w = record {
   IsHeld = λ files. MatchResult (w.inputs_in files) w.IsHeld (λ r. ⊥);
 }
 
--- what a work has to bring: one outcome of its inputs, held exactly where bytes are left
+-- what a work has to bring: one outcome of its inputs, where files hold bytes there is one, and it is held exactly where
+-- bytes are left
 pub record IsWork (w : Work) : Type 0 where
   pub one_made : (i : w.Inputs) (o p : Outcome) → w.IsMade i o → w.IsMade i p → o ≡ p
+  pub some_made : (files : Files) → AreBytes files → (i : w.Inputs) → w.inputs_in files ≡ Ok i → (o : Outcome) × w.IsMade i o
   pub made_status : (i : w.Inputs) (o : Outcome) → w.IsMade i o → ((o.status ≡ Held) × w.IsHeld i) ⊎ ((o.status ≡ Done) × (w.IsHeld i → ⊥))
 
 -- ---- what reading came to

@@ -8,11 +8,11 @@ ghost use Rattle.link_reports.specs.Faults.{usage_line};
 use crate::command::Command;
 use crate::status::Status;
 use crate::stop::Stop;
+use link_reports::{input_line, memory_line, plan_line, store_line, usage_line};
 use lk_base::OutOfMemory;
 use lk_outside::{Sink, Store, WriteError};
 use std::alloc::Global;
 use std::marker::Model;
-use link_reports::{input_line, memory_line, plan_line, store_line, usage_line};
 
 // What is to be said: a text that was made, or the line that needs no memory.
 #[derive(Drop)]

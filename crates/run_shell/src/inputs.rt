@@ -4,10 +4,10 @@ ghost use Rattle.run_shell.specs.Stops.{StopCount};
 ghost use Rattle.run_shell.specs.Reading.{Reads, bytes_in, plan_bytes, vec_items};
 
 use crate::stop::{Stop, input_stop, store_stop};
-use lk_outside::{Store, WholeError, read_whole};
-use std::alloc::Global;
 use link_plan::PlanError;
 use link_reports::InputError;
+use lk_outside::{Store, WholeError, read_whole};
+use std::alloc::Global;
 
 /// The whole of an input of at most `limit` bytes. It is refused exactly where it is absent or longer, but for faults of
 /// the store and want of memory. The files are as they were.

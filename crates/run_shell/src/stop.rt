@@ -3,10 +3,10 @@ ghost use Rattle.std.specs.Prelude.{◌≡◌, true};
 ghost use Rattle.run_shell.specs.Stops.{IsOfStore, is_of_store};
 ghost use Rattle.run_shell.specs.Reading.{IsOfInput};
 
-use lk_base::OutOfMemory;
-use std::alloc::{AllocError, AllocFailed, Global};
 use link_plan::PlanError;
 use link_reports::InputError;
+use lk_base::OutOfMemory;
+use std::alloc::{AllocError, AllocFailed, Global};
 
 /// What a command came to where nothing stopped it.
 #[derive(Drop)]
