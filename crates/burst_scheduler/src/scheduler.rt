@@ -17,10 +17,8 @@ fn copy_of<T: Copy + Drop>(alloc: Global, items: &[T]) -> Result<Vec<T>, OutOfMe
     ensures { IfOk result (λ v. v.items ≡ items.now) }
 {
     let mut copy = Vec::new(alloc);
-    match copy.extend_from_slice(items) {
-        Ok(()) => Ok(copy),
-        Err(_full) => Err(OutOfMemory),
-    }
+    copy.extend_from_slice(items)?;
+    Ok(copy)
 }
 
 // The fields of a flow row's word, where it is valid.
@@ -123,10 +121,7 @@ impl Scheduler {
         let own = copy_of(alloc, channels)?;
         let line = copy_of(alloc, channels)?;
         let queues = empty_queues(alloc, channels.len())?;
-        let run = match Vec::from_array(alloc, [0; 512]) {
-            Ok(run) => run,
-            Err(_full) => return Err(OutOfMemory),
-        };
+        let run = Vec::from_array(alloc, [0; 512])?;
         Ok(Scheduler {
             most: shape.burst_max as usize,
             short: (shape.burst_short / 8) as u64,
