@@ -13,3 +13,5 @@ pub mod Slots
 pub mod Listing
 pub mod ListedSent
 pub mod SentExamplesHold
+pub mod Numbers
+pub mod NumbersLaw

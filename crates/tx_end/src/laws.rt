@@ -7,7 +7,7 @@ ghost use Rattle.lk_base.specs.Limits.{longest_packet};
 ghost use Rattle.stream_model.specs.declared.rows.FlowRow.{FlowRow};
 ghost use Rattle.stream_model.specs.declared.rows.LocalRow.{LocalRow};
 ghost use Rattle.tx_end.specs.SentExamples.{CountExamples, SentExamples};
-ghost use Rattle.tx_end.specs.SentLaw.{ListsTheSent, OneList, StartsItsPackets};
+ghost use Rattle.tx_end.specs.SentLaw.{ListsTheSent, NumbersArePackets, OneList, StartsAreFew, StartsItsPackets};
 ghost use Rattle.tx_end.specs.Sources.{source_by};
 ghost use Rattle.tx_end.specs.declared.packet.Packet.{Packet};
 
@@ -23,10 +23,14 @@ pub fn arguments_are_source()
 {}
 
 /// A packet is listed with its end word exactly where it is sent, and a stream starts no packet but those of its source.
+/// In any first words of a stream each listed packet is the one of its channel with its number, whether its end word is there
+/// or not, and there are no more than the source has.
 pub fn listed_packets_are_sent()
     ensures sent { ListsTheSent }
     ensures few { StartsItsPackets }
     ensures one { OneList }
+    ensures numbers { NumbersArePackets }
+    ensures starts { StartsAreFew }
 {}
 
 /// What is counted and listed of a few small streams.

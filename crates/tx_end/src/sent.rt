@@ -41,9 +41,7 @@ fn no_places(alloc: Global) -> Result<Vec<Place>, OutOfMemory>
             started: 0,
             current: None,
         };
-        if places.push(place).is_err() {
-            return Err(OutOfMemory);
-        }
+        places.push(place)?;
     }
     Ok(places)
 }
@@ -139,9 +137,7 @@ fn start_open(
         first: slot,
         last: None,
     };
-    if sent.push(packet).is_err() {
-        return Err(OutOfMemory);
-    }
+    sent.push(packet)?;
     places[channel] = Place {
         started: place.started + 1,
         current: Some(number),

@@ -105,9 +105,7 @@ pub fn words_of(
     let mut words = Vec::new(alloc);
     let mut passed = Passed { flow: 0, local: 0 };
     while let Some(word) = next_word(&mut scheduler, flow, local, &mut passed, words.len() as u64) {
-        if words.push(word).is_err() {
-            return Err(OutOfMemory);
-        }
+        words.push(word)?;
     }
     let held = scheduler.held();
     Ok(Made { words, held })
