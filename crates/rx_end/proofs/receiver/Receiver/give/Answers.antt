@@ -6,7 +6,7 @@ use Rattle.rx_end.specs.declared.event.RxEvent.{RxEvent}
 use Rattle.rx_end.specs.States.{State}
 use Rattle.rx_end.specs.Standing.{Drained, GivesEvent, GivesOutput}
 use Rattle.rx_end.proofs.Ending.{over, shown_event}
-use Rattle.rx_end.proofs.receiver.Receiver.next.Goals as goal
+use Rattle.rx_end.proofs.receiver.Receiver.give.Goals as goal
 
 abbrev ok_out : Option Out → Result (Option Out) OutOfMemory
 ok_out o = Ok o
