@@ -7,6 +7,7 @@ A row is a folder:
     words         the words of the command line, one a line
     before/       the files that lie where it runs
     captures      captures that are made there besides: a line 'NAME SIZES..' each, as captures.py makes them
+    first         the words of a command that the program runs there first; what it leaves are then the files before
     status        the exit status
     text          what it prints, byte for byte
     after/        the files that it creates or changes, whole
@@ -62,7 +63,7 @@ class Row:
     def __init__(self, name):
         self.name, self.folder = name, os.path.join(ROWS, name)
         self.words = lines_of(self.at("words"))
-        self.needs = lines_of(self.at("needs"))
+        self.first, self.needs = lines_of(self.at("first")), lines_of(self.at("needs"))
         self.before = files_in(self.at("before"))
         for line in lines_of(self.at("captures")):
             file, *sizes = line.split()
@@ -73,6 +74,8 @@ class Row:
 
     def differences(self, program):
         try:
+            if self.first:
+                self.before = left_by(program, self.first, self.before)[3]
             status, text, error, files = left_by(program, self.words, self.before)
         except subprocess.TimeoutExpired:
             return ["it does not end in %d seconds" % SECONDS]

@@ -10,6 +10,7 @@
 #include <string.h>
 #include <sys/mman.h>
 #include <sys/types.h>
+#include <sys/uio.h>
 #include <unistd.h>
 
 enum { MALLOC, READ, WRITE, OPEN, KINDS };
@@ -22,6 +23,7 @@ static void *(*real_aligned)(size_t, size_t);
 static int (*real_memalign)(void **, size_t, size_t);
 static ssize_t (*real_read)(int, void *, size_t), (*real_write)(int, const void *, size_t);
 static ssize_t (*real_pread)(int, void *, size_t, off_t), (*real_pwrite)(int, const void *, size_t, off_t);
+static ssize_t (*real_writev)(int, const struct iovec *, int);
 static int (*real_open)(const char *, int, ...), (*real_openat)(int, const char *, int, ...);
 
 __attribute__((constructor)) static void begin(void) {
@@ -29,6 +31,7 @@ __attribute__((constructor)) static void begin(void) {
   real_aligned = dlsym(RTLD_NEXT, "aligned_alloc"), real_memalign = dlsym(RTLD_NEXT, "posix_memalign");
   real_read = dlsym(RTLD_NEXT, "read"), real_write = dlsym(RTLD_NEXT, "write");
   real_pread = dlsym(RTLD_NEXT, "pread"), real_pwrite = dlsym(RTLD_NEXT, "pwrite");
+  real_writev = dlsym(RTLD_NEXT, "writev");
   real_open = dlsym(RTLD_NEXT, "open"), real_openat = dlsym(RTLD_NEXT, "openat");
   const char *counts = getenv("FAIL_COUNTS"), *failing = getenv("FAIL_KIND"), *number = getenv("FAIL_AT");
   if (counts) {
@@ -68,6 +71,7 @@ ssize_t read(int f, void *b, size_t n) { return fails(READ) ? broken(EIO) : real
 ssize_t pread(int f, void *b, size_t n, off_t o) { return fails(READ) ? broken(EIO) : real_pread(f, b, n, o); }
 ssize_t pread64(int f, void *b, size_t n, off_t o) { return pread(f, b, n, o); }
 ssize_t write(int f, const void *b, size_t n) { return fails(WRITE) ? broken(ENOSPC) : real_write(f, b, n); }
+ssize_t writev(int f, const struct iovec *v, int n) { return fails(WRITE) ? broken(ENOSPC) : real_writev(f, v, n); }
 ssize_t pwrite(int f, const void *b, size_t n, off_t o) { return fails(WRITE) ? broken(ENOSPC) : real_pwrite(f, b, n, o); }
 ssize_t pwrite64(int f, const void *b, size_t n, off_t o) { return pwrite(f, b, n, o); }
 
