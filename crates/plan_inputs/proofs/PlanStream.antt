@@ -1,5 +1,5 @@
 -- Where files hold bytes, the packets of what is accepted are of bytes, and a plan's source has a stream.
-use Rattle.std.proofs.Common.{◌≡◌, ℕ, ◌-◌, ◌<◌, ◌≤◌, Bool, true, false, List, [], ◌∷◌, ◌++◌, length, map, refl, sym, ap, ◌∙◌, subst, arith, All, Option, Some, None, Result, Ok, Err, nat_lt, cond}
+use Rattle.std.proofs.Common.{◌≡◌, ℕ, ◌-◌, ◌<◌, Bool, true, false, List, [], ◌∷◌, ◌++◌, length, sym, ap, subst, arith, All, Option, Some, None, Result, Ok, Err, nat_lt, cond}
 use Rattle.std.proofs.lemmas.List.Elements.{All-append, All-map}
 use Rattle.lk_base.specs.Limits.{longest_packet, capture_limit}
 use Rattle.lk_base.specs.declared.word.Word.{Word}
@@ -13,8 +13,6 @@ use Rattle.link_plan.specs.Listing.{channels_in_order}
 use Rattle.link_plan.proofs.InOrder.{narrow_in_order}
 use Rattle.stream_model.specs.BurstStream.{Source, IsPacket, IsBurstStream}
 use Rattle.stream_model.proofs.SomeStream.{of_fitting}
-use Rattle.stream_model.specs.declared.rows.FlowRow.{FlowRow}
-use Rattle.stream_model.specs.declared.rows.LocalRow.{LocalRow}
 use Rattle.run_shell.specs.Reading.{Refusal, of_input, behind, bytes_by, bytes_in}
 use Rattle.run_shell.proofs.Readings.{behind_ok}
 use Rattle.plan_inputs.specs.Inputs.{Inputs, Reading, packets_by, capture_in, on_channel, packets_then, packets_in, rows_in, numbers_in, plan_in, inputs_in, with_inputs, planned_in}

@@ -1,5 +1,5 @@
 //! Plans and their inputs, read from a store in memory.
-ghost use Rattle.std.specs.Prelude.{◌≡◌, ◌<◌, ◌^◌, IfOk};
+ghost use Rattle.std.specs.Prelude.{◌≡◌, ◌<◌, ◌≤◌, ◌^◌, IfOk, length};
 
 use crate::{PlanReading, read_inputs, read_plan_file, read_plan_inputs, read_schedule_file};
 use link_plan::Schedule;
@@ -14,7 +14,10 @@ const PLAN: &str =
     "lanes,2\nmetaframe,32\nchannel,7,a\nchannel,3,b\nflow,f\nlocal,l\nschedule,s\nout,o\n";
 
 // A capture of one packet.
-fn capture_of(alloc: Global, packet: &[u8]) -> Result<Vec<u8>, OutOfMemory> {
+fn capture_of(alloc: Global, packet: &[u8]) -> Result<Vec<u8>, OutOfMemory>
+    requires least { 1 ≤ length packet.now }
+    requires most { length packet.now ≤ 262144 }
+{
     let mut capture = Vec::new(alloc);
     write_header(alloc, &mut capture, 1)?;
     write_packet(alloc, &mut capture, packet)?;
