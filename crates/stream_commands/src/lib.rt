@@ -1,0 +1,13 @@
+//! The commands that make a stream: `burst`, whose words go into a words file, and `send`, whose lanes go into lane files.
+#![tactic(auto)]
+
+mod capture;
+mod form;
+mod law;
+mod names;
+mod source;
+mod stream;
+mod text;
+mod write;
+
+pub use capture::BurstCapture;
