@@ -41,7 +41,7 @@ lane_names_differ prefix i j lt small e =
     let same : i ≡ j = decimal_injective i j low small digits in
     omega arith
 
-lanes_differ : (prefix : List ℕ) (n : ℕ) → n < 2 ^ 64 → Differ (lane_names prefix n)
+pub lanes_differ : (prefix : List ℕ) (n : ℕ) → n < 2 ^ 64 → Differ (lane_names prefix n)
 lanes_differ prefix n few i j d lt le e =
     let name = lane_name prefix in
     let len = length-map-range_with_len name 0 n in

@@ -1,8 +1,9 @@
 -- What the stream of one capture is made of, where there is no plan.
-use Rattle.std.specs.Prelude.{ℕ, List, [], ◌∷◌, map}
+use Rattle.std.specs.Prelude.{ℕ, List, [], ◌∷◌}
 use Rattle.std.proofs.Common.{refl, lit≤}
 use Rattle.lk_base.specs.declared.shape.Shape.{Shape}
 use Rattle.stream_model.specs.BurstStream.{Source}
+use Rattle.plan_inputs.specs.Inputs.{on_channel}
 
 -- bursts of up to 256 bytes, 64 bytes from one burst word to the next at least, a group of one word, and a warm-up of one
 -- group
@@ -24,10 +25,7 @@ default_shape = record {
   warmup_high = lit≤ tt;
 }
 
--- all packets are on channel 0
-abbrev pub on_channel_zero : List (List ℕ) → List (ℕ × List ℕ)
-on_channel_zero packets = map (λ (p : List ℕ). (0, p)) packets
 
--- channel 0 alone, in a calendar of the one entry 0, with no flow control
+-- all packets on channel 0, which alone is listed, in a calendar of the one entry 0, with no flow control
 abbrev pub default_source : List (List ℕ) → Source
-default_source packets = record { shape = default_shape; channels = 0 ∷ []; entries = 0 ∷ []; packets = on_channel_zero packets; flow = []; local = [] }
+default_source packets = record { shape = default_shape; channels = 0 ∷ []; entries = 0 ∷ []; packets = on_channel 0 packets; flow = []; local = [] }

@@ -21,9 +21,6 @@ abbrev pub AreWhole : StreamForm → List Word → Type 0
 AreWhole form.Words w = Unit {0}
 AreWhole (form.Lanes link) w = length w % group_of link ≡ 0
 
--- so many of the contents were given, and nothing yet of the others
-abbrev pub first_given : ℕ → List (List ℕ) → List (List ℕ)
-first_given k contents = take k contents ++ map (λ c. []) (drop k contents)
 
 -- the outputs were given the files of the stream; or, after an error, each has a part of what it was given of them
 abbrev pub Filled : StreamForm → List Word → List Open → List Open → Result (Unit {0}) Stop → Option Files → Option Files → Type 0

@@ -29,3 +29,8 @@ ContentsOf (form.Lanes link) w contents = AreLaneFiles link w contents
 abbrev pub Suits : StreamForm → Source → Type 0
 Suits form.Words source = Unit {0}
 Suits (form.Lanes link) source = source.shape.group ≡ group_of link
+
+-- the words, or the lanes of this link
+abbrev pub IsFormOf : Settings → StreamForm → Type 0
+IsFormOf settings form.Words = Unit {0}
+IsFormOf settings (form.Lanes link) = link ≡ settings

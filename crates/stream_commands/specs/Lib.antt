@@ -3,6 +3,7 @@ pub mod Default
 pub mod Stream
 pub mod Outputs
 pub mod Capture
+pub mod Plan
 pub mod Off
 -- needed by private functions and proofs alone
 pub mod Source

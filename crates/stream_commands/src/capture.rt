@@ -4,13 +4,13 @@ ghost use Rattle.lk_base.specs.Limits.{longest_packet, capture_limit};
 ghost use Rattle.stream_model.specs.BurstStream.{IsPacket};
 ghost use Rattle.pcap_files.specs.Capture.{capture_of};
 ghost use Rattle.tx_end.specs.Sources.{packets_by as sent_packets_by};
+ghost use Rattle.plan_inputs.specs.Inputs.{packets_by, on_channel};
 ghost use Rattle.run_shell.specs.Stops.{StopCount};
 ghost use Rattle.run_shell.specs.Reading.{Reads};
 ghost use Rattle.run_shell.specs.Writing.{Writes};
-ghost use Rattle.stream_commands.specs.Default.{default_source, on_channel_zero};
+ghost use Rattle.stream_commands.specs.Default.{default_source};
 ghost use Rattle.stream_commands.specs.Stream.{HasStream};
 ghost use Rattle.stream_commands.specs.Outputs.{words_name, IsWordsFile};
-ghost use Rattle.stream_commands.specs.Capture.{packets_by};
 ghost use Rattle.stream_commands.specs.Source.{AreSized};
 
 use crate::form::StreamForm;
@@ -31,7 +31,7 @@ fn on_channel_zero<'a>(
     packets: &[&'a [u8]],
 ) -> Result<Vec<Packet<'a>>, OutOfMemory>
     requires { All (λ packet. (1 ≤ length packet.now) × (length packet.now ≤ 262144)) packets.now }
-    ensures same { IfOk result (λ v. sent_packets_by v.items ≡ on_channel_zero (map (λ packet. packet.now) packets.now)) }
+    ensures same { IfOk result (λ v. sent_packets_by v.items ≡ on_channel 0 (map (λ packet. packet.now) packets.now)) }
     ensures sized { IfOk result (λ v. AreSized v.items) }
     ensures zero { IfOk result (λ v. All (λ packet. packet.channel ≡ 0) v.items) }
 {

@@ -11,3 +11,4 @@ mod text;
 mod write;
 
 pub use capture::BurstCapture;
+pub use law::{free_plan_is_not_held, never_bursts_when_off};

@@ -1,5 +1,6 @@
 //! The names of the files that are made of a stream.
 ghost use Rattle.std.specs.Prelude.{◌≡◌, IfOk, map, string_bytes};
+ghost use Rattle.run_shell.specs.Outputs.{Differ};
 ghost use Rattle.stream_commands.specs.Outputs.{words_name, lane_name, lane_names};
 ghost use Rattle.stream_commands.specs.Form.{names_by};
 
@@ -22,7 +23,8 @@ fn lane_name(alloc: Global, prefix: &str, lane: u32) -> Result<String, AllocErro
 
 // The names of the lanes' files, by number.
 fn lane_names(alloc: Global, prefix: &str, lanes: u32) -> Result<Vec<String>, AllocError>
-    ensures { IfOk result (λ v. map string_bytes v.items ≡ lane_names prefix.now lanes) }
+    ensures names { IfOk result (λ v. map string_bytes v.items ≡ lane_names prefix.now lanes) }
+    ensures differ { IfOk result (λ v. Differ (map string_bytes v.items)) }
 {
     let mut names = Vec::new(alloc);
     for lane in 0..lanes {
@@ -31,13 +33,14 @@ fn lane_names(alloc: Global, prefix: &str, lanes: u32) -> Result<Vec<String>, Al
     Ok(names)
 }
 
-/// The names of the files of this form, in order.
+/// The names of the files of this form, in order. They differ.
 pub fn output_names(
     alloc: Global,
     form: &StreamForm,
     prefix: &str,
 ) -> Result<Vec<String>, AllocError>
-    ensures { IfOk result (λ v. map string_bytes v.items ≡ names_by form.now prefix.now) }
+    ensures names { IfOk result (λ v. map string_bytes v.items ≡ names_by form.now prefix.now) }
+    ensures differ { IfOk result (λ v. Differ (map string_bytes v.items)) }
 {
     match form {
         StreamForm::Words => {
