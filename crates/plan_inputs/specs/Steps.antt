@@ -1,5 +1,5 @@
 -- What the steps of reading come to.
-use Rattle.std.specs.Prelude.{◌≡◌, ◌≢◌, ℕ, ◌≤◌, List, ◌++◌, length, sum_by, Result, Ok, Err, string_bytes}
+use Rattle.std.specs.Prelude.{◌≡◌, ◌≢◌, ℕ, ◌≤◌, List, ◌++◌, length, sum_by, Result, Ok, Err}
 use Rattle.lk_outside.specs.Files.{Files}
 use Rattle.pcap_files.specs.Capture.{capture_of}
 use Rattle.link_plan.specs.declared.error.PlanError.{PlanError}
@@ -7,8 +7,8 @@ use Rattle.link_plan.specs.declared.error.PlanError.TheVariants as refusal
 use Rattle.link_reports.specs.declared.faults.InputError.TheVariants.{Rows}
 use Rattle.run_shell.specs.declared.stop.Stop.{Stop}
 use Rattle.run_shell.specs.declared.stop.Stop.TheVariants as stop
-use Rattle.run_shell.specs.Reading.{Refusal, of_plan, of_input, behind, bytes_in, IsOfInput}
-use Rattle.plan_inputs.specs.Inputs.{packets_by, on_channel}
+use Rattle.run_shell.specs.Reading.{bytes_in, Reads, IsOfInput}
+use Rattle.plan_inputs.specs.Inputs.{capture_at, on_channel}
 use Rattle.plan_inputs.specs.Values.{packet_values}
 use Rattle.plan_inputs.specs.declared.packet.ChannelPacket.{ChannelPacket}
 
@@ -26,11 +26,7 @@ pub record IsRowsStop (name : List ℕ) (why : PlanError) (s : Stop) : Type 0 wh
 abbrev pub AddsCapture : Files → List ℕ → ℕ → ℕ → ℕ → Result ℕ Stop → List ChannelPacket → List ChannelPacket → Type 0
 AddsCapture files name room most channel (Ok size) old new =
     (bytes : List ℕ) × (packets : List (List ℕ)) × (bytes_in files name room ≡ Ok bytes) × (capture_of bytes most ≡ Ok packets) × (size ≡ length bytes) × (packet_values new ≡ packet_values old ++ on_channel channel packets)
-AddsCapture files name room most channel (Err (stop.Plan why)) old new = behind (bytes_in files name room) (λ bytes. packets_by name (capture_of bytes most)) ≡ Err (of_plan why)
-AddsCapture files name room most channel (Err (stop.Input n why)) old new = behind (bytes_in files name room) (λ bytes. packets_by name (capture_of bytes most)) ≡ Err (of_input (string_bytes n) why)
-AddsCapture files name room most channel (Err (stop.Store n)) old new = string_bytes n ≡ name
-AddsCapture files name room most channel (Err stop.StoreNoMemory) old new = Unit {0}
-AddsCapture files name room most channel (Err stop.OutOfMemory) old new = Unit {0}
+AddsCapture files name room most channel (Err s) old new = Reads {T = List (List ℕ)} (λ packets. packets) (λ n. n ≡ name) (Err s) (capture_at files name room most)
 
 -- packets were added behind those before, of so many bytes at most
 abbrev pub AddsSome : ℕ → ℕ → List ChannelPacket → List ChannelPacket → Type 0

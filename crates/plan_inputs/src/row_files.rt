@@ -98,6 +98,7 @@ fn quiet_schedule(alloc: Global, lanes: u32) -> Result<Schedule, OutOfMemory>
 /// The schedule that the plan names; where it names none, nothing happens to the lanes. It is refused exactly where it is
 /// absent, has more than 16,777,216 bytes, or its rows are refused, but for faults of the store and want of memory. The
 /// files are as they were.
+#[tactic(auto, unfolding(crate::specs::Inputs::schedule_in))]
 pub fn read_schedule_file<S: Store>(
     alloc: Global,
     store: &mut S,
