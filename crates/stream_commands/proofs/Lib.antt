@@ -6,3 +6,5 @@ pub mod Counted
 pub mod OutputNames
 pub mod PartsOfStreams
 pub mod CaptureWork
+pub mod PlanWork
+pub mod PlanSource

@@ -1,5 +1,5 @@
 -- What stands of a stream's files while they are filled.
-use Rattle.std.proofs.Common.{◌≡◌, ℕ, zero, suc, ◌<◌, ◌≤◌, ◌+◌, ◌-◌, List, [], ◌∷◌, ◌++◌, length, map, take, drop, refl, sym, ap, ◌∙◌, subst, arith, Option, Some, None, Result, Ok, Err, Contains, append-nil}
+use Rattle.std.proofs.Common.{◌≡◌, ℕ, zero, suc, ◌<◌, ◌≤◌, ◌+◌, ◌-◌, List, [], ◌∷◌, ◌++◌, length, map, take, drop, refl, sym, ap, ◌∙◌, subst, arith, Option, Some, None, Result, Ok, Err, Contains, append-nil, append_assoc}
 use Rattle.std.specs.Prelude.{set, get_or}
 use Rattle.std.specs.List.{flat_map, range_with_len}
 use Rattle.std.proofs.lemmas.List.{take-append-drop, length-map}
@@ -14,8 +14,9 @@ use Rattle.run_shell.specs.declared.stop.Finished.{Finished}
 use Rattle.run_shell.specs.Outcome.{Output, Outcome, Holds, HoldsPart}
 use Rattle.run_shell.specs.Stops.{StoreStops, held_status}
 use Rattle.run_shell.specs.Open.{Open}
-use Rattle.run_shell.specs.Outputs.{outs, blank, Prefixes, open_names, IsOpen, Closed}
+use Rattle.run_shell.specs.Outputs.{outs, blank, Prefixes, open_names, IsOpen, Grown, Closed}
 use Rattle.run_shell.specs.Writing.{Writes, Begin}
+use Rattle.tx_end.proofs.Shapes.{whole_groups}
 use Rattle.run_shell.proofs.Moves.{told_by}
 use Rattle.run_shell.proofs.Fills.{prefix_part, part_more, blank_prefixes, given_prefixes}
 use Rattle.run_shell.proofs.Writing.{stop_writes, none_writes, open_writes, done_writes}
@@ -23,8 +24,8 @@ use Rattle.stream_commands.specs.declared.form.StreamForm.{StreamForm}
 use Rattle.stream_commands.specs.declared.form.StreamForm.TheVariants as form
 use Rattle.stream_commands.specs.declared.stream.PayloadStream.{PayloadStream}
 use Rattle.stream_commands.specs.Stream.{IsOfStream, HasStream}
-use Rattle.stream_commands.specs.Form.{made_by, names_by, ContentsOf}
-use Rattle.stream_commands.specs.Fill.{count_by, Filled}
+use Rattle.stream_commands.specs.Form.{made_by, names_by, ContentsOf, Suits}
+use Rattle.stream_commands.specs.Fill.{count_by, AreWhole, Filled}
 use Rattle.stream_commands.specs.Text.{IsStreamOf}
 use Rattle.stream_commands.proofs.OneOutcome.{stream_is}
 use Rattle.stream_commands.proofs.LaneContents.{one_contents}
@@ -50,7 +51,7 @@ same_prefixes (c ∷ cs) = (([], sym (append-nil c)), same_prefixes cs)
 
 words_together : (v w : List Word) → words_file (v ++ w) ≡ words_file v ++ words_file w
 words_together [] w = refl
-words_together (x ∷ v) w = search
+words_together (x ∷ v) w = ap (λ bs. word_bytes x ++ bs) (words_together v w) ∙ sym (append_assoc (word_bytes x) (words_file v) (words_file w))
 
 -- the bytes of the next words come behind those of the words before
 pub words_more : (words : List Word) (d e : ℕ) → d ≤ e → words_file (take d words) ++ words_file (take (e - d) (drop d words)) ≡ words_file (take e words)
@@ -61,32 +62,43 @@ words_more words d e le =
 pub first_words : (words : List Word) (d : ℕ) → Prefixes (words_file (take d words) ∷ []) (words_file words ∷ [])
 first_words words d = ((words_file (drop d words), sym (ap words_file (take-append-drop d words)) ∙ words_together (take d words) (drop d words)), tt)
 
+-- the next bytes are given
+pub words_given : (words : List Word) (d e : ℕ) (bytes : List ℕ) → d ≤ e → bytes ≡ words_file (take (e - d) (drop d words)) → set (words_file (take d words) ∷ []) 0 (get_or (words_file (take d words) ∷ []) 0 [] ++ bytes) ≡ words_file (take e words) ∷ []
+words_given words d e bytes le is = ap (λ b. (words_file (take d words) ++ b) ∷ []) is ∙ ap (λ c. c ∷ []) (words_more words d e le)
+
 -- ---- the lanes of a stream
 
--- so many of the contents were given, and nothing yet of the others
-abbrev pub first_given : ℕ → List (List ℕ) → List (List ℕ)
-first_given k contents = take k contents ++ map (λ c. []) (drop k contents)
+-- nothing in each of as many
+abbrev pub none_of : {X : Type 0} → List X → List (List ℕ)
+none_of xs = map (λ x. []) xs
 
-pub first_prefixes : (k : ℕ) (contents : List (List ℕ)) → Prefixes (first_given k contents) contents
-first_prefixes zero [] = tt
-first_prefixes zero (c ∷ cs) = ((c, refl), first_prefixes zero cs)
-first_prefixes (suc k) [] = tt
-first_prefixes (suc k) (c ∷ cs) = (([], sym (append-nil c)), first_prefixes k cs)
+pub none_alike : {X Y : Type 0} (xs : List X) (ys : List Y) → length xs ≡ length ys → none_of xs ≡ none_of ys
+none_alike [] [] e = refl
+none_alike [] (y ∷ ys) e = absurd (omega arith)
+none_alike (x ∷ xs) [] e = absurd (omega arith)
+none_alike (x ∷ xs) (y ∷ ys) e = ap (λ zs. [] ∷ zs) (none_alike xs ys (omega arith))
+
+-- the outputs of these were given them, and nothing yet those behind
+abbrev pub first_given : {X : Type 0} → (X → List ℕ) → List X → List X → List (List ℕ)
+first_given bytes done rest = map bytes done ++ none_of rest
+
+pub first_prefixes : {X : Type 0} (bytes : X → List ℕ) (done rest : List X) → Prefixes (first_given bytes done rest) (map bytes (done ++ rest))
+first_prefixes bytes [] [] = tt
+first_prefixes bytes [] (x ∷ rest) = ((bytes x, refl), first_prefixes bytes [] rest)
+first_prefixes bytes (x ∷ done) rest = (([], sym (append-nil (bytes x))), first_prefixes bytes done rest)
 
 -- one more was given
-pub one_more_given : (k : ℕ) (contents : List (List ℕ)) → k < length contents → set (first_given k contents) k (get_or (first_given k contents) k [] ++ get_or contents k []) ≡ first_given (suc k) contents
-one_more_given k [] lt = absurd (omega arith)
-one_more_given zero (c ∷ cs) lt = refl
-one_more_given (suc k) (c ∷ cs) lt = ap (λ xs. c ∷ xs) (one_more_given k cs (omega arith))
+pub one_more_given : {X : Type 0} (bytes : X → List ℕ) (done rest : List X) (x : X) → set (first_given bytes done (x ∷ rest)) (length done) (get_or (first_given bytes done (x ∷ rest)) (length done) [] ++ bytes x) ≡ first_given bytes (done ++ x ∷ []) rest
+one_more_given bytes [] rest x = refl
+one_more_given bytes (y ∷ done) rest x = ap (λ zs. bytes y ∷ zs) (one_more_given bytes done rest x)
 
-pub none_given : (contents : List (List ℕ)) → map (λ (c : List ℕ). []) contents ≡ first_given 0 contents
-none_given contents = refl
-
-pub all_given : (k : ℕ) (contents : List (List ℕ)) → length contents ≤ k → first_given k contents ≡ contents
-all_given zero [] le = refl
-all_given zero (c ∷ cs) le = absurd (omega arith)
-all_given (suc k) [] le = refl
-all_given (suc k) (c ∷ cs) le = ap (λ xs. c ∷ xs) (all_given k cs (omega arith))
+-- the next output is given the bytes of its lane
+pub lane_given : {X : Type 0} (bytes : X → List ℕ) (done rest left : List X) (x : X) (place : ℕ) (lent : List ℕ) → rest ≡ x ∷ left → place ≡ length done → lent ≡ bytes x → set (first_given bytes done rest) place (get_or (first_given bytes done rest) place [] ++ lent) ≡ first_given bytes (done ++ x ∷ []) left
+lane_given bytes done rest left x place lent e p is =
+    ap (λ (xs : List _). set (first_given bytes done xs) place (get_or (first_given bytes done xs) place [] ++ lent)) e
+    ∙ ap (λ (n : ℕ). set (first_given bytes done (x ∷ left)) n (get_or (first_given bytes done (x ∷ left)) n [] ++ lent)) p
+    ∙ ap (λ (b : List ℕ). set (first_given bytes done (x ∷ left)) (length done) (get_or (first_given bytes done (x ∷ left)) (length done) [] ++ b)) is
+    ∙ one_more_given bytes done left x
 
 -- ---- files of a form
 
@@ -107,6 +119,28 @@ files_are (form.Lanes link) prefix w files h = h
 pub are_files : (f : StreamForm) (prefix : List ℕ) (w : List Word) (contents : List (List ℕ)) → ContentsOf f w contents → made_by f prefix w (outs (names_by f prefix) contents)
 are_files form.Words prefix w contents h = ap (outs (names_by form.Words prefix)) h
 are_files (form.Lanes link) prefix w contents h = (contents, h, refl)
+
+-- outputs that were given all of it
+pub all_given : (f : StreamForm) (w : List Word) (contents : List (List ℕ)) (old new : List Open) (r : Result (Unit {0}) Stop) (was now : Option Files) → ContentsOf f w contents → Grown old new contents r was now → Filled f w old new r was now
+all_given f w contents old new (Ok done) was now are g = (contents, are, g)
+all_given f w contents old new (Err s) was now are g = (contents, (λ others of. subst (Prefixes contents) (one_of_form f w contents others are of) (same_prefixes contents)), g)
+
+-- outputs that were given nothing
+pub none_filled : (f : StreamForm) (w : List Word) (opens : List Open) (s : Stop) (was now : Option Files) → length opens ≡ count_by f → IsOpen opens (blank (open_names opens)) was now → Filled f w opens opens (Err s) was now
+none_filled f w opens s was now many o = (
+  blank (open_names opens),
+  (λ contents are. blank_prefixes (open_names opens) contents (as_many f w contents are ∙ sym many ∙ sym (length-map opens (λ (x : Open). x.name)))),
+  open_part opens (blank (open_names opens)) (blank (open_names opens)) was now (same_prefixes (blank (open_names opens))) o,
+)
+
+-- nothing in as many outputs as there are of these
+pub blank_alike : {X : Type 0} (opens : List Open) (xs : List X) → length opens ≡ length xs → blank (open_names opens) ≡ none_of xs
+blank_alike opens xs e = none_alike (open_names opens) xs (length-map opens (λ (x : Open). x.name) ∙ e)
+
+-- a stream is whole groups
+pub whole_by : (f : StreamForm) (source : Source) (w : List Word) → Suits f source → IsBurstStream source w → AreWhole f w
+whole_by form.Words source w suits stream = tt
+whole_by (form.Lanes link) source w suits stream = whole_groups source w _ stream suits
 
 module _ (f : StreamForm) (prefix : List ℕ) (source : Source) where
   abbrev names : List (List ℕ)

@@ -45,9 +45,9 @@ is_held source w stream = by (is_left source (take stream.finish.0 w) source.cha
 module _ (made : List Word → List Output → Type 0) where
   outcome_by : (source : Source) (w : List Word) → IsBurstStream source w → (files : List Output) → made w files → IsHeld source w ⊎ (IsHeld source w → ⊥) → (o : Outcome) × HasStream made source o
   outcome_by source w stream files are (inl h) =
-      let (channel, on) = held_channel source w h in (
+      let (channel, z, finish, least) = held_channel source w h in (
         record { status = Held; files = files; text = stream_text source w ++ held_line channel },
-        (w, record { stream = stream; status = inl (refl, h); files = are; text = inl (channel, (on.0, on.1.0, on.1.1), refl) }),
+        (w, record { stream = stream; status = inl (refl, h); files = are; text = inl (channel, (z, finish, least), refl) }),
       )
   outcome_by source w stream files are (inr h) = (
     record { status = Done; files = files; text = stream_text source w },

@@ -5,6 +5,7 @@ mod capture;
 mod form;
 mod law;
 mod names;
+mod plan;
 mod source;
 mod stream;
 mod text;
@@ -12,3 +13,4 @@ mod write;
 
 pub use capture::BurstCapture;
 pub use law::{free_plan_is_not_held, never_bursts_when_off};
+pub use plan::{BurstPlan, SendPlan};
