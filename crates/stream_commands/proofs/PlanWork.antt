@@ -22,7 +22,7 @@ use Rattle.stream_commands.specs.declared.form.StreamForm.TheVariants as form
 use Rattle.stream_commands.specs.Stream.{IsOfStream, HasStream}
 use Rattle.stream_commands.specs.Outputs.{words_name, IsWordsFile, AreLaneOutputs}
 use Rattle.stream_commands.specs.Plan.{IsOfPlan, HasPlanStream, IsPlanHeld, burst_plan_work, burst_plan_meaning, send_plan_work, send_plan_meaning}
-use Rattle.stream_commands.specs.Form.{Suits, IsFormOf}
+use Rattle.stream_commands.specs.Form.{made_by, names_by, Suits, IsFormOf}
 use Rattle.stream_commands.proofs.OneOutcome.{one_outcome, status_cases}
 use Rattle.stream_commands.proofs.SomeOutcome.{some_outcome}
 use Rattle.stream_commands.proofs.LaneContents.{one_list, some_list}
@@ -89,3 +89,10 @@ writes_alike P Q names r x y to back h = record { fills = by r h.fills; others =
 pub suits_by : (settings : Settings) (f : StreamForm) (source : Source) → IsFormOf settings f → source.shape.group ≡ group_of settings → Suits f source
 suits_by settings form.Words source is e = tt
 suits_by settings (form.Lanes link) source is e = e ∙ sym (ap group_of is)
+
+-- what is written of the source of a plan and its inputs
+pub writes_plan : (f : StreamForm) (out prefix : List ℕ) (i : Reading) (source : Source) (r : Result Finished Stop) (x y : Option Files) → IsSourceOf i.plan i.inputs source → prefix ≡ out
+    → Writes (HasStream (made_by f prefix) source) (names_by f prefix) r x y → Writes (HasPlanStream (made_by f out) i) (names_by f out) r x y
+writes_plan f out prefix i source r x y is same h =
+    writes_alike (HasStream (made_by f out) source) (HasPlanStream (made_by f out) i) (names_by f out) r x y (of_source (made_by f out) i source is) (to_source (made_by f out) i source is)
+    (subst (λ (n : List ℕ). Writes (HasStream (made_by f n) source) (names_by f n) r x y) same h)

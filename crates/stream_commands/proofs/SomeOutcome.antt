@@ -39,8 +39,8 @@ pub is_held : (source : Source) (w : List Word) → IsBurstStream source w → I
 is_held source w stream = by (is_left source (take stream.finish.0 w) source.channels)
   where
     by : OneLeft source (take stream.finish.0 w) source.channels ⊎ (OneLeft source (take stream.finish.0 w) source.channels → ⊥) → IsHeld source w ⊎ (IsHeld source w → ⊥)
-    by (inl h) = inl (stream.finish.0, stream.finish.1.0, h)
-    by (inr out) = inr (λ (z, finish, left). out (subst (λ (n : ℕ). HasAnyLeft source (take n w)) (one_least (IsEnding source w) z stream.finish.0 finish stream.finish.1.0) left))
+    by (inl h) = inl (stream.finish.0, stream.finish.1, h)
+    by (inr out) = inr (λ (z, finish, left). out (subst (λ (n : ℕ). HasAnyLeft source (take n w)) (one_least (IsEnding source w) z stream.finish.0 finish stream.finish.1) left))
 
 module _ (made : List Word → List Output → Type 0) where
   outcome_by : (source : Source) (w : List Word) → IsBurstStream source w → (files : List Output) → made w files → IsHeld source w ⊎ (IsHeld source w → ⊥) → (o : Outcome) × HasStream made source o

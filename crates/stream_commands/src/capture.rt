@@ -1,5 +1,5 @@
 //! `burst FILE`: the packets of a capture become the words file of their stream.
-ghost use Rattle.std.specs.Prelude.{◌≡◌, ◌<◌, ◌^◌, ◌≤◌, [], ◌∷◌, map, length, sum_by, All, IfOk};
+ghost use Rattle.std.specs.Prelude.{◌≡◌, ℕ, ◌<◌, ◌^◌, ◌≤◌, [], ◌∷◌, map, length, sum_by, All, IfOk};
 ghost use Rattle.lk_base.specs.Limits.{longest_packet};
 ghost use Rattle.pcap_files.specs.Capture.{capture_of};
 ghost use Rattle.tx_end.specs.Sources.{packets_by as sent_packets_by};
@@ -48,6 +48,7 @@ fn accept_capture<'a>(
     bytes: &'a [u8],
 ) -> Result<Vec<&'a [u8]>, Stop>
     ensures reads { Reads (λ v. map (λ packet. packet.now) v.items) (λ _. ⊥) result (packets_by name.now (capture_of bytes.now longest_packet)) }
+    ensures calm { (count : ℕ) → StopCount result count count }
     ensures sized { IfOk result (λ v. All (λ packet. (1 ≤ length packet.now) × (length packet.now ≤ 262144)) v.items) }
     ensures total { IfOk result (λ v. sum_by (λ packet. length packet.now) v.items ≤ length bytes.now) }
 {

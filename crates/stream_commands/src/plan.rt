@@ -7,12 +7,13 @@ ghost use Rattle.run_shell.specs.Stops.{StopCount};
 ghost use Rattle.run_shell.specs.Writing.{Writes};
 ghost use Rattle.stream_commands.specs.Plan.{HasPlanStream};
 ghost use Rattle.stream_commands.specs.Source.{AreSized};
+ghost use Rattle.stream_commands.specs.declared.form.StreamForm.TheVariants as StreamForm;
 ghost use Rattle.stream_commands.specs.Form.{made_by, names_by, IsFormOf};
 
 use crate::form::StreamForm;
 use crate::source::StreamSource;
 use crate::write::write_stream;
-use link_plan::channels_in_order;
+use link_plan::{Plan, channels_in_order};
 use lk_base::OutOfMemory;
 use lk_outside::Store;
 use plan_inputs::{ChannelPacket, PlanReading, read_plan_inputs};
@@ -37,6 +38,13 @@ fn lent<'a>(
         })?;
     }
     Ok(lent)
+}
+
+// The lanes of the plan's link.
+fn lanes_form(plan: &Plan) -> StreamForm
+    ensures { result ≡ StreamForm.Lanes plan.now.link }
+{
+    StreamForm::Lanes(plan.link)
 }
 
 // The files of this form of the stream of a plan and its inputs.
@@ -131,7 +139,7 @@ impl Command for SendPlan<'_> {
 
     fn obey<S: Store>(&self, alloc: Global, store: &mut S) -> Result<Finished, Stop> {
         let reading = read_plan_inputs(alloc, store, self.file)?;
-        let form = StreamForm::Lanes(reading.plan.link);
+        let form = lanes_form(&reading.plan);
         write_plan(alloc, store, &reading, &form)
     }
 }

@@ -3,7 +3,7 @@ use Rattle.std.proofs.lemmas.Result.{err_from_is_err_and}
 use Rattle.lk_outside.specs.Files.{Told}
 use Rattle.run_shell.specs.Outcome.{LeavesOthers}
 use Rattle.run_shell.specs.Writing.{Writes}
-use Rattle.run_shell.specs.Stops.{Comes}
+use Rattle.run_shell.specs.Stops.{StopCount, Comes}
 use Rattle.run_shell.proofs.Writing.{writes_comes, writes_leaves}
 use Rattle.stream_commands.specs.Default.{default_source}
 use Rattle.stream_commands.specs.Stream.{HasStream}
@@ -52,3 +52,9 @@ returns-clause-others g c =
     (writes_leaves (burst_capture_work name) packets (words_name name ∷ []) (λ q h. one_name (words_name name) q h) c.burst_packets.result _ _ _ c.in_ok-bytes.ensures.unchanged
     (capture_reads name c.in_ok-bytes.bytes.items _ (Ok c.in_ok-packets.packets) _ c.deref.ensures.value c.in_ok-bytes.ensures.reads c.in_ok-packets.ensures.reads)
     (subst (λ (xs : List (Bor (List ℕ))). Writes (HasStream (IsWordsFile name) (default_source (map (λ (p : Bor (List ℕ)). p.now) xs))) (words_name name ∷ []) c.burst_packets.result (g.S.Store.files c.read_input.new.store) (g.S.Store.files c.burst_packets.new.store)) c.deref-2.ensures.value c.burst_packets.ensures.writes))
+
+pub returns-in_err-packets-clause-cause : goal.returns-in_err-packets-clause-cause
+returns-in_err-packets-clause-cause g c =
+    let r = c.from_residual-in_err-packets in
+    let p = err_from_is_err_and r.result r.ensures.1 in
+    rw (p.1, p.2) (subst (λ (n : ℕ). StopCount {T = Unit {0}} (Err c.in_err-packets.field-0.0) (g.S.Store.faults c.args.store.now) n) (sym c.in_ok-bytes.ensures.cause) (c.in_err-packets.ensures.calm (g.S.Store.faults c.args.store.now)))

@@ -2,6 +2,7 @@ use Rattle.std.proofs.Common.{◌≡◌, refl, subst, List, ℕ, IfSome, Ok, Err
 use Rattle.std.proofs.lemmas.Result.{err_from_is_err_and}
 use Rattle.lk_outside.specs.Files.{Told}
 use Rattle.run_shell.specs.Outcome.{LeavesOthers}
+use Rattle.run_shell.specs.Writing.{Writes}
 use Rattle.run_shell.specs.Stops.{Comes}
 use Rattle.run_shell.proofs.Writing.{writes_comes, writes_leaves}
 use Rattle.run_shell.proofs.Readings.{reading_ends}
@@ -9,7 +10,9 @@ use Rattle.plan_inputs.specs.Inputs.{IsRead}
 use Rattle.plan_inputs.specs.Values.{reading_value}
 use Rattle.plan_inputs.specs.declared.inputs.PlanReading.{PlanReading}
 use Rattle.stream_commands.specs.Outputs.{lane_names}
-use Rattle.stream_commands.specs.Plan.{send_plan_work, send_plan_meaning}
+use Rattle.stream_commands.specs.declared.form.StreamForm.{StreamForm}
+use Rattle.stream_commands.specs.Plan.{HasPlanStream, send_plan_work, send_plan_meaning}
+use Rattle.stream_commands.specs.Form.{made_by, names_by}
 use Rattle.stream_commands.proofs.OutputNames.{numbered_name}
 use Rattle.stream_commands.proofs.PlanWork.{send_means}
 use Rattle.stream_commands.proofs.plan.SendPlanCommand.obey.Goals as goal
@@ -32,7 +35,8 @@ returns-clause-comes g c =
     let out = string_bytes c.in_ok-reading.reading.plan.out in
     let lanes = c.in_ok-reading.reading.plan.link.lanes in
     subst (λ (n : List ℕ). IfSome (g.S.Store.files c.args.store.now) (Comes (send_plan_meaning n) (g.S.Store.files c.args.store.now) (g.S.Store.files c.write_plan.new.store) c.write_plan.result)) c.self.view_is
-    (writes_comes (send_plan_work name) (reading_value c.in_ok-reading.reading) (lane_names out lanes) (λ q h. numbered_name out lanes q h) c.write_plan.result _ _ _ c.in_ok-reading.ensures.unchanged c.in_ok-reading.ensures.reads c.write_plan.ensures.writes)
+    (writes_comes (send_plan_work name) (reading_value c.in_ok-reading.reading) (lane_names out lanes) (λ q h. numbered_name out lanes q h) c.write_plan.result _ _ _ c.in_ok-reading.ensures.unchanged c.in_ok-reading.ensures.reads
+    (subst (λ (f : StreamForm). Writes (HasPlanStream (made_by f out) (reading_value c.in_ok-reading.reading)) (names_by f out) c.write_plan.result (g.S.Store.files c.read_plan_inputs.new.store) (g.S.Store.files c.write_plan.new.store)) c.lanes_form-form.ensures c.write_plan.ensures.writes))
 
 pub returns-clause-others : goal.returns-clause-others
 returns-clause-others g c =
@@ -40,4 +44,5 @@ returns-clause-others g c =
     let out = string_bytes c.in_ok-reading.reading.plan.out in
     let lanes = c.in_ok-reading.reading.plan.link.lanes in
     subst (λ (n : List ℕ). Told (g.S.Store.files c.args.store.now) (g.S.Store.files c.write_plan.new.store) (LeavesOthers (send_plan_meaning n).Creates)) c.self.view_is
-    (writes_leaves (send_plan_work name) (reading_value c.in_ok-reading.reading) (lane_names out lanes) (λ q h. numbered_name out lanes q h) c.write_plan.result _ _ _ c.in_ok-reading.ensures.unchanged c.in_ok-reading.ensures.reads c.write_plan.ensures.writes)
+    (writes_leaves (send_plan_work name) (reading_value c.in_ok-reading.reading) (lane_names out lanes) (λ q h. numbered_name out lanes q h) c.write_plan.result _ _ _ c.in_ok-reading.ensures.unchanged c.in_ok-reading.ensures.reads
+    (subst (λ (f : StreamForm). Writes (HasPlanStream (made_by f out) (reading_value c.in_ok-reading.reading)) (names_by f out) c.write_plan.result (g.S.Store.files c.read_plan_inputs.new.store) (g.S.Store.files c.write_plan.new.store)) c.lanes_form-form.ensures c.write_plan.ensures.writes))
