@@ -65,6 +65,13 @@ open_lane r finished fed_of i k lt e =
     let many = ap length k.flags_are in
     those.1 ∙ unfinished_at i k.fed (omega (arith, lt, same, many)) (ap (λ (bs : List Bool). get_or bs i false) k.flags_are ∙ e)
 
+pub lane_there : (r : State) (finished : List Bool) (fed_of : List ℕ) (i : ℕ) → Runs r finished fed_of → i < length finished → i < length r.lanes
+lane_there r finished fed_of i k lt =
+    let many = (lanes_are_those r k.settings k.setting k.fed k.given i k.stands).0 in
+    let same = length-map k.fed (λ (lane : Fed). lane.finished) in
+    let flagged = ap length k.flags_are in
+    omega (arith, lt, many, same, flagged)
+
 pub count_lane : (r : State) (finished : List Bool) (fed_of : List ℕ) (i : ℕ) → Runs r finished fed_of → count_at i r.lanes ≡ get_or fed_of i 0
 count_lane r finished fed_of i k =
     let those = lanes_are_those r k.settings k.setting k.fed k.given i k.stands in

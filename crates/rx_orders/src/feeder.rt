@@ -5,7 +5,7 @@ ghost use Rattle.rx_orders.specs.Runs.{Runs};
 use crate::given::Given;
 use link_plan::Plan;
 use lk_base::OutOfMemory;
-use rx_end::{Receiver, RxEvent};
+use rx_end::{LaneReport, Receiver, RxEvent};
 use std::alloc::Global;
 
 // No lane has more bytes.
@@ -70,14 +70,26 @@ impl Feeder {
             return;
         }
         let rest = bytes.len() - at;
-        let piece = &bytes[at..at + rest.min(most)];
-        if at < MOST && piece.len() < MOST {
-            self.feed(lane, piece);
-        }
+        let _count = self.offer(lane, &bytes[at..at + rest.min(most)]);
     }
 
-    // Feeds a lane that is not finished.
-    fn feed(&mut self, lane: u32, piece: &[u8])
+    /// Feeds a lane with these bytes, and tells how many it took; none where it is finished.
+    pub fn offer(&mut self, lane: u32, piece: &[u8]) -> usize
+        requires { Runs self.old.receiver self.old.finished.items self.old.fed.items }
+        ensures { Runs self.new.receiver self.new.finished.items self.new.fed.items }
+    {
+        let i = lane as usize;
+        if i >= self.finished.len() || i >= self.fed.len() || self.finished[i] {
+            return 0;
+        }
+        if self.fed[i] >= MOST || piece.len() >= MOST {
+            return 0;
+        }
+        self.feed(lane, piece)
+    }
+
+    // Feeds a lane that is not finished, and tells how many bytes it took.
+    fn feed(&mut self, lane: u32, piece: &[u8]) -> usize
         requires runs { Runs self.old.receiver self.old.finished.items self.old.fed.items }
         requires within { lane < length self.old.finished.items }
         requires counted { lane < length self.old.fed.items }
@@ -87,6 +99,7 @@ impl Feeder {
     {
         let count = self.receiver.feed(lane, piece);
         self.fed[lane as usize] += count;
+        count
     }
 
     // Finishes a lane that is not finished.
@@ -114,6 +127,27 @@ impl Feeder {
             Err(error) => Err(error),
         }
     }
+}
+
+/// The reports of all lanes.
+pub fn reports(alloc: Global, feeder: &Feeder) -> Result<Vec<LaneReport>, OutOfMemory>
+    requires { Runs feeder.now.receiver feeder.now.finished.items feeder.now.fed.items }
+{
+    let mut reports = Vec::new(alloc);
+    for lane in 0..feeder.finished.len() {
+        if lane < 64 {
+            reports.push(report(feeder, lane as u32))?;
+        }
+    }
+    Ok(reports)
+}
+
+// The report of a lane.
+fn report(feeder: &Feeder, lane: u32) -> LaneReport
+    requires runs { Runs feeder.now.receiver feeder.now.finished.items feeder.now.fed.items }
+    requires within { lane < length feeder.now.finished.items }
+{
+    feeder.receiver.lane_report(lane)
 }
 
 // A sum of the first 64 bytes of the packet that was given; 0 of another event.

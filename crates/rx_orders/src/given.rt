@@ -1,4 +1,4 @@
-use rx_end::RxEvent;
+use rx_end::{LaneReport, RxEvent};
 use std::io;
 
 /// An event, and the sum of the first bytes of its packet.
@@ -56,4 +56,20 @@ pub fn print(rt: &HostRuntime, orders: u64, given: &[Given]) -> io::Result<()> {
         c.packets, c.drops, c.spans
     )?;
     println!(rt; "verified words {}, ends {}", c.flows, c.ends)
+}
+
+/// Prints the reports of lanes.
+pub fn print_reports(rt: &HostRuntime, reports: &[LaneReport]) -> io::Result<()> {
+    for r in reports {
+        let first = r.first.unwrap_or(0);
+        println!(rt;
+            "locks {}, first {first}, lost {}, unframed {}",
+            r.locks, r.lost, r.unframed
+        )?;
+        println!(rt;
+            "bad {}, sync {}, state {}, diag {}",
+            r.bad, r.sync, r.state, r.diag
+        )?;
+    }
+    Ok(())
 }

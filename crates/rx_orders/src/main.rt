@@ -7,12 +7,12 @@ mod given;
 mod hex;
 mod orders;
 mod random;
+mod ring;
 
-use given::Given;
 use hex::bytes_of;
 use link_plan::{Plan, read_plan};
 use lk_base::OutOfMemory;
-use orders::one_order;
+use orders::{Order, one_order};
 use std::alloc::Global;
 use std::io;
 
@@ -39,11 +39,7 @@ fn plan(alloc: Global) -> Option<Plan> {
 }
 
 // What each order gave, where all gave the same.
-fn all_orders(
-    alloc: Global,
-    plan: &Plan,
-    lanes: &[Vec<u8>],
-) -> Result<Option<Vec<Given>>, OutOfMemory> {
+fn all_orders(alloc: Global, plan: &Plan, lanes: &[Vec<u8>]) -> Result<Option<Order>, OutOfMemory> {
     let first = one_order(alloc, plan, lanes, 0)?;
     for number in 1..ORDERS {
         if one_order(alloc, plan, lanes, number)? != first {
@@ -58,8 +54,15 @@ fn main(rt: HostRuntime) -> io::Result<()> {
     let Some(plan) = plan(rt.alloc()) else {
         return println!(rt; "no plan");
     };
+    match ring::taken(rt.alloc(), &plan, lanes.as_slice()) {
+        Ok(taken) => println!(rt; "a ring of 4096 bytes takes {taken:?}")?,
+        Err(_) => println!(rt; "no memory")?,
+    }
     match all_orders(rt.alloc(), &plan, lanes.as_slice()) {
-        Ok(Some(given)) => given::print(&rt, ORDERS, given.as_slice()),
+        Ok(Some(order)) => {
+            given::print(&rt, ORDERS, order.given.as_slice())?;
+            given::print_reports(&rt, order.reports.as_slice())
+        }
         Ok(None) => println!(rt; "another order gave other events"),
         Err(_) => println!(rt; "no memory"),
     }

@@ -1,12 +1,12 @@
 ghost use Rattle.std.specs.Prelude.{OnOk};
 ghost use Rattle.rx_orders.specs.Runs.{Runs};
 
-use crate::feeder::Feeder;
+use crate::feeder::{Feeder, reports};
 use crate::given::Given;
 use crate::random::Random;
 use link_plan::Plan;
 use lk_base::OutOfMemory;
-use rx_end::RxEvent;
+use rx_end::{LaneReport, RxEvent};
 use std::alloc::Global;
 
 // No order has more turns, and no turn gives more events.
@@ -34,8 +34,8 @@ fn turn(feeder: &mut Feeder, lanes: &[Vec<u8>], number: u64, random: &mut Random
     feeder.turn(lane as u32, lanes[lane as usize].as_slice(), most);
 }
 
-// Takes all events that the receiver has to give, and tells whether the end is among them.
-fn take(feeder: &mut Feeder, given: &mut Vec<Given>) -> Result<bool, OutOfMemory>
+/// Takes all events that the receiver has to give, and tells whether the end is among them.
+pub fn take(feeder: &mut Feeder, given: &mut Vec<Given>) -> Result<bool, OutOfMemory>
     requires { Runs feeder.old.receiver feeder.old.finished.items feeder.old.fed.items }
     ensures { OnOk result (Runs feeder.new.receiver feeder.new.finished.items feeder.new.fed.items) }
 {
@@ -62,13 +62,20 @@ fn take_now(feeder: &mut Feeder, given: &mut Vec<Given>, now: bool) -> Result<bo
     take(feeder, given)
 }
 
+/// What a receiver gives, and the reports of its lanes.
+#[derive(Debug, Drop, PartialEq)]
+pub struct Order {
+    pub given: Vec<Given>,
+    pub reports: Vec<LaneReport>,
+}
+
 /// What a receiver gives that is fed with these lanes in an order and in cuts of this number.
 pub fn one_order(
     alloc: Global,
     plan: &Plan,
     lanes: &[Vec<u8>],
     number: u64,
-) -> Result<Vec<Given>, OutOfMemory> {
+) -> Result<Order, OutOfMemory> {
     let mut feeder = Feeder::make(alloc, plan)?;
     let mut given = Vec::new(alloc);
     let mut random = Random::of(number);
@@ -76,8 +83,12 @@ pub fn one_order(
         turn(&mut feeder, lanes, number, &mut random);
         let now = random.below(3) == 0;
         if take_now(&mut feeder, &mut given, now)? {
-            break;
+            let reports = reports(alloc, &feeder)?;
+            return Ok(Order { given, reports });
         }
     }
-    Ok(given)
+    Ok(Order {
+        given,
+        reports: Vec::new(alloc),
+    })
 }
