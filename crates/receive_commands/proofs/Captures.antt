@@ -1,5 +1,5 @@
 -- One more output: what it changes of captures and counts.
-use Rattle.std.proofs.Common.{◌≡◌, ℕ, zero, suc, ◌+◌, ◌<◌, ◌≤◌, ◌==◌, Bool, true, false, IsTrue, List, [], ◌∷◌, ◌++◌, length, get_or, set, map, cond, refl, sym, ap, ap₂, ◌∙◌, subst, append_assoc, append-nil, add-zero, arith, nat_lt, slice_index}
+use Rattle.std.proofs.Common.{◌≡◌, ℕ, zero, suc, ◌+◌, ◌<◌, ◌==◌, Bool, true, false, IsTrue, List, [], ◌∷◌, ◌++◌, length, get_or, set, map, cond, refl, sym, ap, ap₂, ◌∙◌, subst, append_assoc, append-nil, add-zero, arith, nat_lt, slice_index}
 use Rattle.std.specs.List.{list_all}
 use Rattle.std.specs.Prelude.{sum_by, flat_map}
 use Rattle.std.proofs.lemmas.Bool.{and_parts, ltb-true, ne_eqb, eq-eqb}
@@ -7,7 +7,6 @@ use Rattle.std.proofs.lemmas.List.{map-append}
 use Rattle.std.proofs.lemmas.List.Sums.{sum_by_push}
 use Rattle.std.proofs.lemmas.Grind.{flat_map-append}
 use Rattle.receive_model.proofs.Ends.{filter_map-append}
-use Rattle.lk_base.specs.declared.fault.DropWhy.{DropWhy}
 use Rattle.receive_model.specs.Pieces.{Packet}
 use Rattle.receive_model.specs.Events.{Event, Delivered, delivered, delivered_on, is_rising, shown_span, shown_spans}
 use Rattle.pcap_files.specs.Written.{record_bytes, capture_bytes, header_bytes}

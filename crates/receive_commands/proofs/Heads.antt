@@ -1,18 +1,18 @@
 -- Outputs are created, and the first of them given their headers.
-use Rattle.std.proofs.Common.{◌≡◌, ℕ, zero, suc, ◌+◌, ◌<◌, ◌≤◌, List, [], ◌∷◌, ◌++◌, length, map, refl, sym, ap, ap₂, ◌∙◌, subst, arith, append-nil, Option, Result, Ok, Err, Contains}
+use Rattle.std.proofs.Common.{◌≡◌, ℕ, zero, suc, ◌+◌, ◌<◌, ◌≤◌, List, [], ◌∷◌, ◌++◌, length, map, refl, sym, ap, ap₂, ◌∙◌, subst, arith, append-nil, Option, Err, Contains}
 use Rattle.lk_outside.specs.Files.{Files, Told}
 use Rattle.run_shell.specs.declared.stop.Stop.{Stop}
 use Rattle.run_shell.specs.declared.stop.Stop.TheVariants as stop
 use Rattle.run_shell.specs.Outcome.{Output, HoldsPart}
-use Rattle.run_shell.specs.Stops.{IsOfStore, StoreStops}
+use Rattle.run_shell.specs.Stops.{StoreStops}
 use Rattle.run_shell.specs.Open.{Open}
-use Rattle.run_shell.specs.Outputs.{Created, Grown, IsOpen, Prefixes, blank, more, open_names, outs}
+use Rattle.run_shell.specs.Outputs.{Prefixes, blank, more, open_names, outs}
 use Rattle.run_shell.proofs.Fills.{part_more}
 use Rattle.run_shell.proofs.Moves.{told_by, told_refl}
 use Rattle.pcap_files.specs.Written.{header_bytes}
 use Rattle.receive_commands.specs.Received.{capture_name, spans_name}
 use Rattle.receive_commands.specs.Receipts.{capture_of}
-use Rattle.receive_commands.specs.Heads.{heads_in, HeadsMade, HeadsPut, IsHeadless}
+use Rattle.receive_commands.specs.Heads.{heads_in, HeadsMade, IsHeadless}
 
 heads_next : (k : ℕ) (head : List ℕ) (names : List (List ℕ)) → k < length names → more (heads_in k head names) k head ≡ heads_in (suc k) head names
 heads_next k head [] lt = absurd (omega arith)

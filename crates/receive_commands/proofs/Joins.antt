@@ -1,11 +1,11 @@
 -- `join`: its outcomes, and the readings before it.
-use Rattle.std.proofs.Common.{◌≡◌, ◌⊎◌, ℕ, zero, suc, ◌+◌, ◌<◌, ◌≤◌, Bool, true, false, IsTrue, ◌==◌, nat_lt, cond, List, [], ◌∷◌, length, get_or, map, filter, refl, sym, ap, ◌∙◌, subst, arith, Option, Some, None, IfSome, Result, Ok, Err, MatchResult, inl, inr, Contains, Vec, Global}
-use Rattle.std.specs.List.{list_any, range_with_len}
+use Rattle.std.proofs.Common.{◌≡◌, ℕ, zero, suc, ◌+◌, ◌<◌, Bool, IsTrue, nat_lt, List, [], ◌∷◌, length, map, filter, refl, sym, ap, ◌∙◌, subst, arith, Option, Some, None, IfSome, Result, Ok, Err, MatchResult, inl, inr, Vec, Global}
+use Rattle.std.specs.List.{range_with_len}
 use Rattle.std.proofs.lemmas.Bool.{and_from, lt-ltb}
 use Rattle.std.proofs.Props.{props}
 use Rattle.lk_base.specs.Limits.{longest_packet}
 use Rattle.lk_base.specs.declared.word.RxWord.{RxWord}
-use Rattle.lk_outside.specs.Files.{Files, AreBytes}
+use Rattle.lk_outside.specs.Files.{Files}
 use Rattle.receive_model.specs.Events.{Setting, is_rising, word_events}
 use Rattle.receive_model.proofs.Cuts.{split}
 use Rattle.link_plan.specs.Plan.{PlanValue, Listed}
@@ -24,8 +24,8 @@ use Rattle.run_shell.specs.declared.stop.Finished.{Finished}
 use Rattle.run_shell.specs.Outcome.{Outcome}
 use Rattle.run_shell.specs.Meaning.{IsMeaning}
 use Rattle.run_shell.specs.Reading.{IsWork, IsOfInput, Reads, Refusal, of_input, behind, bytes_in, vec_items}
-use Rattle.run_shell.specs.Writing.{Made, Writes}
-use Rattle.run_shell.proofs.Works.{is_meaning, behind_stops, behind_read}
+use Rattle.run_shell.specs.Writing.{Writes}
+use Rattle.run_shell.proofs.Works.{is_meaning, behind_stops}
 use Rattle.run_shell.proofs.Readings.{first_stops, second_reads}
 use Rattle.receive_commands.specs.Received.{output_names, received_outcome}
 use Rattle.receive_commands.specs.Words.{words_by, words_in, vec_words}

@@ -1,10 +1,10 @@
 -- What a receipt comes to.
-use Rattle.std.proofs.Common.{◌≡◌, ℕ, zero, suc, ◌+◌, ◌<◌, ◌≤◌, false, List, [], ◌∷◌, ◌++◌, length, map, refl, sym, ap, ap₂, ◌∙◌, subst, append_assoc, append-nil, arith, Option, Result, Ok, Err, Contains}
+use Rattle.std.proofs.Common.{◌≡◌, ℕ, false, List, [], ◌∷◌, ◌++◌, length, map, refl, sym, ap, ap₂, ◌∙◌, subst, append_assoc, append-nil, arith, Option, Ok, Err, Contains}
 use Rattle.std.specs.List.{flat_map}
 use Rattle.std.proofs.lemmas.Grind.{flat_map-append}
 use Rattle.lk_outside.specs.Files.{Files, Told}
 use Rattle.receive_model.specs.declared.span.Span.{Span}
-use Rattle.receive_model.specs.Events.{Event, Setting, shown_spans}
+use Rattle.receive_model.specs.Events.{Event, shown_spans}
 use Rattle.pcap_files.specs.Written.{header_bytes, record_bytes}
 use Rattle.link_reports.specs.Lines.{got_line, spans_line, dropped_line}
 use Rattle.link_reports.specs.Table.{span_table}
@@ -12,11 +12,9 @@ use Rattle.link_reports.specs.Drops.{drop_counts}
 use Rattle.run_shell.specs.declared.stop.Stop.{Stop}
 use Rattle.run_shell.specs.declared.stop.Stop.TheVariants as stop
 use Rattle.run_shell.specs.declared.stop.Finished.{Finished}
-use Rattle.run_shell.specs.declared.status.Status.TheVariants.{Done}
 use Rattle.run_shell.specs.Outcome.{Output, Outcome, Holds, HoldsPart}
-use Rattle.run_shell.specs.Stops.{IsOfStore, StoreStops, held_status}
-use Rattle.run_shell.specs.Open.{Open}
-use Rattle.run_shell.specs.Outputs.{Closed, Grown, IsOpen, Prefixes, more, open_names, outs}
+use Rattle.run_shell.specs.Stops.{StoreStops, held_status}
+use Rattle.run_shell.specs.Outputs.{Prefixes, more, outs}
 use Rattle.run_shell.specs.Writing.{Writes, Begin}
 use Rattle.run_shell.proofs.Writing.{stop_writes, done_writes}
 use Rattle.receive_commands.specs.declared.receipt.ChannelReceipt.{ChannelReceipt}

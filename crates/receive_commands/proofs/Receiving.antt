@@ -1,5 +1,5 @@
 -- A receipt: outputs come, or are stopped.
-use Rattle.std.proofs.Common.{◌≡◌, ℕ, zero, suc, ◌+◌, ◌<◌, ◌≤◌, ◌==◌, ◌||◌, Bool, true, false, IsTrue, List, [], ◌∷◌, ◌++◌, length, length-append, get_or, set, map, refl, sym, ap, ap₂, ◌∙◌, subst, append_assoc, append-nil, arith, Option, Result, Ok, Err, Contains}
+use Rattle.std.proofs.Common.{◌≡◌, ℕ, zero, suc, ◌+◌, ◌<◌, ◌==◌, ◌||◌, Bool, true, false, IsTrue, List, [], ◌∷◌, ◌++◌, length, length-append, get_or, set, map, refl, sym, ap, ◌∙◌, subst, append_assoc, append-nil, arith, Option, Err, Contains}
 use Rattle.std.proofs.lemmas.Bool.{ne_eqb, eqb-false}
 use Rattle.std.proofs.lemmas.List.{length-map}
 use Rattle.lk_base.specs.declared.fault.DropWhy.{DropWhy}
@@ -7,16 +7,16 @@ use Rattle.lk_base.specs.declared.position.Pos.{Pos}
 use Rattle.lk_outside.specs.Files.{Files, Told}
 use Rattle.receive_model.specs.declared.span.Span.{Span}
 use Rattle.receive_model.specs.Pieces.{Packet}
-use Rattle.receive_model.specs.Events.{Event, Setting, Delivered, Dropped, FaultSpan, Flow, is_rising, shown_spans}
+use Rattle.receive_model.specs.Events.{Event, Delivered, Dropped, FaultSpan, Flow, is_rising, shown_spans}
 use Rattle.reassembly.specs.Settings.{is_among}
 use Rattle.pcap_files.specs.Written.{header_bytes, record_bytes}
 use Rattle.link_reports.specs.Drops.{drop_counts}
 use Rattle.run_shell.specs.declared.stop.Stop.{Stop}
 use Rattle.run_shell.specs.declared.stop.Stop.TheVariants as stop
-use Rattle.run_shell.specs.Outcome.{HoldsPart, Holds}
+use Rattle.run_shell.specs.Outcome.{HoldsPart}
 use Rattle.run_shell.specs.Stops.{IsOfStore, StoreStops}
 use Rattle.run_shell.specs.Open.{Open}
-use Rattle.run_shell.specs.Outputs.{Differ, Grown, IsOpen, Prefixes, more, open_names, outs}
+use Rattle.run_shell.specs.Outputs.{Differ, IsOpen, more, open_names, outs}
 use Rattle.run_shell.proofs.Fills.{given_prefixes, prefix_part}
 use Rattle.run_shell.proofs.Moves.{told_by}
 use Rattle.receive_commands.specs.declared.receipt.ChannelReceipt.{ChannelReceipt}

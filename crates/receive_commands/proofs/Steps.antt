@@ -1,18 +1,17 @@
 -- The steps of words that are taken.
-use Rattle.std.proofs.Common.{◌≡◌, ◌≢◌, ℕ, suc, ◌+◌, ◌<◌, ◌≤◌, true, false, List, [], ◌∷◌, ◌++◌, length, take, slice_get, refl, sym, ap, ◌∙◌, subst, arith, append-nil, Option}
+use Rattle.std.proofs.Common.{◌≡◌, ℕ, suc, ◌+◌, ◌<◌, ◌≤◌, true, false, List, [], ◌∷◌, ◌++◌, length, take, slice_get, sym, ap, ◌∙◌, subst, arith, Option}
 use Rattle.lk_base.specs.declared.word.RxWord.{RxWord}
 use Rattle.lk_base.specs.declared.word.Aligned.{Aligned}
 use Rattle.lk_outside.specs.Files.{Files}
 use Rattle.receive_model.specs.Behind.{comes_behind}
-use Rattle.receive_model.specs.Events.{Event, word_events}
-use Rattle.reassembly.specs.OutputLaws.{Rise}
+use Rattle.receive_model.specs.Events.{word_events}
 use Rattle.reassembly.specs.SoFar.{outputs_so_far}
 use Rattle.reassembly.specs.States.{State}
 use Rattle.reassembly.specs.Stands.{Stands}
 use Rattle.run_shell.specs.declared.stop.Stop.{Stop}
 use Rattle.run_shell.specs.declared.stop.Stop.TheVariants as stop
 use Rattle.receive_commands.specs.declared.receipt.Receipt.{Receipt}
-use Rattle.receive_commands.specs.Receipts.{Beginning, IsReceipt, IsStopped}
+use Rattle.receive_commands.specs.Receipts.{Beginning, IsStopped}
 use Rattle.receive_commands.specs.Going.{IsAt, item_by, outputs_of, put_from}
 use Rattle.receive_commands.proofs.Receiving.{no_memory, stopped_before}
 use Rattle.receive_commands.proofs.Placing.{comes_next, first_events, next_put, rise_push, whole_events, whole_put}

@@ -1,16 +1,16 @@
 -- The outputs of a reassembly, taken one by one.
-use Rattle.std.proofs.Common.{◌≡◌, ℕ, ◌+◌, ◌<◌, ◌≤◌, Bool, true, false, List, [], ◌∷◌, ◌++◌, length, refl, sym, ap, ap₂, ◌∙◌, subst, append_assoc, arith, Option, Result, Ok, Err, OnOk}
+use Rattle.std.proofs.Common.{◌≡◌, ℕ, ◌≤◌, Bool, List, [], ◌∷◌, ◌++◌, length, sym, ap, ◌∙◌, subst, append_assoc, arith, Option, Result, Ok, Err, OnOk}
 use Rattle.std.specs.List.{AllByRecursion}
 use Rattle.lk_base.specs.Limits.{longest_packet}
 use Rattle.lk_base.specs.declared.word.Aligned.{Aligned}
 use Rattle.lk_outside.specs.Files.{Files}
 use Rattle.receive_model.specs.declared.span.Span.{Span}
 use Rattle.receive_model.specs.Lists.{last_of}
-use Rattle.receive_model.specs.Events.{Event, Setting, Delivered, Dropped, FaultSpan, Flow, shown_span, shown_spans}
+use Rattle.receive_model.specs.Events.{Event, Delivered, Dropped, FaultSpan, Flow, shown_span, shown_spans}
 use Rattle.receive_model.proofs.Ends.{filter_map-append}
 use Rattle.fault_spans.specs.SpanLists.{AreApart, MayFollow}
 use Rattle.reassembly.specs.SoFar.{outputs_so_far}
-use Rattle.reassembly.specs.OutputLaws.{HasSize, IsOfSize, Rise}
+use Rattle.reassembly.specs.OutputLaws.{IsOfSize, Rise}
 use Rattle.reassembly.specs.States.{State, waiting_events}
 use Rattle.reassembly.specs.Stands.{Stands}
 use Rattle.reassembly.proofs.PacketSizes.{packets_fit}

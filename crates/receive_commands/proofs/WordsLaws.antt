@@ -6,7 +6,6 @@ use Rattle.std.proofs.Common.{arith}
 use Rattle.lk_base.specs.Limits.{words_limit}
 use Rattle.lk_base.specs.declared.word.Word.{Word}
 use Rattle.lk_base.specs.Words.{payload, as_sent}
-use Rattle.lk_outside.specs.Files.{Files, file}
 use Rattle.stream_model.specs.BurstStream.{Source, IsBurstStream}
 use Rattle.delivery_laws.proofs.Outputs.{the_law_on_outputs}
 use Rattle.delivery_laws.proofs.Clean.{the_law_on_clean_words}
@@ -14,7 +13,7 @@ use Rattle.words_files.specs.WordsFile.{words_file}
 use Rattle.words_files.specs.WordsOfFile.{words_of_file}
 use Rattle.words_files.proofs.Again.{written-again}
 use Rattle.run_shell.specs.Reading.{behind, bytes_by, bytes_in}
-use Rattle.receive_commands.specs.Words.{words_by, words_in}
+use Rattle.receive_commands.specs.Words.{words_by}
 use Rattle.receive_commands.specs.WordsLaw.{JoinGivesSent, JoinUndoesBurst, bytes_of}
 
 pub join_gives_sent : JoinGivesSent

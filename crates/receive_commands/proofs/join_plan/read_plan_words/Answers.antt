@@ -1,4 +1,4 @@
-use Rattle.std.proofs.Common.{◌≡◌, ◌∙◌, refl, sym, ap, subst, List, ℕ, IfSome, Ok, Err}
+use Rattle.std.proofs.Common.{◌∙◌, ap}
 use Rattle.std.proofs.lemmas.Result.{err_from_is_err_and}
 use Rattle.receive_commands.specs.JoinPlan.{words_name}
 use Rattle.receive_commands.proofs.Joins.{both_read, no_plan, no_words, plan_memory}

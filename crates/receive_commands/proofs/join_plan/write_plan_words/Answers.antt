@@ -1,4 +1,4 @@
-use Rattle.std.proofs.Common.{◌≡◌, ◌∙◌, refl, sym, ap, subst, List, ℕ, Ok, Err}
+use Rattle.std.proofs.Common.{◌∙◌, ap, subst, List}
 use Rattle.std.proofs.lemmas.Result.{err_from_is_err_and}
 use Rattle.lk_base.specs.declared.word.RxWord.{RxWord}
 use Rattle.link_plan.specs.Listing.{channels_in_order, numbers_of}

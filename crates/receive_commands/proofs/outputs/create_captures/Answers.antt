@@ -1,10 +1,9 @@
-use Rattle.std.proofs.Common.{◌≡◌, ◌<◌, ◌+◌, ◌∙◌, refl, sym, ap, subst, arith, map, string_bytes, length, length-append, [], ◌∷◌, List, ℕ, Err, Ok}
+use Rattle.std.proofs.Common.{◌≡◌, ◌+◌, ◌∙◌, sym, ap, subst, arith, map, length, length-append, [], ◌∷◌, List, ℕ}
 use Rattle.std.proofs.lemmas.Result.{err_from_is_err_and}
 use Rattle.std.proofs.lemmas.List.{length-map}
 use Rattle.run_shell.specs.Open.{Open}
 use Rattle.run_shell.specs.Outputs.{Differ, IsOpen, open_names, blank}
 use Rattle.receive_commands.specs.Received.{capture_name, output_names, spans_name}
-use Rattle.receive_commands.specs.Heads.{HeadsPut, IsHeadless}
 use Rattle.receive_commands.proofs.Heads.{none_made, not_created}
 use Rattle.receive_commands.proofs.NamesDiffer.{names_differ, small_channels}
 use Rattle.receive_commands.proofs.outputs.create_captures.Goals as goal

@@ -1,8 +1,8 @@
-use Rattle.std.proofs.Common.{◌≡◌, ◌<◌, ◌≤◌, ◌∙◌, refl, sym, ap, subst, arith, suc, length, List, ℕ, Err, Ok}
+use Rattle.std.proofs.Common.{◌≡◌, ◌<◌, ◌∙◌, refl, sym, subst, arith, length}
 use Rattle.std.proofs.lemmas.Result.{err_from_is_err_and}
 use Rattle.std.proofs.lemmas.List.{length-map}
 use Rattle.run_shell.specs.Open.{Open}
-use Rattle.run_shell.specs.Outputs.{Differ, IsOpen, Grown, open_names, blank}
+use Rattle.run_shell.specs.Outputs.{Differ, IsOpen, open_names}
 use Rattle.receive_commands.specs.Heads.{heads_in}
 use Rattle.receive_commands.proofs.Heads.{headless, heads_more, heads_none, same_length}
 use Rattle.receive_commands.proofs.outputs.put_heads.Goals as goal

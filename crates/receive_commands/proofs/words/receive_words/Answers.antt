@@ -1,4 +1,4 @@
-use Rattle.std.proofs.Common.{◌≡◌, ◌∙◌, refl, sym, ap, subst, false, [], ◌∷◌, List, ℕ, Err, Ok}
+use Rattle.std.proofs.Common.{◌≡◌, refl, subst, [], Err}
 use Rattle.std.proofs.lemmas.Result.{err_from_is_err_and}
 use Rattle.receive_model.specs.Events.{word_events}
 use Rattle.run_shell.specs.Writing.{Writes}

@@ -1,6 +1,5 @@
-use Rattle.std.proofs.Common.{◌≡◌, sym, subst, [], ◌∷◌, ◌++◌, false}
-use Rattle.reassembly.specs.States.{event_of, is_packet}
-use Rattle.fault_spans.specs.SpanLists.{MayFollow}
+use Rattle.std.proofs.Common.{sym, subst, [], ◌∷◌, ◌++◌}
+use Rattle.reassembly.specs.States.{event_of}
 use Rattle.receive_commands.specs.Receipts.{IsReceipt, MayCome}
 use Rattle.receive_commands.proofs.Taking.{on_ok_then}
 use Rattle.receive_commands.proofs.Receiving.{flow_came}

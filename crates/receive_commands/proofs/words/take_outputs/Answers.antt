@@ -1,4 +1,4 @@
-use Rattle.std.proofs.Common.{◌≡◌, ◌∙◌, refl, [], ◌∷◌, ◌++◌}
+use Rattle.std.proofs.Common.{◌∙◌, refl, [], ◌∷◌, ◌++◌}
 use Rattle.std.proofs.lemmas.Result.{err_from_is_err_and}
 use Rattle.reassembly.specs.States.{event_of}
 use Rattle.receive_commands.proofs.Taking.{all_came, event_came, event_fits, event_follows, event_stopped}

@@ -1,7 +1,6 @@
-use Rattle.std.proofs.Common.{◌≡◌, ◌≤◌, ◌<◌, ◌+◌, ◌∙◌, refl, sym, subst, arith, false, true, [], ◌∷◌, ◌++◌, length, Ok, Err}
+use Rattle.std.proofs.Common.{◌≤◌, ◌<◌, ◌+◌, ◌∙◌, refl, subst, arith, false, true, length}
 use Rattle.std.proofs.lemmas.Result.{err_from_is_err_and}
-use Rattle.receive_model.specs.Events.{word_events}
-use Rattle.receive_commands.specs.Receipts.{Receives, IsStopped}
+use Rattle.receive_commands.specs.Receipts.{Receives}
 use Rattle.receive_commands.specs.Going.{outputs_of}
 use Rattle.receive_commands.proofs.Steps.{all_words, first, step_behind, step_end, step_memory, step_put, step_stopped}
 use Rattle.receive_commands.proofs.Taking.{received_takes}

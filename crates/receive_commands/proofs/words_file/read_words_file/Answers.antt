@@ -1,4 +1,4 @@
-use Rattle.std.proofs.Common.{◌≡◌, ◌<◌, ◌≤◌, ◌∙◌, ap, arith, length, List, ℕ}
+use Rattle.std.proofs.Common.{◌≡◌, ap, arith, length, List, ℕ}
 use Rattle.receive_commands.proofs.Joins.{few_words, words_read}
 use Rattle.receive_commands.proofs.words_file.read_words_file.Goals as goal
 

@@ -1,4 +1,4 @@
-use Rattle.std.proofs.Common.{◌≡◌, ◌∙◌, refl, sym, ap, subst, [], ◌∷◌, ◌++◌, List, ℕ, Ok, false, slice_index}
+use Rattle.std.proofs.Common.{◌≡◌, subst, [], ◌∷◌, ◌++◌, List, false, slice_index}
 use Rattle.receive_model.specs.Events.{Delivered}
 use Rattle.receive_commands.specs.Receipts.{Receives}
 use Rattle.reassembly.specs.Settings.{is_among}

@@ -1,6 +1,6 @@
-use Rattle.std.proofs.Common.{◌≡◌, ◌<◌, ◌∙◌, refl, sym, ap, subst, arith, [], ◌∷◌, length, List, ℕ, Err, Ok}
+use Rattle.std.proofs.Common.{◌∙◌, refl, sym, subst, arith}
 use Rattle.std.proofs.lemmas.Result.{err_from_is_err_and}
-use Rattle.run_shell.specs.Outputs.{Differ, open_names}
+use Rattle.run_shell.specs.Outputs.{Differ}
 use Rattle.receive_commands.specs.Receipts.{given_of}
 use Rattle.receive_commands.proofs.Receiving.{outputs_length}
 use Rattle.receive_commands.proofs.Making.{filled, memory_writes, not_filled, table_given}

@@ -1,4 +1,4 @@
-use Rattle.std.proofs.Common.{◌≡◌, ◌∙◌, refl, sym, ap, subst, [], ◌∷◌, map, List, ℕ, Err, Ok}
+use Rattle.std.proofs.Common.{refl}
 use Rattle.std.proofs.lemmas.Result.{err_from_is_err_and}
 use Rattle.receive_commands.specs.Receipts.{Beginning}
 use Rattle.receive_commands.proofs.Heads.{none_made}

@@ -1,6 +1,5 @@
-use Rattle.std.proofs.Common.{◌≡◌, ◌<◌, ◌∙◌, refl, sym, ap, subst, arith, [], ◌∷◌, length, List, ℕ, Err, Ok}
+use Rattle.std.proofs.Common.{◌∙◌, refl, subst, arith}
 use Rattle.std.proofs.lemmas.Result.{err_from_is_err_and}
-use Rattle.receive_model.specs.Events.{Delivered}
 use Rattle.receive_model.specs.Pieces.{Packet}
 use Rattle.run_shell.specs.Outcome.{HoldsPart}
 use Rattle.run_shell.specs.Outputs.{IsOpen, more, open_names, outs}
