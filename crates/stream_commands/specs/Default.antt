@@ -25,7 +25,6 @@ default_shape = record {
   warmup_high = lit≤ tt;
 }
 
-
 -- all packets on channel 0, which alone is listed, in a calendar of the one entry 0, with no flow control
 abbrev pub default_source : List (List ℕ) → Source
 default_source packets = record { shape = default_shape; channels = 0 ∷ []; entries = 0 ∷ []; packets = on_channel 0 packets; flow = []; local = [] }

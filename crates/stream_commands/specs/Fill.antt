@@ -21,7 +21,6 @@ abbrev pub AreWhole : StreamForm → List Word → Type 0
 AreWhole form.Words w = Unit {0}
 AreWhole (form.Lanes link) w = length w % group_of link ≡ 0
 
-
 -- the outputs were given the files of the stream; or, after an error, each has a part of what it was given of them
 abbrev pub Filled : StreamForm → List Word → List Open → List Open → Result (Unit {0}) Stop → Option Files → Option Files → Type 0
 Filled f w old new (Ok _) was now = (contents : List (List ℕ)) × ContentsOf f w contents × IsOpen new contents was now

@@ -25,10 +25,7 @@ use std::marker::Model;
 use tx_end::Packet;
 
 // The packets, lent as those of channel 0.
-fn on_channel_zero<'a>(
-    alloc: Global,
-    packets: &[&'a [u8]],
-) -> Result<Vec<Packet<'a>>, OutOfMemory>
+fn on_channel_zero<'a>(alloc: Global, packets: &[&'a [u8]]) -> Result<Vec<Packet<'a>>, OutOfMemory>
     requires { All (λ packet. (1 ≤ length packet.now) × (length packet.now ≤ 262144)) packets.now }
     ensures same { IfOk result (λ v. sent_packets_by v.items ≡ on_channel 0 (map (λ packet. packet.now) packets.now)) }
     ensures sized { IfOk result (λ v. AreSized v.items) }
@@ -42,11 +39,7 @@ fn on_channel_zero<'a>(
 }
 
 // The packets that the bytes of a capture hold.
-fn accept_capture<'a>(
-    alloc: Global,
-    name: &str,
-    bytes: &'a [u8],
-) -> Result<Vec<&'a [u8]>, Stop>
+fn accept_capture<'a>(alloc: Global, name: &str, bytes: &'a [u8]) -> Result<Vec<&'a [u8]>, Stop>
     ensures reads { Reads (λ v. map (λ packet. packet.now) v.items) (λ _. ⊥) result (packets_by name.now (capture_of bytes.now longest_packet)) }
     ensures calm { (count : ℕ) → StopCount result count count }
     ensures sized { IfOk result (λ v. All (λ packet. (1 ≤ length packet.now) × (length packet.now ≤ 262144)) v.items) }

@@ -14,3 +14,6 @@ mod write;
 pub use capture::BurstCapture;
 pub use law::{free_plan_is_not_held, never_bursts_when_off};
 pub use plan::{BurstPlan, SendPlan};
+
+#[cfg(test)]
+mod tests;

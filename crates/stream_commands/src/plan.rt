@@ -23,10 +23,7 @@ use std::marker::Model;
 use tx_end::Packet;
 
 // The packets, lent with the numbers of their channels.
-fn lent<'a>(
-    alloc: Global,
-    packets: &'a [ChannelPacket],
-) -> Result<Vec<Packet<'a>>, OutOfMemory>
+fn lent<'a>(alloc: Global, packets: &'a [ChannelPacket]) -> Result<Vec<Packet<'a>>, OutOfMemory>
     ensures same { IfOk result (λ v. packets_by v.items ≡ packet_values packets.now) }
     ensures sized { IfOk result (λ v. AreSized v.items) }
 {

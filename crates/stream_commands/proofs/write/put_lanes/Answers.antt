@@ -1,5 +1,4 @@
 use Rattle.std.proofs.Common.{◌≡◌, ◌∙◌, ◌++◌, ◌+◌, sym, ap, subst, arith, rules, List, ℕ, [], ◌∷◌, length, map, append_assoc, Contains, Err, Vec, Global, Option}
-
 use Rattle.std.proofs.lemmas.Result.{err_from_is_err_and}
 use Rattle.std.proofs.lemmas.List.{length-append}
 use Rattle.lk_outside.specs.Files.{Files, Told}
