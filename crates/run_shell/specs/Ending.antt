@@ -51,6 +51,13 @@ pub record IsMisused (e : Ended) : Type 0 where
   pub is : ((e.status ≡ Usage) × (e.text ≡ usage_line)) ⊎ ((e.status ≡ OutOfMemory) × (e.text ≡ memory_line))
   pub store : e.store_failed ≡ false
 
+-- ---- memory that ran out before there was a command
+
+pub record IsNoMemory (e : Ended) : Type 0 where
+  pub status : e.status ≡ OutOfMemory
+  pub text : e.text ≡ memory_line
+  pub store : e.store_failed ≡ false
+
 -- ---- after a run
 
 -- all that stands after a run of this meaning
