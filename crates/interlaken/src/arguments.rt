@@ -1,7 +1,7 @@
 //! The arguments of a command, by its rule.
 ghost use Rattle.std.specs.Prelude.{◌≡◌};
 ghost use Rattle.interlaken.specs.Arguments.{is_name, file_in, prefix_in, number_and_prefix_in, arguments_of, number_of_word};
-ghost use Rattle.interlaken.specs.CommandLine.{arguments_by};
+ghost use Rattle.interlaken.specs.CommandLine.{arguments_in};
 
 use crate::command_line::CommandLine;
 use crate::digits::number_of_word;
@@ -10,6 +10,7 @@ use std::marker::Model;
 
 // The most bytes of a file's name, and of a prefix of names.
 const FILE_NAME: usize = 255;
+
 const PREFIX: usize = 180;
 
 /// The arguments of a command.
@@ -71,7 +72,7 @@ fn number_and_prefix_in<'w>(number: &str, prefix: &'w str) -> Option<Arguments<'
 
 /// The arguments of a command with this rule, where they are accepted.
 pub fn arguments_of<'w>(rule: Rule, line: &CommandLine<'w>) -> Option<Arguments<'w>>
-    ensures { result ≡ arguments_of rule (arguments_by line.now.number line.now.file.now) }
+    ensures { result ≡ arguments_of rule (arguments_in line.now) }
 {
     match (rule, line.number) {
         (Rule::File, None) => file_in(line.file),

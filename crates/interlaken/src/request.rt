@@ -1,11 +1,12 @@
 //! What words ask for.
-ghost use Rattle.std.specs.Prelude.{◌≡◌, map, is_some, string_bytes};
+ghost use Rattle.std.specs.Prelude.{◌≡◌, map, is_some, IfOk, IfErr, IsSome, string_bytes};
 ghost use Rattle.interlaken.specs.Request.{is_plan_name, burst_of, join_of, request_for, request_by, request_of};
 ghost use Rattle.interlaken.specs.CommandLine.{words_of};
 
 use crate::arguments::{Arguments, arguments_of};
-use crate::command_line::{CommandLine, line_of};
+use crate::command_line::{CommandLine, line_of, read_line};
 use crate::table::{Name, row_in, rows};
+use lk_base::OutOfMemory;
 use lk_outside::Store;
 use receive_commands::{JoinPlan, JoinWords};
 use run_shell::{Command, Finished, Stop};
@@ -92,12 +93,30 @@ fn request_by<'w>(line: &CommandLine<'w>) -> Option<Request<'w>>
     Some(request_for(row.command, &arguments))
 }
 
-/// What the words ask for, where they are accepted.
-pub fn request_of<'w>(words: &'w [String]) -> Option<Request<'w>>
-    ensures { result ≡ request_of (map string_bytes words.now) }
+// Whether the words are accepted.
+fn are_accepted(words: &[String]) -> bool
+    ensures { result ≡ is_some (request_of (map string_bytes words.now)) }
 {
     match line_of(words) {
-        Some(line) => request_by(&line),
-        None => None,
+        Some(line) => request_by(&line).is_some(),
+        None => false,
     }
+}
+
+/// What the words ask for, where they are accepted.
+///
+/// The rule is judged first: `Ok(None)` comes exactly where the words are not accepted, and `OutOfMemory` only where they
+/// are, from the reading.
+pub fn request_of<'w>(
+    alloc: Global,
+    words: &'w [String],
+) -> Result<Option<Request<'w>>, OutOfMemory>
+    ensures memory { IfErr result (λ e. IsSome (request_of (map string_bytes words.now))) }
+    ensures request { IfOk result (λ r. r ≡ request_of (map string_bytes words.now)) }
+{
+    if !are_accepted(words) {
+        return Ok(None);
+    }
+    let line = read_line(alloc, words)?;
+    Ok(request_by(&line))
 }

@@ -1,14 +1,13 @@
 -- Outputs that are filled one after another with contents that were made before.
-use Rattle.std.proofs.Common.{◌≡◌, ℕ, zero, suc, ◌<◌, ◌≤◌, ◌+◌, arith, List, [], ◌∷◌, ◌++◌, length, map, get_or, set, refl, rules, sym, ap, ◌∙◌, subst, Option, Result, Err, Ok, Contains}
+use Rattle.std.proofs.Common.{◌≡◌, ℕ, zero, suc, ◌<◌, ◌≤◌, ◌+◌, arith, List, [], ◌∷◌, ◌++◌, length, map, get_or, refl, rules, sym, ap, ◌∙◌, subst, Option, Err, Ok, Contains}
 use Rattle.std.proofs.lemmas.List.{length-map}
 use Rattle.run_shell.specs.declared.stop.Stop.{Stop}
-use Rattle.run_shell.specs.declared.stop.Stop.TheVariants as stop
 use Rattle.run_shell.specs.declared.stop.Finished.{Finished}
 use Rattle.lk_outside.specs.Files.{Files, Told}
 use Rattle.run_shell.specs.Outcome.{Outcome, Holds, HoldsPart}
 use Rattle.run_shell.specs.Stops.{StoreStops}
 use Rattle.run_shell.specs.Open.{Open}
-use Rattle.run_shell.specs.Outputs.{outs, blank, Prefixes, more, open_names, IsOpen}
+use Rattle.run_shell.specs.Outputs.{outs, blank, Prefixes, more, open_names}
 use Rattle.run_shell.specs.Writing.{Writes, Begin, delivered}
 use Rattle.run_shell.proofs.Creating.{named}
 use Rattle.run_shell.proofs.Fills.{blank_prefixes}

@@ -1,14 +1,13 @@
 -- What the work came to, as an ending.
-use Rattle.std.proofs.Common.{◌≡◌, ◌⊎◌, ◌+◌, ℕ, Bool, true, false, List, refl, sym, subst, ◌∙◌, [], Option, Some, None, IfSome, Result, Ok, Err, inl, inr, Vec}
-use Rattle.std.specs.declared.alloc.Global.{Global}
+use Rattle.std.proofs.Common.{◌≡◌, ◌⊎◌, ℕ, Bool, true, false, List, refl, sym, subst, ◌∙◌, [], Option, Some, None, IfSome, Ok, Err, inl, inr}
 use Rattle.link_reports.specs.Faults.{usage_line, memory_line}
 use Rattle.run_shell.specs.declared.status.Status.{Status}
-use Rattle.run_shell.specs.declared.status.Status.TheVariants.{Done, StoreFault, Usage, Held, PlanRefused, InputRefused, OutOfMemory, SinkFault}
+use Rattle.run_shell.specs.declared.status.Status.TheVariants.{Usage, OutOfMemory}
 use Rattle.run_shell.specs.declared.stop.Stop.{Stop}
 use Rattle.run_shell.specs.declared.stop.Stop.TheVariants as stop
 use Rattle.run_shell.specs.declared.stop.Finished.{Finished}
-use Rattle.lk_outside.specs.Files.{Files, file, Told}
-use Rattle.run_shell.specs.Outcome.{Outcome, IsFault, Holds, HoldsPart, LeavesOthers}
+use Rattle.lk_outside.specs.Files.{Files, Told}
+use Rattle.run_shell.specs.Outcome.{Outcome, Holds, HoldsPart, LeavesOthers}
 use Rattle.run_shell.specs.Meaning.{Meaning, Cause, IsLawful, IsMeaning, of_words, of_plan, of_input, of_held, of_none}
 use Rattle.run_shell.specs.Stops.{StoreCount, StopCount, Ends, Comes, stop_status, stop_text, is_of_store, held_status}
 use Rattle.run_shell.specs.Run.{TellsStore}
@@ -157,6 +156,7 @@ no_memory_ends accepted m e sb x law h = record {
   where
     apart : OutOfMemory ≡ Usage → ⊥
     apart e = cc
+
     ends : (z : Option Files) → IfSome z (λ files. Ends m files e.status e.text z z)
     ends None = tt
     ends (Some u) = moved m u OutOfMemory e.status memory_line e.text (Some u) (Some u) h.status h.text (refl, untouched m u (Some u))

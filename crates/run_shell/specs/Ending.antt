@@ -1,5 +1,5 @@
 -- How the work of a command ends, and all that stands after a run.
-use Rattle.std.specs.Prelude.{Bool, false, ◌≡◌, ◌⊎◌, ℕ, ◌<◌, ◌+◌, ◌≤◌, List, [], Option, IfSome}
+use Rattle.std.specs.Prelude.{false, ◌≡◌, ◌⊎◌, ℕ, ◌<◌, ◌+◌, ◌≤◌, List, [], Option, IfSome}
 use Rattle.link_reports.specs.Faults.{usage_line, memory_line}
 use Rattle.lk_outside.specs.Files.{Files, Told}
 use Rattle.run_shell.specs.declared.status.Status.{Status}
