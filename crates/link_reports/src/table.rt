@@ -6,6 +6,7 @@ ghost use Rattle.link_reports.specs.TableWriter.{table_setup, IsBetweenRows};
 
 use crate::lines::put;
 use csv::{Writer, WriterBuilder};
+use fault_spans::SpanList;
 use lk_base::{OutOfMemory, Pos, Why};
 use receive_model::Span;
 use std::alloc::{AllocError, Global};
@@ -80,12 +81,8 @@ fn write_span(alloc: Global, writer: &mut Writer<Vec<u8>>, span: &Span) -> Resul
     ensures between { OnOk result (IsBetweenRows writer.new) }
     ensures text { OnOk result (Appends (text_written (λ v. Some v.items) writer.old) (text_written (λ v. Some v.items) writer.new) (span_row span.now)) }
 {
-    let Ok(after) = place_texts(alloc, span.after) else {
-        return Err(OutOfMemory);
-    };
-    let Ok(before) = place_texts(alloc, span.before) else {
-        return Err(OutOfMemory);
-    };
+    let after = place_texts(alloc, span.after)?;
+    let before = place_texts(alloc, span.before)?;
     let fields = [
         after.group.as_bytes(),
         after.index.as_bytes(),
@@ -113,15 +110,21 @@ fn table_of(alloc: Global, spans: &[Span]) -> Result<Vec<u8>, OutOfMemory>
     }
 }
 
-/// Appends the span table: its heading, and one row for each span in order, with the group and the index of the word before
-/// it, those of the word behind it, and what it is for. A place that is not there is `-` in both its columns. `out` is as
-/// before where memory runs out.
-pub fn spans_csv(alloc: Global, out: &mut Vec<u8>, spans: &[Span]) -> Result<(), OutOfMemory>
+/// Appends the span table of spans that stand in a slice. `out` is as before where memory runs out.
+pub fn spans_csv_of(alloc: Global, out: &mut Vec<u8>, spans: &[Span]) -> Result<(), OutOfMemory>
     ensures ok { OnOk result (out.new.items ≡ out.old.items ++ span_table spans.now) }
     ensures err { OnErr result (out.new.items ≡ out.old.items) }
 {
-    match table_of(alloc, spans) {
-        Ok(table) => put(out, &table),
-        Err(OutOfMemory) => Err(OutOfMemory),
-    }
+    let table = table_of(alloc, spans)?;
+    put(out, &table)
+}
+
+/// Appends the span table: its heading, and one row for each span in order, with the group and the index of the word before
+/// it, those of the word behind it, and what it is for. A place that is not there is `-` in both its columns. `out` is as
+/// before where memory runs out.
+pub fn spans_csv(alloc: Global, out: &mut Vec<u8>, spans: &SpanList) -> Result<(), OutOfMemory>
+    ensures ok { OnOk result (out.new.items ≡ out.old.items ++ span_table spans.now) }
+    ensures err { OnErr result (out.new.items ≡ out.old.items) }
+{
+    spans_csv_of(alloc, out, spans.as_slice())
 }
