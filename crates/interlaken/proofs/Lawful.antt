@@ -2,8 +2,9 @@
 use Rattle.std.proofs.Common.{◌≡◌, ℕ, List, refl, Option, Some, None, IsSome}
 use Rattle.run_shell.specs.Meaning.{IsLawful, IsMeaning}
 use Rattle.run_shell.proofs.Endings.{misused_lawful, asked_lawful}
-use Rattle.stream_commands.proofs.Standins.{means as stream_means}
-use Rattle.receive_commands.proofs.Standins.{means as receive_means}
+use Rattle.stream_commands.proofs.CaptureWork.{capture_means}
+use Rattle.stream_commands.proofs.PlanWork.{burst_means, send_means}
+use Rattle.receive_commands.proofs.Joins.{join_words_means, join_plan_means}
 use Rattle.interlaken.specs.declared.request.Request.{Request}
 use Rattle.interlaken.specs.declared.request.Request.TheVariants.{BurstCapture, BurstPlan, JoinWords, JoinPlan, SendPlan}
 use Rattle.interlaken.specs.Request.{request_of}
@@ -13,11 +14,11 @@ use Rattle.interlaken.proofs.Asking.{none_some}
 
 -- one line for each command
 pub request_lawful : (r : Request) → IsMeaning (meaning_of r)
-request_lawful (BurstCapture name) = stream_means name
-request_lawful (BurstPlan name) = stream_means name
-request_lawful (JoinWords name) = receive_means name
-request_lawful (JoinPlan name) = receive_means name
-request_lawful (SendPlan name) = stream_means name
+request_lawful (BurstCapture name) = capture_means name
+request_lawful (BurstPlan name) = burst_means name
+request_lawful (JoinWords name) = join_words_means name
+request_lawful (JoinPlan name) = join_plan_means name
+request_lawful (SendPlan name) = send_means name
 
 by : (a : Option Request) → IsLawful (IsSome a) (meaning_by a)
 by None = misused_lawful (IsSome {T = Request} None) none_some

@@ -3,8 +3,9 @@ use Rattle.std.specs.Prelude.{Option, Some, None}
 use Rattle.run_shell.specs.Meaning.{Meaning}
 use Rattle.run_shell.specs.Ending.{misused_meaning}
 use Rattle.stream_commands.specs.Capture.{burst_capture_meaning}
-use Rattle.stream_commands.specs.Planned.{burst_plan_meaning, send_plan_meaning}
-use Rattle.receive_commands.specs.Join.{join_words_meaning, join_plan_meaning}
+use Rattle.stream_commands.specs.Plan.{burst_plan_meaning, send_plan_meaning}
+use Rattle.receive_commands.specs.JoinPlan.{join_plan_meaning}
+use Rattle.receive_commands.specs.JoinWords.{join_words_meaning}
 use Rattle.interlaken.specs.declared.request.Request.{Request}
 use Rattle.interlaken.specs.declared.request.Request.TheVariants.{BurstCapture, BurstPlan, JoinWords, JoinPlan, SendPlan}
 
