@@ -19,7 +19,7 @@ pub use law::worked_texts;
 pub use lines::{count_line, held_line, sent_line, slots_line};
 pub use received::{dropped_line, got_line, spans_line};
 pub use replay::{Missing, accidents_line, missing_line};
-pub use table::{spans_csv, spans_csv_of};
+pub use table::spans_csv;
 
 #[cfg(test)]
 mod tests {
