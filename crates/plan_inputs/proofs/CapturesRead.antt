@@ -1,5 +1,5 @@
 -- The captures of channels, one after the other.
-use Rattle.std.proofs.Common.{◌≡◌, ℕ, zero, suc, ◌+◌, ◌-◌, ◌<◌, ◌≤◌, List, [], ◌∷◌, ◌++◌, length, map, drop, get_or, refl, sym, ap, ◌∙◌, subst, arith, append_assoc, Option, Some, None, IfSome, Result, Ok, Err, Contains, Vec, Global, string_bytes, add-one}
+use Rattle.std.proofs.Common.{◌≡◌, ℕ, zero, suc, ◌+◌, ◌-◌, ◌<◌, ◌≤◌, List, [], ◌∷◌, ◌++◌, length, map, drop, get_or, refl, sym, ap, ◌∙◌, arith, append_assoc, Option, Some, None, IfSome, Result, Ok, Err, Contains, Vec, Global, string_bytes, add-one}
 use Rattle.std.proofs.lemmas.List.{append-nil, drop_all}
 use Rattle.std.proofs.Math.Seq.{drop-cons}
 use Rattle.lk_base.specs.Limits.{capture_limit}
@@ -15,8 +15,8 @@ use Rattle.run_shell.specs.declared.stop.Stop.{Stop}
 use Rattle.run_shell.specs.declared.stop.Stop.TheVariants as stop
 use Rattle.run_shell.specs.Reading.{Refusal, of_plan, of_input, behind, bytes_in, vec_items, Reads, IsOfInput}
 use Rattle.run_shell.proofs.Readings.{first_stops, told_back}
-use Rattle.plan_inputs.specs.Inputs.{packets_by, on_channel, packets_then, packets_in, IsCapture}
-use Rattle.plan_inputs.specs.Steps.{capture_at, AddsCapture}
+use Rattle.plan_inputs.specs.Inputs.{packets_by, capture_at, on_channel, packets_then, packets_in, IsCapture}
+use Rattle.plan_inputs.specs.Steps.{AddsCapture}
 use Rattle.plan_inputs.specs.Values.{packet_values}
 use Rattle.plan_inputs.specs.declared.packet.ChannelPacket.{ChannelPacket}
 

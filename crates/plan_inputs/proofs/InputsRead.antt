@@ -1,5 +1,5 @@
 -- The inputs of a plan, one after the other, and the plan before them.
-use Rattle.std.proofs.Common.{◌≡◌, ℕ, List, [], ◌∷◌, map, refl, sym, ap, ◌∙◌, subst, Option, Some, None, IfSome, Result, Ok, Err, MatchResult, Vec, Global, inl, inr}
+use Rattle.std.proofs.Common.{◌≡◌, ℕ, List, [], ◌∷◌, map, refl, sym, ap, subst, Option, Some, IfSome, Result, Ok, Err, MatchResult, Vec, Global, inl, inr}
 use Rattle.lk_base.specs.Limits.{capture_limit}
 use Rattle.lk_outside.specs.Files.{Files}
 use Rattle.stream_model.specs.declared.rows.FlowRow.{FlowRow}
@@ -13,7 +13,7 @@ use Rattle.link_plan.specs.declared.plan.Plan.{Plan}
 use Rattle.run_shell.specs.declared.stop.Stop.{Stop}
 use Rattle.run_shell.specs.Reading.{Refusal, behind, Reads}
 use Rattle.run_shell.proofs.Moves.{if_told_by}
-use Rattle.run_shell.proofs.Readings.{first_stops, second_reads, told_back}
+use Rattle.run_shell.proofs.Readings.{first_stops, second_reads}
 use Rattle.plan_inputs.specs.Inputs.{Inputs, Reading, packets_in, rows_in, numbers_in, inputs_in, plan_in, with_inputs, planned_in, IsCapture, IsInput, IsRead}
 use Rattle.plan_inputs.specs.Values.{packet_values, inputs_value, reading_value}
 use Rattle.plan_inputs.specs.declared.packet.ChannelPacket.{ChannelPacket}

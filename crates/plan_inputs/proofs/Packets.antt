@@ -1,7 +1,8 @@
 -- What the packets of an accepted capture keep.
-use Rattle.std.proofs.Common.{◌≡◌, ℕ, zero, suc, ◌+◌, ◌-◌, ◌<◌, ◌≤◌, List, [], ◌∷◌, ◌++◌, length, map, subst, sym, ap, ◌∙◌, refl, arith, All, Contains, Ok}
+use Rattle.std.proofs.Common.{◌≡◌, ℕ, zero, suc, ◌+◌, ◌-◌, ◌<◌, ◌≤◌, List, [], ◌∷◌, ◌++◌, length, map, subst, sym, ap, ◌∙◌, refl, arith, All, Contains, Ok, get_or, Fits, w8}
 use Rattle.std.specs.Prelude.{sum_by}
 use Rattle.std.specs.List.{AllByRecursion}
+use Rattle.std.proofs.lemmas.List.{get_or_default}
 use Rattle.std.proofs.lemmas.List.Elements.{All-append, All-map}
 use Rattle.std.proofs.lemmas.List.Sums.{sum_by-cons, sum_by-append}
 use Rattle.lk_base.specs.Limits.{longest_packet}
@@ -25,6 +26,10 @@ all_back P f [] h k d lt = absurd (omega arith)
 all_back P f (x ∷ xs) h zero d lt = h 0 (f x) (omega arith)
 all_back P f (x ∷ xs) h (suc k) d lt = all_back P f xs (λ j e l. h (suc j) e (omega arith)) k d (omega arith)
 
+sum_by-map : {X Y : Type 0} (f : X → Y) (g : Y → ℕ) (xs : List X) → sum_by g (map f xs) ≡ sum_by (λ x. g (f x)) xs
+sum_by-map f g [] = refl
+sum_by-map f g (x ∷ xs) = sum_by-cons g (f x) (map f xs) ∙ ap (λ n. g (f x) + n) (sum_by-map f g xs) ∙ sym (sum_by-cons (λ y. g (f y)) x xs)
+
 -- ---- of bytes
 
 -- the packets of an accepted capture that holds bytes
@@ -32,6 +37,9 @@ pub capture_fits : (bytes : List ℕ) (most : ℕ) (packets : List (List ℕ)) �
 capture_fits bytes most packets small e k d lt =
     let w = all_of (IsWithin most) packets (packets-within bytes most packets e) k d lt in
     record { some = w.least; fits = w.largest; bytes = all_of (All (λ b. b < 256)) packets (packets-bytes (λ b. b < 256) bytes most packets small e) k d lt }
+
+all_bytes : (bytes : List ℕ) → ((i : ℕ) → Fits w8 (get_or bytes i 0)) → All (λ b. b < 256) bytes
+all_bytes bytes h k d lt = let f : Fits w8 (get_or bytes k 0) = h k in let e = get_or_default bytes k 0 d lt in omega arith
 
 -- ---- of lent packets
 
@@ -41,6 +49,16 @@ lent_sized now most xs ys same le within =
     subst (λ zs. All (λ x. (1 ≤ length (now x)) × (length (now x) ≤ 262144)) zs) (sym same)
     (λ k d lt. let w = all_back (IsWithin most) now ys (all_of (IsWithin most) (map now ys) within) k d lt in
     let low = w.least in let high = w.largest in (low, omega arith))
+
+-- and, of bytes, they are packets
+pub lent_fit : {X : Type 0} (now : X → List ℕ) (bytes : List ℕ) (xs ys : List X) → xs ≡ ys → ((i : ℕ) → Fits w8 (get_or bytes i 0)) → capture_of bytes longest_packet ≡ Ok (map now ys) → All (IsPacket longest_packet) (map now xs)
+lent_fit now bytes xs ys same small is = subst (λ zs. All (IsPacket longest_packet) (map now zs)) (sym same) (capture_fits bytes longest_packet (map now ys) (all_bytes bytes small) is)
+
+-- and not too long
+pub all_sized : {X : Type 0} (now : X → List ℕ) (xs : List X) → All (IsPacket longest_packet) (map now xs) → All (λ x. (1 ≤ length (now x)) × (length (now x) ≤ 262144)) xs
+all_sized now xs fit k d lt =
+    let p = all_back (IsPacket longest_packet) now xs fit k d lt in
+    (p.some, p.fits)
 
 total_fits : (packets : List (List ℕ)) → sum_by length packets ≤ space_of packets
 total_fits [] = omega arith
@@ -57,6 +75,12 @@ lent_within now xs ys n same is =
     let b = total_fits (map now ys) in
     omega arith
 
+pub lent_total : {X : Type 0} (now : X → List ℕ) (xs ys : List X) (n limit : ℕ) → xs ≡ ys → 24 + space_of (map now ys) ≡ n → n < limit → sum_by (λ x. length (now x)) xs < limit
+lent_total now xs ys n limit same is lt =
+    let a = lent_within now xs ys n same is in
+    let b = sum_by-map now length xs in
+    omega arith
+
 -- ---- of packets with their channels
 
 all_on : (channels : List ℕ) (channel : ℕ) (found : List (List ℕ)) → Contains channels channel → AreOn channels (on_channel channel found)
@@ -65,10 +89,6 @@ all_on channels channel found it = All-map (λ (p : ℕ × List ℕ). Contains c
 pub on_more : (channels : List ℕ) (channel size : ℕ) (old new : List ChannelPacket) → Contains channels channel → AddsSome channel size old new → AreOn channels (packet_values old) → AreOn channels (packet_values new)
 on_more channels channel size old new it (found, is, le) h =
     subst (AreOn channels) (sym is) (All-append (λ (p : ℕ × List ℕ). Contains channels p.0) (packet_values old) (on_channel channel found) h (all_on channels channel found it))
-
-sum_by-map : {X Y : Type 0} (f : X → Y) (g : Y → ℕ) (xs : List X) → sum_by g (map f xs) ≡ sum_by (λ x. g (f x)) xs
-sum_by-map f g [] = refl
-sum_by-map f g (x ∷ xs) = sum_by-cons g (f x) (map f xs) ∙ ap (λ n. g (f x) + n) (sum_by-map f g xs) ∙ sym (sum_by-cons (λ y. g (f y)) x xs)
 
 pub size_more : (channel size room left limit : ℕ) (old new : List ChannelPacket) → AddsSome channel size old new → size ≤ room → left ≡ room - size → size_of (packet_values old) + room ≤ limit → size_of (packet_values new) + left ≤ limit
 size_more channel size room left limit old new (found, is, le) fits e h =

@@ -1,5 +1,5 @@
 -- Where files hold bytes, the packets of what is accepted are of bytes, and a plan's source has a stream.
-use Rattle.std.proofs.Common.{◌≡◌, ℕ, ◌-◌, ◌<◌, ◌≤◌, Bool, true, false, List, [], ◌∷◌, ◌++◌, length, map, refl, sym, ap, ◌∙◌, subst, arith, All, Option, Some, None, Result, Ok, Err, nat_lt, cond}
+use Rattle.std.proofs.Common.{◌≡◌, ℕ, ◌-◌, ◌<◌, Bool, true, false, List, [], ◌∷◌, ◌++◌, length, sym, ap, subst, arith, All, Option, Some, None, Result, Ok, Err, nat_lt, cond}
 use Rattle.std.proofs.lemmas.List.Elements.{All-append, All-map}
 use Rattle.lk_base.specs.Limits.{longest_packet, capture_limit}
 use Rattle.lk_base.specs.declared.word.Word.{Word}
@@ -13,13 +13,12 @@ use Rattle.link_plan.specs.Listing.{channels_in_order}
 use Rattle.link_plan.proofs.InOrder.{narrow_in_order}
 use Rattle.stream_model.specs.BurstStream.{Source, IsPacket, IsBurstStream}
 use Rattle.stream_model.proofs.SomeStream.{of_fitting}
-use Rattle.stream_model.specs.declared.rows.FlowRow.{FlowRow}
-use Rattle.stream_model.specs.declared.rows.LocalRow.{LocalRow}
 use Rattle.run_shell.specs.Reading.{Refusal, of_input, behind, bytes_by, bytes_in}
 use Rattle.run_shell.proofs.Readings.{behind_ok}
-use Rattle.plan_inputs.specs.Inputs.{Inputs, packets_by, capture_in, on_channel, packets_then, packets_in, rows_in, numbers_in, inputs_in}
+use Rattle.plan_inputs.specs.Inputs.{Inputs, Reading, packets_by, capture_in, on_channel, packets_then, packets_in, rows_in, numbers_in, plan_in, inputs_in, with_inputs, planned_in}
 use Rattle.plan_inputs.specs.Sources.{IsSourceOf}
 use Rattle.plan_inputs.proofs.Packets.{capture_fits}
+use Rattle.plan_inputs.proofs.SomeSource.{some_source}
 
 -- ---- files
 
@@ -90,3 +89,19 @@ some_plan_stream files plan inputs source are e of =
     of_fitting source
     (subst (λ cs. All (λ channel. channel < 256) cs) (sym of.channels) (in_order_low (numbers_in plan)))
     (subst (λ (ps : List (ℕ × List ℕ)). All (λ (p : ℕ × List ℕ). All (λ byte. byte < 256) p.1) ps) (sym of.packets) (λ k d lt. (inputs_packets files plan inputs are e k d lt).bytes))
+
+-- ---- the plan with its inputs
+
+pub planned_parts : (files : Files) (name : List ℕ) (r : Reading) → planned_in files name ≡ Ok r → (plan_in files name ≡ Ok r.plan) × (inputs_in files r.plan ≡ Ok r.inputs)
+unfolding planned_in
+planned_parts files name r e =
+    let (plan, had, next) = behind_ok (plan_in files name) (with_inputs files) r e in
+    let (inputs, read, last) = behind_ok (inputs_in files plan) (λ i. Ok (record { plan = plan; inputs = i })) r next in
+    let same : record { plan = plan; inputs = inputs } ≡ r = cc in
+    subst (λ (s : Reading). (plan_in files name ≡ Ok s.plan) × (inputs_in files s.plan ≡ Ok s.inputs)) same (had, read)
+
+pub planned_stream : (files : Files) (name : List ℕ) (r : Reading) → AreBytes files → planned_in files name ≡ Ok r → (source : Source) × IsSourceOf r.plan r.inputs source × ((w : List Word) × IsBurstStream source w)
+planned_stream files name r are e =
+    let (had, read) = planned_parts files name r e in
+    let (source, of) = some_source files name r.plan r.inputs had in
+    (source, of, some_plan_stream files r.plan r.inputs source are read of)

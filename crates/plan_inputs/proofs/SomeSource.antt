@@ -1,5 +1,5 @@
 -- An accepted plan has a source.
-use Rattle.std.proofs.Common.{◌≡◌, ℕ, ◌+◌, ◌-◌, ◌*◌, ◌%◌, ◌<◌, ◌≤◌, List, [], refl, sym, ap, ◌∙◌, subst, arith, Option, Some, None, Result, Ok, Err}
+use Rattle.std.proofs.Common.{◌≡◌, ℕ, ◌-◌, ◌*◌, ◌≤◌, List, [], refl, ap, subst, arith, Option, Some, None, Result, Ok, Err}
 use Rattle.std.proofs.lemmas.Nat.{mul-le}
 use Rattle.std.proofs.Math.Nat.{one-le-mul}
 use Rattle.lk_base.specs.Link.{Settings, IsLink, group_of}
@@ -15,7 +15,7 @@ use Rattle.link_plan.specs.Plan.{PlanValue, plan_of, plan_from, said_by, missing
 use Rattle.link_plan.specs.declared.error.Key.{Key}
 use Rattle.link_plan.specs.declared.error.PlanError.{PlanError}
 use Rattle.link_plan.proofs.Links.{settings-limits}
-use Rattle.run_shell.specs.Reading.{Refusal, plan_bytes}
+use Rattle.run_shell.specs.Reading.{plan_bytes}
 use Rattle.run_shell.proofs.Readings.{behind_ok}
 use Rattle.stream_model.specs.BurstStream.{Source}
 use Rattle.plan_inputs.specs.Inputs.{Inputs, plan_by, plan_in, numbers_in}

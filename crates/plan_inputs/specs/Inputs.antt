@@ -31,9 +31,13 @@ abbrev pub packets_by : List ℕ → Result (List (List ℕ)) PcapError → Resu
 packets_by name (Ok packets) = Ok packets
 packets_by name (Err why) = Err (of_input name (Pcap why))
 
+-- the packets in the file of this name, which may have so many bytes, each of at most `most` bytes
+abbrev pub capture_at : Files → List ℕ → ℕ → ℕ → Result (List (List ℕ)) Refusal
+capture_at files name room most = behind (bytes_in files name room) (λ bytes. packets_by name (capture_of bytes most))
+
 -- the packets of one capture that stands without a plan
 unfoldable pub capture_in : Files → List ℕ → Result (List (List ℕ)) Refusal
-capture_in files name = behind (bytes_in files name capture_limit) (λ bytes. packets_by name (capture_of bytes longest_packet))
+capture_in files name = capture_at files name capture_limit longest_packet
 
 -- packets with the number of their channel
 abbrev pub on_channel : ℕ → List (List ℕ) → List (ℕ × List ℕ)

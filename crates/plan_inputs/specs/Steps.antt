@@ -7,8 +7,8 @@ use Rattle.link_plan.specs.declared.error.PlanError.TheVariants as refusal
 use Rattle.link_reports.specs.declared.faults.InputError.TheVariants.{Rows}
 use Rattle.run_shell.specs.declared.stop.Stop.{Stop}
 use Rattle.run_shell.specs.declared.stop.Stop.TheVariants as stop
-use Rattle.run_shell.specs.Reading.{Refusal, behind, bytes_in, Reads, IsOfInput}
-use Rattle.plan_inputs.specs.Inputs.{packets_by, on_channel}
+use Rattle.run_shell.specs.Reading.{bytes_in, Reads, IsOfInput}
+use Rattle.plan_inputs.specs.Inputs.{capture_at, on_channel}
 use Rattle.plan_inputs.specs.Values.{packet_values}
 use Rattle.plan_inputs.specs.declared.packet.ChannelPacket.{ChannelPacket}
 
@@ -21,10 +21,6 @@ pub record IsPlanStop (why : PlanError) (s : Stop) : Type 0 where
 pub record IsRowsStop (name : List ℕ) (why : PlanError) (s : Stop) : Type 0 where
   pub refused : why ≢ refusal.OutOfMemory → IsOfInput name (Rows why) s
   pub memory : why ≡ refusal.OutOfMemory → s ≡ stop.OutOfMemory
-
--- what the file of this name holds, where it may have so many bytes
-abbrev pub capture_at : Files → List ℕ → ℕ → ℕ → Result (List (List ℕ)) Refusal
-capture_at files name room most = behind (bytes_in files name room) (λ bytes. packets_by name (capture_of bytes most))
 
 -- A capture was read, and its packets stand behind those of the channels before; or why it was not.
 abbrev pub AddsCapture : Files → List ℕ → ℕ → ℕ → ℕ → Result ℕ Stop → List ChannelPacket → List ChannelPacket → Type 0

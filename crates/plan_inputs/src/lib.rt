@@ -9,9 +9,11 @@ mod packet;
 mod plan_file;
 mod reading;
 mod row_files;
+#[cfg(test)]
+mod tests;
 
 pub use inputs::{PlanInputs, PlanReading};
-pub use law::{capture_packets, one_source, some_plan_stream, some_source};
+pub use law::{capture_packets, one_source, plan_packets, some_plan_stream, some_source};
 pub use packet::ChannelPacket;
 pub use plan_file::read_plan_file;
 pub use reading::{read_inputs, read_plan_inputs};

@@ -1,10 +1,11 @@
 -- Readings one behind another, where the files are told.
-use Rattle.std.proofs.Common.{◌≡◌, ℕ, List, refl, sym, ap, subst, Option, Some, None, IfSome, Result, Ok, Err, string_bytes}
+use Rattle.std.proofs.Common.{◌≡◌, ℕ, List, refl, sym, subst, Option, Some, None, IfSome, Result, Ok, Err, string_bytes}
 use Rattle.run_shell.specs.declared.stop.Stop.{Stop}
 use Rattle.run_shell.specs.declared.stop.Stop.TheVariants as stop
 use Rattle.lk_outside.specs.Files.{Files}
-use Rattle.run_shell.specs.Reading.{Refusal, behind, Reads}
-use Rattle.run_shell.proofs.Works.{behind_stops, behind_read}
+use Rattle.run_shell.specs.Reading.{Refusal, behind, Reads, Work, meaning_by}
+use Rattle.run_shell.specs.Stops.{Comes}
+use Rattle.run_shell.proofs.Works.{behind_stops, behind_read, reading_stops}
 
 -- what was told of the files then is told of the files before, which are the same
 pub told_back : (P : Files → Type 0) (x y : Option Files) → y ≡ x → IfSome y P → IfSome x P
@@ -39,3 +40,8 @@ module _ (A B T U : Type 0) (first : Files → Result A Refusal) (next : Files �
   second_reads more named names a r (Some u) y same are had h =
       let here : Reads more (named u) r (next u a) = subst (λ z. IfSome z (λ files. Reads more (named files) r (next files a))) same h in
       subst (λ w. Reads more (names u) r w) (sym (behind_read A B T U (first u) (next u) a had)) (widened more (named u) (names u) r (next u a) (λ q n. are u q had n) here)
+
+-- a command's reading stopped at a file that it names, whichever files are there, with the files as they were
+pub reading_ends : (T : Type 0) (w : Work) (value : T → w.Inputs) (named : Files → List ℕ → Type 0) (s : Stop) (x y : Option Files) → y ≡ x → ((u : Files) (q : List ℕ) → named u q → w.Names u q) → IfSome x (λ files. Reads value (named files) (Err s) (w.inputs_in files)) → IfSome x (Comes (meaning_by w) x y (Err s))
+reading_ends T w value named s None y same are h = tt
+reading_ends T w value named s (Some u) y same are h = subst (λ z. Comes (meaning_by w) (Some u) z (Err s) u) (sym same) (reading_stops T w value (named u) s u (Some u) (are u) h)
