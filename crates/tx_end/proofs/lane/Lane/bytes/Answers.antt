@@ -1,11 +1,10 @@
-use Rattle.std.proofs.Common.{◌≡◌, ◌+◌, ◌*◌, ◌<◌, ◌≤◌, ℕ, List, [], ◌∷◌, ◌++◌, refl, sym, ap, subst, length, arith, append_assoc, append-nil}
+use Rattle.std.proofs.Common.{◌≡◌, ◌+◌, ℕ, List, [], ◌∷◌, ◌++◌, refl, sym, ap, subst, length, arith, append_assoc, append-nil}
 use Rattle.std.proofs.lemmas.List.{length_push}
 use Rattle.lk_base.specs.declared.word.Word.{Word}
 use Rattle.lk_base.specs.Link.{Settings}
 use Rattle.tx_end.specs.Lanes.{Carries}
 use Rattle.tx_end.specs.declared.lane.Lane.{Lane}
 use Rattle.tx_end.proofs.lane.Lane.bytes.Invariants.{Gave}
-use Rattle.tx_end.proofs.lane.Lane.bytes.Goals as goal
 
 none_given : (l : Lane) → Gave l l []
 none_given l = record {

@@ -1,4 +1,4 @@
-use Rattle.std.proofs.Common.{ℕ, ◌≡◌, ◌<◌, ◌≤◌, ◌++◌, List, sym, subst, arith}
+use Rattle.std.proofs.Common.{◌≡◌, ◌<◌, ◌++◌, List, sym, subst, arith}
 use Rattle.tx_end.specs.declared.tx_out.TxBytes.{TxBytes}
 use Rattle.tx_end.specs.declared.tx_out.TxOut.{TxOut}
 use Rattle.tx_end.specs.LaneRows.{IsOfLane, outs_of}
@@ -11,8 +11,7 @@ returns-in-Some-clause-some c s source words outs out k is =
     let e : one ≡ out = cc is in
     let closes = c.padding.ensures.some s source words outs c.in-Some.out k c.in-Some.is in
     let low = c.padding.ensures.lane s source words outs c.in-Some.out k c.in-Some.is in
-    subst (λ (x : TxBytes). Closes c.padding.new.self s source words (outs ++ outs_of x) × IsOfLane s x) e
-    (
+    subst (λ (x : TxBytes). Closes c.padding.new.self s source words (outs ++ outs_of x) × IsOfLane s x) e (
       subst (λ (more : List TxOut). Closes c.padding.new.self s source words (outs ++ more)) (sym c.one_byte.ensures.outs) closes,
       (subst (λ n. n < s.lanes) (sym c.one_byte.ensures.lane) low, omega (arith, c.one_byte.ensures.count)),
     )
