@@ -1,22 +1,21 @@
 -- What calls of `next` give where lanes wait, and at the end.
-use Rattle.std.proofs.Common.{ℕ, zero, suc, ◌≡◌, refl, sym, ap, ◌∙◌, subst, ◌+◌, ◌*◌, ◌<◌, ◌≤◌, Bool, true, false, List, [], ◌∷◌, ◌++◌, length, map, get_or, All, Option, Some, None, append_assoc, append-nil, arith, inl, inr}
+use Rattle.std.proofs.Common.{ℕ, zero, suc, ◌≡◌, refl, sym, ap, ◌∙◌, subst, ◌*◌, ◌≤◌, true, false, List, [], ◌∷◌, ◌++◌, length, map, All, Option, Some, None, append_assoc, arith, inl, inr}
 use Rattle.std.specs.Prelude.{◌⊎◌, not}
 use Rattle.std.proofs.lemmas.Bool.{and_parts, cases_Bool}
 use Rattle.std.proofs.lemmas.List.{append_cancel_left, length-append}
 use Rattle.std.proofs.lemmas.List.Elements.{All-cons, All-nil}
 use Rattle.std.proofs.lemmas.Option.{none-some, same_Some}
 use Rattle.epoch_model.proofs.Leasts.{clash}
-use Rattle.lk_base.specs.declared.word.Aligned.{Aligned}
 use Rattle.lk_base.specs.Link.{Settings}
 use Rattle.receive_model.specs.Events.{Event, Setting}
 use Rattle.receiver_model.specs.Fed.{AllGo, Fed, all_finished, clock_of, least_unfinished, rounds as rounds_of, whole}
-use Rattle.receiver_model.specs.Given.{AreEvents, AreItems, AreKnownEvents}
+use Rattle.receiver_model.specs.Given.{AreItems, AreKnownEvents}
 use Rattle.receiver_model.proofs.Clocks.{none_left, rounds_at_end}
 use Rattle.receiver_model.proofs.KnownEvents.{known_events_exist}
 use Rattle.reassembly.specs.SoFar.{outputs_so_far}
 use Rattle.rx_end.specs.declared.event.RxEvent.{RxEvent}
 use Rattle.rx_end.specs.declared.event.RxEvent.TheVariants as events
-use Rattle.rx_end.specs.Calls.{is_open, is_unfinished}
+use Rattle.rx_end.specs.Calls.{is_unfinished}
 use Rattle.rx_end.specs.Lanes.{are_ready}
 use Rattle.rx_end.specs.Nexts.{AreNexts, GivesFirst, IsNext}
 use Rattle.rx_end.specs.PiecesLaw.{EachGivesNext, EndComesInTime, EndComesOnce, EndGaveAll, NoneGaveAll, NoneLacksBytes, NoneMadeAllRounds, NoneWhereAllGiven, bytes_of}

@@ -1,5 +1,5 @@
 -- What was given are the first events of what was fed, and of all lanes that begin so.
-use Rattle.std.proofs.Common.{ℕ, zero, suc, ◌≡◌, refl, sym, ap, ◌∙◌, subst, ◌*◌, ◌<◌, ◌≤◌, Bool, true, false, List, [], ◌∷◌, ◌++◌, length, map, Option, Some, None, append_assoc, append-nil, arith, inl, inr}
+use Rattle.std.proofs.Common.{ℕ, zero, suc, ◌≡◌, refl, sym, ap, ◌∙◌, subst, ◌*◌, ◌<◌, Bool, true, false, List, [], ◌∷◌, ◌++◌, length, map, append_assoc, append-nil, arith, inl, inr}
 use Rattle.std.specs.Prelude.{not}
 use Rattle.std.specs.List.{cons_option}
 use Rattle.std.proofs.lemmas.Bool.{and_parts, cases_Bool}
@@ -19,8 +19,7 @@ use Rattle.rx_end.specs.Calls.{bytes_at, count_at, is_open, is_unfinished}
 use Rattle.rx_end.specs.Lanes.{AllStand}
 use Rattle.rx_end.specs.PiecesLaw.{GivenAreKnown, GivenComeFirst, LanesAreThose, bytes_of}
 use Rattle.rx_end.specs.Stages.{is_closed}
-use Rattle.rx_end.specs.Standing.{Stands}
-use Rattle.rx_end.specs.States.{Lane, State}
+use Rattle.rx_end.specs.States.{Lane}
 use Rattle.rx_end.proofs.Ending.{closed_at}
 use Rattle.rx_end.proofs.Putting.{clock_in, known_here}
 

@@ -1,5 +1,5 @@
 -- What calls of `next` do.
-use Rattle.std.specs.Prelude.{ℕ, ◌≡◌, ◌⊎◌, Bool, true, false, List, [], ◌∷◌, ◌++◌, Option, Some, None, IfSome, IfNone}
+use Rattle.std.specs.Prelude.{◌≡◌, ◌⊎◌, Bool, true, false, List, [], ◌∷◌, ◌++◌, Option, Some, None, IfSome, IfNone}
 use Rattle.lk_base.specs.Link.{Settings}
 use Rattle.receive_model.specs.Events.{Event, Setting}
 use Rattle.receiver_model.specs.Fed.{Fed}
