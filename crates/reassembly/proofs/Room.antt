@@ -103,7 +103,7 @@ roomy_released greatest pool p roomy = record {
   place = tt;
 }
 
-none_at : (n p : ℕ) → bytes_at (replicate n []) p ≡ []
+pub none_at : (n p : ℕ) → bytes_at (replicate n []) p ≡ []
 none_at zero p = refl
 none_at (suc n) zero = refl
 none_at (suc n) (suc p) = none_at n p
