@@ -1,5 +1,5 @@
 -- What is kept stands for a whole state as an item is put.
-use Rattle.std.proofs.Common.{ℕ, zero, suc, ◌≡◌, ◌+◌, ◌*◌, ◌%◌, refl, sym, ap, ap₂, ◌∙◌, subst, Bool, true, false, cond, List, [], ◌∷◌, ◌++◌, append-nil, append_assoc, flat_map, filter_map, length, length-append, map, set, Option, Some, None, is_some, unwrap_or, arith}
+use Rattle.std.proofs.Common.{ℕ, zero, suc, ◌≡◌, ◌+◌, ◌*◌, ◌%◌, refl, sym, ap, ap₂, ◌∙◌, Bool, true, false, cond, List, [], ◌∷◌, ◌++◌, append-nil, append_assoc, flat_map, filter_map, length, length-append, map, Option, Some, None, is_some, unwrap_or, arith}
 use Rattle.std.specs.Int.{w64, to_be_bytes}
 use Rattle.std.specs.List.{cons_option}
 use Rattle.std.proofs.lemmas.Grind.{flat_map-append}
@@ -7,7 +7,6 @@ use Rattle.lk_base.specs.declared.fault.Why.{Why}
 use Rattle.lk_base.specs.declared.word.RxWord.TheVariants as words
 use Rattle.lk_base.specs.declared.word.Aligned.{Aligned}
 use Rattle.lk_base.specs.declared.word.Aligned.TheVariants.{Group, Word, Break}
-use Rattle.lk_base.specs.declared.position.Pos.{Pos}
 use Rattle.lk_base.specs.Fields.{channel_field, has_burst, has_end, has_sop}
 use Rattle.control_words.specs.ControlWord.{end_of}
 use Rattle.receive_model.specs.Stretches.{fault_from}
@@ -19,11 +18,11 @@ use Rattle.reassembly.specs.declared.piece.Piece.TheVariants as kinds
 use Rattle.reassembly.specs.declared.stretch.Stretch.{Stretch}
 use Rattle.reassembly.specs.declared.run.Run.{Run}
 use Rattle.reassembly.specs.declared.word_at.WordAt.{WordAt}
-use Rattle.reassembly.specs.Keeps.{channel_at, not_listed}
+use Rattle.reassembly.specs.Keeps.{channel_at}
 use Rattle.reassembly.specs.Parts.{burst_of_word, closed_span, dropped_out_of, end_out_of, first_why, open_burst, with_out}
-use Rattle.reassembly.specs.Carries.{Carries, register_of, row_of, stretch_of}
-use Rattle.reassembly.specs.States.{Row, State, row_at}
-use Rattle.reassembly.specs.Steps.{after, begun, begun_by, begun_out, change, closed, dropped_out, emptied, ended_out, ended_whole, failed, fault_by, judged, out_of_begin, out_of_end, passed, stretch_ended, table_begun, table_ended, whole_of_end, with_data_word, with_stretch, with_word}
+use Rattle.reassembly.specs.Carries.{Carries, row_of, stretch_of}
+use Rattle.reassembly.specs.States.{Row, State}
+use Rattle.reassembly.specs.Steps.{after, begun, begun_by, begun_out, change, closed, dropped_out, emptied, ended_out, ended_whole, failed, judged, out_of_begin, out_of_end, passed, stretch_ended, table_begun, table_ended, whole_of_end, with_data_word, with_stretch, with_word}
 use Rattle.reassembly.specs.Wholes as whole
 use Rattle.reassembly.specs.WholeSteps as steps
 use Rattle.reassembly.proofs.Carrying.{AreWords, IsCounted, accepted, begun-of, counted, data-of, fault-of, row-begun, row-closed, row-emptied, row-whole, row-word, rows-any, rows-at, rows-change}

@@ -1,13 +1,11 @@
 -- The channels as they are made: each listed one has its own place, and shows a row before any word.
-use Rattle.std.proofs.Common.{ℕ, zero, suc, ◌≡◌, ◌⊎◌, inl, inr, ◌<◌, ◌≤◌, refl, sym, ap, ap₂, ◌∙◌, subst, Bool, true, false, List, [], ◌∷◌, length, get_or, replicate, Option, Some, None, is_some, MatchOption, slice_get, arith}
+use Rattle.std.proofs.Common.{ℕ, zero, suc, ◌≡◌, inl, inr, ◌<◌, refl, sym, ap, ◌∙◌, subst, true, List, [], ◌∷◌, length, replicate, Option, Some, None, MatchOption, slice_get, arith}
 use Rattle.std.proofs.lemmas.Bool.{cases_lt}
 use Rattle.std.proofs.lemmas.List.{get_or_past, length-map}
 use Rattle.cell_pool.specs.Stored.{bytes_at}
 use Rattle.reassembly.specs.declared.channel.Channel.{Channel}
-use Rattle.reassembly.specs.declared.piece.Piece.TheVariants as kinds
 use Rattle.reassembly.specs.Firsts.{AreFirst, IsFirst, IsFirstTable, first_row}
 use Rattle.reassembly.specs.Settings.{is_among}
-use Rattle.reassembly.specs.States.{Row, row_at}
 use Rattle.reassembly.specs.Tables.{IsPlaced, channel_row, kept_at, kept_row, kept_rows}
 use Rattle.reassembly.proofs.Placed.{rows-at}
 use Rattle.reassembly.proofs.Room.{none_at}

@@ -1,5 +1,5 @@
 -- A packet is held exactly while it waits or is lent.
-use Rattle.std.proofs.Common.{ℕ, ◌≡◌, ◌+◌, refl, sym, ap, ap₂, ◌∙◌, Bool, true, false, cond, List, [], ◌∷◌, ◌++◌, filter_map, Option, Some, None, is_some, arith}
+use Rattle.std.proofs.Common.{ℕ, ◌≡◌, ◌+◌, refl, ap, ◌∙◌, Bool, true, false, cond, List, [], ◌∷◌, ◌++◌, filter_map, Option, Some, None, is_some, arith}
 use Rattle.std.specs.List.{cons_option}
 use Rattle.lk_base.specs.declared.fault.Why.{Why}
 use Rattle.lk_base.specs.declared.position.Pos.{Pos}

@@ -1,8 +1,7 @@
 -- The table of channels, where one of them changes.
-use Rattle.std.proofs.Common.{ℕ, zero, suc, ◌≡◌, ◌≢◌, ◌⊎◌, inl, inr, ◌<◌, refl, sym, ap, ap₂, ◌∙◌, subst, Bool, true, List, [], ◌∷◌, length, map, set, take, drop, ◌++◌, ◌+◌, get_or, get_or-set_same, get_or-set_other, Option, Some, None, arith}
+use Rattle.std.proofs.Common.{ℕ, zero, suc, ◌≡◌, ◌≢◌, inl, inr, ◌<◌, refl, sym, ap, ap₂, ◌∙◌, subst, Bool, true, List, [], ◌∷◌, length, map, set, take, drop, ◌++◌, ◌+◌, get_or, get_or-set_same, get_or-set_other, Option, Some, None, arith}
 use Rattle.std.proofs.lemmas.Bool.{cases_eq}
-use Rattle.std.proofs.lemmas.List.{ext_get_or, get_or_default, get_or_past, length-map, length-set, set-get_or}
-use Rattle.cell_pool.specs.Stored.{bytes_at}
+use Rattle.std.proofs.lemmas.List.{ext_get_or, get_or_default, length-map, length-set}
 use Rattle.reassembly.specs.declared.channel.Channel.{Channel}
 use Rattle.reassembly.specs.declared.piece.Piece.{Piece}
 use Rattle.reassembly.specs.declared.piece.Piece.TheVariants as kinds

@@ -1,7 +1,7 @@
 -- A whole state stands to what was put and given as one thing more is put.
-use Rattle.std.proofs.Common.{ℕ, ◌≡◌, refl, sym, ap, ap₂, ◌∙◌, subst, Bool, true, false, ◌||◌, List, [], ◌∷◌, ◌++◌, append_assoc, append-nil, map, drop, slice_get, Option, Some, None, option_map, MatchOption}
+use Rattle.std.proofs.Common.{ℕ, ◌≡◌, refl, sym, ap, ap₂, ◌∙◌, subst, Bool, true, false, ◌||◌, List, [], ◌∷◌, ◌++◌, append-nil, map, Option, Some, None, option_map, MatchOption}
 use Rattle.std.specs.List.{list_all}
-use Rattle.std.proofs.lemmas.Bool.{and_parts, and_from, false≢true}
+use Rattle.std.proofs.lemmas.Bool.{and_parts, and_from}
 use Rattle.lk_base.specs.declared.position.Pos.{Pos}
 use Rattle.lk_base.specs.declared.fault.Why.{Why}
 use Rattle.lk_base.specs.declared.word.RxWord.{RxWord}

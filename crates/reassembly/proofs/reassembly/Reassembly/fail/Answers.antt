@@ -1,6 +1,5 @@
 -- No packet is among the drops.
-use Rattle.std.proofs.Common.{ℕ, ◌≡◌, ◌≤◌, ◌∙◌, ◌++◌, sym, ap, subst, arith, length, Option, List, filter_map, deque_capacity}
-use Rattle.reassembly.specs.declared.out.Out.{Out}
+use Rattle.std.proofs.Common.{ℕ, ◌≡◌, ◌∙◌, ◌++◌, sym, ap, subst, arith, List, filter_map, deque_capacity}
 use Rattle.reassembly.specs.States.{IsHeld}
 use Rattle.reassembly.specs.Steps.{dropped_out}
 use Rattle.reassembly.specs.Tables.{Table}

@@ -1,5 +1,5 @@
 -- Nothing is put yet.
-use Rattle.std.proofs.Common.{ℕ, ◌≡◌, ◌≤◌, ◌∙◌, ap, subst, refl, arith, length, List}
+use Rattle.std.proofs.Common.{ℕ, ◌≡◌, ap, subst, refl, arith, length, List}
 use Rattle.reassembly.specs.Firsts.{IsFirstTable}
 use Rattle.reassembly.proofs.MadeFirst.{stands-first}
 use Rattle.reassembly.proofs.reassembly.Reassembly.make.Goals as goal

@@ -1,5 +1,5 @@
 -- The packet that the word ends is the one that is held.
-use Rattle.std.proofs.Common.{ℕ, ◌≡◌, ◌≤◌, ◌∙◌, ◌++◌, sym, ap, subst, arith, length, Option, List, [], false, deque_capacity}
+use Rattle.std.proofs.Common.{◌≡◌, ◌∙◌, ◌++◌, sym, ap, subst, arith, Option, deque_capacity}
 use Rattle.reassembly.specs.declared.out.Out.{Out}
 use Rattle.reassembly.specs.Parts.{with_out}
 use Rattle.reassembly.specs.States.{IsHeld, State}

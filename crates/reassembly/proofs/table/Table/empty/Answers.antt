@@ -1,5 +1,5 @@
 -- One more channel is emptied.
-use Rattle.std.proofs.Common.{ℕ, ◌≡◌, ◌<◌, ◌∙◌, length, sym, ap, arith}
+use Rattle.std.proofs.Common.{◌≡◌, ◌<◌, ◌∙◌, length, sym, ap, arith}
 use Rattle.std.proofs.lemmas.List.{length-map}
 use Rattle.reassembly.specs.Tables.{Table, kept_row}
 use Rattle.reassembly.proofs.Placed.{emptied_more}

@@ -1,11 +1,10 @@
 -- The channel stays at its place.
-use Rattle.std.proofs.Common.{ℕ, ◌≡◌, ◌<◌, ◌∙◌, refl, sym, ap, subst, arith, length, set, List, [], Option, Some, None}
+use Rattle.std.proofs.Common.{◌≡◌, ◌<◌, ◌∙◌, refl, sym, ap, subst, arith, length, set, [], Some}
 use Rattle.std.proofs.lemmas.List.{length-map, length-set}
 use Rattle.reassembly.specs.declared.channel.Channel.{Channel}
 use Rattle.reassembly.specs.Packets.{Packets}
-use Rattle.reassembly.specs.States.{Row}
-use Rattle.reassembly.specs.Tables.{IsPlaced, Table, channel_row, kept_at, kept_row}
-use Rattle.reassembly.proofs.Placed.{found, listed-word, placed_next, table_next}
+use Rattle.reassembly.specs.Tables.{IsPlaced, Table, kept_at, kept_row}
+use Rattle.reassembly.proofs.Placed.{found, placed_next, table_next}
 use Rattle.reassembly.specs.Steps.{emptied}
 use Rattle.reassembly.proofs.table.Table.empty_at.Goals as goal
 

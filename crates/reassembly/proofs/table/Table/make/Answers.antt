@@ -1,5 +1,5 @@
 -- Each listed channel has its own place, and no channel has a word.
-use Rattle.std.proofs.Common.{ℕ, ◌≡◌, ◌∙◌, ap, length, []}
+use Rattle.std.proofs.Common.{◌∙◌, ap, length, []}
 use Rattle.std.proofs.lemmas.List.{length-replicate}
 use Rattle.reassembly.specs.Packets.{Packets}
 use Rattle.reassembly.proofs.FirstPlaces.{placed_first, rows_first}
