@@ -4,8 +4,8 @@ import struct
 import sys
 
 
-def main():
-    name, megabytes, size = sys.argv[1], int(sys.argv[2]), int(sys.argv[3])
+def write_capture(name, megabytes, size):
+    """The packets have so many millions of bytes together."""
     packet = bytes((i * 37 + 11) % 256 for i in range(size))
     record = struct.pack("<IIII", 0, 0, size, size) + packet
     with open(name, "wb") as file:
@@ -14,4 +14,5 @@ def main():
             file.write(record)
 
 
-main()
+if __name__ == "__main__":
+    write_capture(sys.argv[1], int(sys.argv[2]), int(sys.argv[3]))

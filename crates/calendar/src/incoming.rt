@@ -57,20 +57,14 @@ impl CalendarIn {
 
     /// All channels are on, and no word counts until a reset.
     pub fn make(alloc: Global, entries: &[u16]) -> Result<CalendarIn, OutOfMemory>
-        requires low { 1 ≤ length entries.now }
-        requires high { length entries.now ≤ 1024 }
         ensures { IfOk result (λ calendar. Stands calendar entries.now []) }
     {
         let mut on = Vec::new(alloc);
         for _channel in 0..65536usize {
-            if on.push(true).is_err() {
-                return Err(OutOfMemory);
-            }
+            on.push(true)?;
         }
         let mut own = Vec::new(alloc);
-        if own.extend_from_slice(entries).is_err() {
-            return Err(OutOfMemory);
-        }
+        own.extend_from_slice(entries)?;
         Ok(CalendarIn {
             entries: own,
             next: None,

@@ -3,9 +3,11 @@
 
 mod incoming;
 mod outgoing;
+mod worded;
 
 pub use incoming::CalendarIn;
 pub use outgoing::CalendarOut;
+pub use worded::flow_word;
 
 #[cfg(test)]
 mod tests;

@@ -36,14 +36,10 @@ impl CalendarOut {
     {
         let mut on = Vec::new(alloc);
         for _channel in 0..65536usize {
-            if on.push(true).is_err() {
-                return Err(OutOfMemory);
-            }
+            on.push(true)?;
         }
         let mut own = Vec::new(alloc);
-        if own.extend_from_slice(entries).is_err() {
-            return Err(OutOfMemory);
-        }
+        own.extend_from_slice(entries)?;
         Ok(CalendarOut {
             entries: own,
             first: 0,

@@ -11,6 +11,7 @@ fn an_entry_turns_its_channel_off(rt: HostRuntime) -> Result<(), OutOfMemory> {
     let mut calendar = CalendarIn::make(rt.alloc(), &[1, 2])?;
     let mut changed = ArrayVec::new();
     let word = from_word(SECOND_OFF).ok().map(|read| read.0);
+    assert_eq!(rt; word.map(|c| flow_word(c)), Some(SECOND_OFF));
     calendar.take(word, &mut changed);
     assert_eq!(rt; changed.as_slice(), [(2, false)].as_slice());
     Ok(())

@@ -29,9 +29,7 @@ fn drain(writer: &mut BitWriter, bytes: &mut Vec<u8>) -> Result<(), OutOfMemory>
     ensures { OnOk result (length writer.new < 8) }
 {
     while let Some(byte) = writer.take() {
-        if bytes.push(byte).is_err() {
-            return Err(OutOfMemory);
-        }
+        bytes.push(byte)?;
     }
     Ok(())
 }

@@ -35,9 +35,7 @@ fn lane_words(
     let mut list = Vec::new(alloc);
     for place in 0..share_of(lanes, words.len(), lane) {
         let word = words[place * lanes as usize + lane as usize];
-        let Ok(()) = list.push(word) else {
-            return Err(OutOfMemory);
-        };
+        list.push(word)?;
     }
     Ok(list)
 }
@@ -55,9 +53,7 @@ pub fn stripe(alloc: Global, words: &[Word], lanes: u32) -> Result<Vec<Vec<Word>
     let mut lists = Vec::new(alloc);
     for lane in 0..lanes {
         let list = lane_words(alloc, words, lanes, lane)?;
-        let Ok(()) = lists.push(list) else {
-            return Err(OutOfMemory);
-        };
+        lists.push(list)?;
     }
     Ok(lists)
 }
@@ -79,8 +75,6 @@ pub fn gather(alloc: Global, lists: &[Vec<Word>]) -> Result<Vec<Word>, OutOfMemo
         let Some(word) = list.get(number / lists.len()) else {
             return Ok(words);
         };
-        let Ok(()) = words.push(*word) else {
-            return Err(OutOfMemory);
-        };
+        words.push(*word)?;
     }
 }

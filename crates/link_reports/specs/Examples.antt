@@ -1,11 +1,19 @@
 -- The texts of small words files: one packet of 60 bytes between two idles, whole, with one bit inverted, and with a Bad word;
--- and the file with no word.
-use Rattle.std.specs.Prelude.{ℕ, ◌≡◌, List, [], ◌++◌}
+-- and the file with no word. And the other lines, each once.
+use Rattle.std.specs.Prelude.{ℕ, ◌≡◌, List, [], ◌++◌, Some, None}
 use lib.Chars.{codes}
 use Rattle.receive_model.specs.Events.{word_events, shown_spans}
 use Rattle.receive_model.specs.Rows.{channel0, whole, flipped, bad}
 use Rattle.lk_base.specs.declared.word.RxWord.{RxWord}
-use Rattle.link_reports.specs.Lines.{line_end, got_line, spans_line, dropped_line}
+use Rattle.lock_model.specs.declared.types.LaneReport.{LaneReport}
+use Rattle.link_plan.specs.declared.error.PlanError.TheVariants as refusal
+use Rattle.link_plan.specs.declared.error.Key.TheVariants as key
+use Rattle.pcap_files.specs.declared.error.PcapError.TheVariants as capture
+use Rattle.link_reports.specs.declared.faults.InputError.TheVariants as cause
+use Rattle.link_reports.specs.declared.faults.Fault.TheVariants as fault
+use Rattle.link_reports.specs.declared.replay.Missing.{Missing}
+use Rattle.link_reports.specs.Lines.{line_end, sent_line, slots_line, got_line, spans_line, dropped_line, held_line, count_line, lane_line, accidents_line, missing_line}
+use Rattle.link_reports.specs.Faults.{fault_line, input_line, store_line}
 use Rattle.link_reports.specs.Drops.{drop_counts}
 use Rattle.link_reports.specs.Table.{span_table}
 
@@ -24,6 +32,20 @@ line text rest = text ++ (line_end ++ rest)
 abbrev pub under_heading : List ℕ → List ℕ
 under_heading rows = line (codes "after_group,after_index,before_group,before_index,why") rows
 
+-- a lane that locks once and stays, one that lost its lock and came back, and one that never locks
+abbrev pub steady : LaneReport
+steady = record { locks = 1; first = Some 6432; lost = 0; unframed = 0; bad = 0; sync = 0; state = 0; diag = 0 }
+
+abbrev pub darkened : LaneReport
+darkened = record { locks = 2; first = Some 6432; lost = 1; unframed = 3; bad = 15; sync = 4; state = 5; diag = 6 }
+
+abbrev pub silent : LaneReport
+silent = record { locks = 0; first = None; lost = 0; unframed = 2; bad = 0; sync = 0; state = 0; diag = 0 }
+
+-- the first packet of channel 1, which meets the second span
+abbrev pub lost_packet : Missing
+lost_packet = record { channel = 1; number = 0; first = 112; last = 185; span = 1 }
+
 pub record WorkedTexts : Type 0 where
   pub whole_table : table_of whole ≡ under_heading (line (codes "-,-,0,1,start") (line (codes "0,11,-,-,end") []))
   pub whole_drops : drops_of whole ≡ line (codes "dropped bad=0 crc=0 protocol=0 lost=0 end=0 toolong=0 unlisted=0 sender=0") []
@@ -34,3 +56,20 @@ pub record WorkedTexts : Type 0 where
   pub no_words_table : table_of [] ≡ under_heading (line (codes "-,-,-,-,start") [])
   pub got : got_line 0 1 60 ≡ line (codes "got channel=0 packets=1 bytes=60") []
   pub spans : spans_line 2 ≡ line (codes "spans 2") []
+  pub sent : sent_line 0 1 60 2 ≡ line (codes "sent channel=0 packets=1 bytes=60 left=2") []
+  pub slots : slots_line 12 ≡ line (codes "slots 12") []
+  pub held : held_line 2 ≡ line (codes "held channel=2") []
+  pub count : count_line (codes "samples") 7 ≡ line (codes "samples 7") []
+  pub steady_lane : lane_line 0 steady ≡ line (codes "lane 0 locks=1 first=6432 lost=0 unframed=0 bad=0 sync=0 state=0 diag=0") []
+  pub darkened_lane : lane_line 3 darkened ≡ line (codes "lane 3 locks=2 first=6432 lost=1 unframed=3 bad=15 sync=4 state=5 diag=6") []
+  pub silent_lane : lane_line 1 silent ≡ line (codes "lane 1 locks=0 first=- lost=0 unframed=2 bad=0 sync=0 state=0 diag=0") []
+  pub accidents : accidents_line 1 2 3 ≡ line (codes "accidents locks=1 groups=2 stretches=3") []
+  pub missing : missing_line lost_packet ≡ line (codes "missing channel=1 packet=0 first=112 last=185 span=1") []
+  pub usage : fault_line fault.Usage ≡ line (codes "usage: interlaken burst|join|send|receive|link FILE, or interlaken generate NUMBER PREFIX") []
+  pub no_plan : fault_line (fault.Plan refusal.NoFile) ≡ line (codes "plan refused: no file") []
+  pub faulty_row : fault_line (fault.Plan (refusal.Clash 3)) ≡ line (codes "plan refused: row 3: clash") []
+  pub missing_key : fault_line (fault.Plan (refusal.Missing key.Metaframe)) ≡ line (codes "plan refused: missing metaframe") []
+  pub cut_capture : input_line (codes "a.pcap") (cause.Pcap (capture.Short 24)) ≡ line (codes "input refused: a.pcap: short at 24") []
+  pub faulty_flow : input_line (codes "f") (cause.Rows (refusal.Number 2)) ≡ line (codes "input refused: f: row 2: number") []
+  pub store : store_line (codes "a.pcap.words") ≡ line (codes "store fault: a.pcap.words") []
+  pub memory : fault_line fault.OutOfMemory ≡ line (codes "out of memory") []

@@ -1,5 +1,5 @@
 -- The one line of a run that was stopped.
-use Rattle.std.specs.Prelude.{ℕ, List, ◌++◌}
+use Rattle.std.specs.Prelude.{ℕ, List, ◌++◌, string_bytes}
 use lib.Chars.{codes}
 use Rattle.pcap_files.specs.Texts.{refusal_text}
 use Rattle.words_files.specs.Texts.{words_refusal_text}
@@ -7,6 +7,8 @@ use Rattle.link_plan.specs.Texts.{refusal_text as rows_text}
 use Rattle.link_plan.specs.declared.error.PlanError.{PlanError}
 use Rattle.link_reports.specs.declared.faults.InputError.{InputError}
 use Rattle.link_reports.specs.declared.faults.InputError.TheVariants.{NoFile, TooLarge, Pcap, Words, Rows}
+use Rattle.link_reports.specs.declared.faults.Fault.{Fault}
+use Rattle.link_reports.specs.declared.faults.Fault.TheVariants as fault
 use Rattle.link_reports.specs.Lines.{line_end}
 
 -- the name of the cause
@@ -34,3 +36,11 @@ store_line name = codes "store fault: " ++ (name ++ line_end)
 
 abbrev pub memory_line : List ℕ
 memory_line = codes "out of memory" ++ line_end
+
+-- the one line of a fault
+abbrev pub fault_line : Fault → List ℕ
+fault_line fault.Usage = usage_line
+fault_line (fault.Plan why) = plan_line why
+fault_line (fault.Input name why) = input_line (string_bytes name) why
+fault_line (fault.Store name) = store_line (string_bytes name)
+fault_line fault.OutOfMemory = memory_line

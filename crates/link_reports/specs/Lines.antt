@@ -1,7 +1,9 @@
 -- The lines of a report. Each ends in the byte 0A, and its numbers are plain decimal.
-use Rattle.std.specs.Prelude.{ℕ, List, [], ◌∷◌, ◌++◌, slice_index}
+use Rattle.std.specs.Prelude.{ℕ, List, [], ◌∷◌, ◌++◌, Option, Some, None, slice_index}
 use Rattle.std.specs.Fmt.{decimal}
 use lib.Chars.{codes}
+use Rattle.lock_model.specs.declared.types.LaneReport.{LaneReport}
+use Rattle.link_reports.specs.declared.replay.Missing.{Missing}
 
 -- a name of a value, its number, and what comes behind it
 abbrev pub told : List ℕ → ℕ → List ℕ → List ℕ
@@ -55,3 +57,52 @@ dropped_line counts = first_drops counts ++ other_drops counts
 -- the least listed channel that has bytes left at the finish
 abbrev pub held_line : ℕ → List ℕ
 held_line channel = told (codes "held channel=") channel line_end
+
+-- a name, and how many of what it names there are
+abbrev pub count_line : List ℕ → ℕ → List ℕ
+count_line name count = name ++ (codes " " ++ (decimal count ++ line_end))
+
+-- a number, or a stroke where there is none
+abbrev pub number_or_stroke : Option ℕ → List ℕ
+number_or_stroke None = codes "-"
+number_or_stroke (Some n) = decimal n
+
+-- what a lane shows: its locks, the bit position of the first declaring Sync, the locks that were lost, and the losses and
+-- given-up searches before a declaration
+abbrev pub lane_locks : ℕ → LaneReport → List ℕ
+lane_locks lane report =
+    told (codes "lane ") lane
+    (told (codes " locks=") report.locks
+    (codes " first=" ++ (number_or_stroke report.first ++
+    (told (codes " lost=") report.lost
+    (codes " unframed=" ++ decimal report.unframed)))))
+
+-- and of the words that its locks cover those that are Bad, wrong Sync words, Scrambler State words that are not that of the
+-- running key, and Diagnostic words that are not right
+abbrev pub lane_words : LaneReport → List ℕ
+lane_words report =
+    told (codes " bad=") report.bad
+    (told (codes " sync=") report.sync
+    (told (codes " state=") report.state
+    (told (codes " diag=") report.diag line_end)))
+
+abbrev pub lane_line : ℕ → LaneReport → List ℕ
+lane_line lane report = lane_locks lane report ++ lane_words report
+
+-- the accidents of a replayed link: locks at no Sync that was sent, groups of Syncs that were not sent together, and stretches
+-- that pass and are not as they were sent
+abbrev pub accidents_line : ℕ → ℕ → ℕ → List ℕ
+accidents_line locks groups stretches =
+    told (codes "accidents locks=") locks
+    (told (codes " groups=") groups
+    (told (codes " stretches=") stretches line_end))
+
+-- a sent packet that did not come: its channel, its number there, the slots of its first and its last word, and the number of
+-- the first span that it meets
+abbrev pub missing_line : Missing → List ℕ
+missing_line missing =
+    told (codes "missing channel=") missing.channel
+    (told (codes " packet=") missing.number
+    (told (codes " first=") missing.first
+    (told (codes " last=") missing.last
+    (told (codes " span=") missing.span line_end))))

@@ -1,5 +1,5 @@
 ghost use Rattle.std.specs.Prelude.{◌≡◌, ◌++◌, OnOk, OnErr, IfOk, string_bytes};
-ghost use Rattle.link_reports.specs.Faults.{usage_line, input_line, plan_line, store_line, memory_line};
+ghost use Rattle.link_reports.specs.Faults.{usage_line, input_line, plan_line, store_line, memory_line, fault_line};
 
 use crate::lines::put;
 use link_plan::PlanError;
@@ -22,6 +22,21 @@ pub enum InputError {
     Words(WordsError),
     /// The rows of the file are not accepted, with the first refusal among them.
     Rows(PlanError),
+}
+
+/// What stops a run, and is told in one line alone.
+#[derive(Debug, Drop)]
+pub enum Fault {
+    /// The words of the command are not accepted.
+    Usage,
+    /// The plan is refused.
+    Plan(PlanError),
+    /// The input of this name is refused.
+    Input(String, InputError),
+    /// A call of the store with this name failed.
+    Store(String),
+    /// Memory ran out.
+    OutOfMemory,
 }
 
 impl fmt::Display for InputError {
@@ -87,10 +102,8 @@ pub fn input_line(
     ensures ok { OnOk result (out.new.items ≡ out.old.items ++ input_line name.now why.now) }
     ensures err { OnErr result (out.new.items ≡ out.old.items) }
 {
-    match refused_text(alloc, name, why) {
-        Ok(text) => put(out, text.as_bytes()),
-        Err(_) => Err(OutOfMemory),
-    }
+    let text = refused_text(alloc, name, why)?;
+    put(out, text.as_bytes())
 }
 
 /// Appends the line of a plan that is refused. `out` is as before where memory runs out.
@@ -98,10 +111,8 @@ pub fn plan_line(alloc: Global, out: &mut Vec<u8>, why: &PlanError) -> Result<()
     ensures ok { OnOk result (out.new.items ≡ out.old.items ++ plan_line why.now) }
     ensures err { OnErr result (out.new.items ≡ out.old.items) }
 {
-    match plan_text(alloc, why) {
-        Ok(text) => put(out, text.as_bytes()),
-        Err(_) => Err(OutOfMemory),
-    }
+    let text = plan_text(alloc, why)?;
+    put(out, text.as_bytes())
 }
 
 /// Appends the line of a failed call of the store, with the name in that call. `out` is as before where memory runs out.
@@ -109,8 +120,20 @@ pub fn store_line(alloc: Global, out: &mut Vec<u8>, name: &str) -> Result<(), Ou
     ensures ok { OnOk result (out.new.items ≡ out.old.items ++ store_line name.now) }
     ensures err { OnErr result (out.new.items ≡ out.old.items) }
 {
-    match store_text(alloc, name) {
-        Ok(text) => put(out, text.as_bytes()),
-        Err(_) => Err(OutOfMemory),
+    let text = store_text(alloc, name)?;
+    put(out, text.as_bytes())
+}
+
+/// Appends the line of a fault. `out` is as before where memory runs out.
+pub fn fault_line(alloc: Global, out: &mut Vec<u8>, fault: &Fault) -> Result<(), OutOfMemory>
+    ensures ok { OnOk result (out.new.items ≡ out.old.items ++ fault_line fault.now) }
+    ensures err { OnErr result (out.new.items ≡ out.old.items) }
+{
+    match fault {
+        Fault::Usage => usage_line(out),
+        Fault::Plan(why) => plan_line(alloc, out, why),
+        Fault::Input(name, why) => input_line(alloc, out, name.as_str(), why),
+        Fault::Store(name) => store_line(alloc, out, name.as_str()),
+        Fault::OutOfMemory => put(out, memory_line()),
     }
 }

@@ -3,23 +3,31 @@
 
 mod drops;
 mod faults;
+mod lane;
 mod law;
 mod lines;
 mod received;
+mod replay;
 mod table;
 
 pub use drops::count_drop;
-pub use faults::{InputError, input_line, memory_line, plan_line, store_line, usage_line};
+pub use faults::{
+    Fault, InputError, fault_line, input_line, memory_line, plan_line, store_line, usage_line,
+};
+pub use lane::lane_line;
 pub use law::worked_texts;
-pub use lines::{held_line, sent_line, slots_line};
+pub use lines::{count_line, held_line, sent_line, slots_line};
 pub use received::{dropped_line, got_line, spans_line};
-pub use table::spans_csv;
+pub use replay::{Missing, accidents_line, missing_line};
+pub use table::{spans_csv, spans_csv_of};
 
 #[cfg(test)]
 mod tests {
     use super::*;
+    use fault_spans::SpanList;
     use link_plan::{Key, PlanError};
     use lk_base::{DropWhy, OutOfMemory, Pos, Why};
+    use lock_model::LaneReport;
     use pcap_files::PcapError;
     use receive_model::Span;
     use words_files::WordsError;
@@ -124,7 +132,10 @@ mod tests {
             before: None,
             why: Why::End,
         };
-        spans_csv(alloc, &mut out, &[first, last])?;
+        let mut spans = SpanList::make(alloc);
+        spans.push(first)?;
+        spans.push(last)?;
+        spans_csv(alloc, &mut out, &spans)?;
         let want =
             b"after_group,after_index,before_group,before_index,why\n-,-,0,1,start\n0,11,-,-,end\n".as_slice();
         assert_eq!(rt; out.as_slice(), want);
@@ -141,6 +152,38 @@ mod tests {
         input_line(alloc, &mut out, "a.pcap.words", &tag)?;
         let want =
             b"input refused: a.pcap.words: short at 99\ninput refused: a.pcap.words: tag at 0\n".as_slice();
+        assert_eq!(rt; out.as_slice(), want);
+        Ok(())
+    }
+
+    #[test]
+    fn lanes_accidents_and_missing_packets_are_told(rt: HostRuntime) -> Result<(), OutOfMemory> {
+        let alloc = rt.alloc();
+        let mut out = Vec::new(alloc);
+        let report = LaneReport {
+            locks: 2,
+            first: Some(6432),
+            lost: 1,
+            unframed: 3,
+            bad: 15,
+            sync: 4,
+            state: 5,
+            diag: 6,
+        };
+        let missing = Missing {
+            channel: 1,
+            number: 0,
+            first: 112,
+            last: 185,
+            span: 1,
+        };
+        lane_line(alloc, &mut out, 3, &report)?;
+        accidents_line(alloc, &mut out, 1, 2, 3)?;
+        missing_line(alloc, &mut out, &missing)?;
+        count_line(alloc, &mut out, "samples", 7)?;
+        fault_line(alloc, &mut out, &Fault::OutOfMemory)?;
+        let want =
+            b"lane 3 locks=2 first=6432 lost=1 unframed=3 bad=15 sync=4 state=5 diag=6\naccidents locks=1 groups=2 stretches=3\nmissing channel=1 packet=0 first=112 last=185 span=1\nsamples 7\nout of memory\n".as_slice();
         assert_eq!(rt; out.as_slice(), want);
         Ok(())
     }

@@ -56,8 +56,6 @@ impl fmt::Display for PcapError {
 pub fn refusal_text(alloc: Global, why: &PcapError) -> Result<String, OutOfMemory>
     ensures { IfOk result (λ text. string_bytes text ≡ refusal_text why.now) }
 {
-    match format!(in alloc; "{why}") {
-        Ok(text) => Ok(text),
-        Err(_) => Err(OutOfMemory),
-    }
+    let text = format!(in alloc; "{why}")?;
+    Ok(text)
 }

@@ -55,9 +55,7 @@ pub fn write_header(_alloc: Global, out: &mut Vec<u8>, link_type: u32) -> Result
 {
     let mut header = [0u8; 24];
     put_header(&mut header, link_type);
-    if out.extend_from_slice(&header).is_err() {
-        return Err(OutOfMemory);
-    }
+    out.extend_from_slice(&header)?;
     Ok(())
 }
 
@@ -72,9 +70,7 @@ pub fn write_packet(_alloc: Global, out: &mut Vec<u8>, bytes: &[u8]) -> Result<(
     let before = out.len();
     let mut head = [0u8; 16];
     put_record_head(&mut head, bytes.len() as u32);
-    if out.extend_from_slice(&head).is_err() {
-        return Err(OutOfMemory);
-    }
+    out.extend_from_slice(&head)?;
     if out.extend_from_slice(bytes).is_err() {
         out.truncate(before);
         return Err(OutOfMemory);

@@ -55,7 +55,7 @@ all-parts t (x ∷ rest) y h =
     (and_from (t x) (list_all t rest) both.0 others.0, others.1)
 
 -- where the items stay
-places-same : (put : List Aligned) (item : Aligned) (before : List Item) → KeepsPlaces put before → KeepsPlaces (put ++ item ∷ []) before
+pub places-same : (put : List Aligned) (item : Aligned) (before : List Item) → KeepsPlaces put before → KeepsPlaces (put ++ item ∷ []) before
 places-same put item before keeps =
     record {
       items_behind = λ p h. keeps.items_behind p (all-parts (is_earlier p) put item h).0;
@@ -73,7 +73,7 @@ word-behind before (OfStretch s) p h g = split (passes s)
     (λ e. let none : passing_word (OfStretch s) ≡ None = rw e refl in
     rw (verified-append before (OfStretch s) None none, append-nil (verified before)) g)
 
-places-more : (put : List Aligned) (item : Aligned) (before : List Item) (x : Item) →
+pub places-more : (put : List Aligned) (item : Aligned) (before : List Item) (x : Item) →
     ((p : Pos) → is_earlier p item ≡ true → is_before (item_place x) p ≡ true) → KeepsPlaces put before → KeepsPlaces (put ++ item ∷ []) (before ++ x ∷ [])
 places-more put item before x at keeps =
     record {

@@ -15,4 +15,4 @@ more words items pushed lanes lane place w e f g =
 
 pub loop-place-preserved : goal.loop-place-preserved
 loop-place-preserved c =
-    more c.args.words.now c.loop-place.list.items c.push.new.self.items c.args.lanes c.args.lane c.loop-place.place _ c.loop-place.invariant refl c.in-Ok.ensures.items
+    more c.args.words.now c.loop-place.list.items c.push.new.self.items c.args.lanes c.args.lane c.loop-place.place _ c.loop-place.invariant refl c.in_ok-push.ensures.items

@@ -19,4 +19,4 @@ more f lists pushed list lanes lane words e h g =
 
 pub loop-lane-preserved : goal.loop-lane-preserved
 loop-lane-preserved c =
-    more (λ list. list.items) c.loop-lane.lists.items c.push.new.self.items c.in_ok-list.list c.args.lanes c.loop-lane.lane c.args.words.now c.loop-lane.invariant c.in_ok-list.ensures c.in-Ok.ensures.items
+    more (λ list. list.items) c.loop-lane.lists.items c.push.new.self.items c.in_ok-list.list c.args.lanes c.loop-lane.lane c.args.words.now c.loop-lane.invariant c.in_ok-list.ensures c.in_ok-push.ensures.items

@@ -1,0 +1,76 @@
+"""Measures each command of the program on one capture: processor seconds (of the program and of the system for it) and peak memory.
+
+    python3 measure.py PROGRAM [MEGABYTES [PACKET_BYTES..]]
+
+It prints a table for each size of packets. The ratio is the processor time of a command over that of md5sum on the same capture
+in the same run. The link has 8 lanes and a metaframe of 2,048 words; `receive` reads the lanes that `send` wrote.
+"""
+
+import os
+import subprocess
+import sys
+import tempfile
+
+from make_capture import write_capture
+
+PLAN = "lanes,8\nmetaframe,2048\nchannel,0,a.pcap\nout,o\n"
+# In this order: later commands read what earlier ones wrote.
+COMMANDS = [
+    ("burst", "the capture", ["burst", "a.pcap"]), ("join", "its words file", ["join", "a.pcap.words"]),
+    ("burst", "a plan", ["burst", "a.plan"]), ("join", "a plan", ["join", "a.plan"]),
+    ("send", "8 lanes", ["send", "a.plan"]), ("receive", "8 lanes", ["receive", "a.plan"]), ("link", "8 lanes", ["link", "a.plan"]),
+]
+# These read no more than LISTED bytes: the first words of the words file, whose lines they list and read back.
+LISTED = 16777216
+LISTINGS = [("list", "its first 16.8 MB", ["list", "first.words"]), ("assemble", "that listing", ["assemble", "first.words.txt"])]
+MISUSED = 2
+
+
+def measured(words, folder):
+    """The status, the processor seconds and the peak memory in MB of one run."""
+    process = subprocess.Popen(words, cwd=folder, stdout=subprocess.DEVNULL)
+    _, ended, used = os.wait4(process.pid, 0)
+    process.returncode = os.waitstatus_to_exitcode(ended)
+    return process.returncode, used.ru_utime + used.ru_stime, used.ru_maxrss / 1000
+
+
+def cut_words(folder):
+    with open(os.path.join(folder, "a.pcap.words"), "rb") as file:
+        first = file.read(LISTED // 9 * 9)
+    with open(os.path.join(folder, "first.words"), "wb") as file:
+        file.write(first)
+
+
+def row(*fields):
+    print("| " + " | ".join(fields) + " |", flush=True)
+
+
+def table(program, megabytes, size):
+    print("\nA capture of %d MB in packets of %d bytes:\n" % (megabytes, size))
+    row("command", "of", "seconds", "ratio to md5sum", "peak MB")
+    row("---", "---", "---", "---", "---")
+    with tempfile.TemporaryDirectory() as folder:
+        write_capture(os.path.join(folder, "a.pcap"), megabytes, size)
+        with open(os.path.join(folder, "a.plan"), "w") as file:
+            file.write(PLAN)
+        # The first run brings the capture into the machine's memory.
+        measured(["md5sum", "a.pcap"], folder)
+        _, base, peak = measured(["md5sum", "a.pcap"], folder)
+        row("`md5sum`", "a capture", "%.2f" % base, "1.0", "%.0f" % peak)
+        for name, what, words in COMMANDS + LISTINGS:
+            if name == "list":
+                cut_words(folder)
+            status, seconds, peak = measured([program] + words, folder)
+            ratio = "" if (name, what, words) in LISTINGS else "%.1f" % (seconds / base)
+            if status != MISUSED:
+                row("`%s`" % name, what, "%.2f" % seconds, ratio, "%.0f" % peak if status == 0 else "status %d" % status)
+
+
+def main():
+    program, numbers = os.path.abspath(sys.argv[1]), [int(word) for word in sys.argv[2:]]
+    for size in numbers[1:] or [1514, 64]:
+        table(program, numbers[0] if numbers else 100, size)
+
+
+if __name__ == "__main__":
+    main()

@@ -1,0 +1,47 @@
+-- Readings one behind another, where the files are told.
+use Rattle.std.proofs.Common.{◌≡◌, ℕ, List, refl, sym, subst, Option, Some, None, IfSome, Result, Ok, Err, string_bytes}
+use Rattle.run_shell.specs.declared.stop.Stop.{Stop}
+use Rattle.run_shell.specs.declared.stop.Stop.TheVariants as stop
+use Rattle.lk_outside.specs.Files.{Files}
+use Rattle.run_shell.specs.Reading.{Refusal, behind, Reads, Work, meaning_by}
+use Rattle.run_shell.specs.Stops.{Comes}
+use Rattle.run_shell.proofs.Works.{behind_stops, behind_read, reading_stops}
+
+-- what was told of the files then is told of the files before, which are the same
+pub told_back : (P : Files → Type 0) (x y : Option Files) → y ≡ x → IfSome y P → IfSome x P
+told_back P x y same h = subst (λ z. IfSome z P) same h
+
+-- what was read, with its second part accepted, had its first part accepted
+pub behind_ok : {A B : Type 0} (first : Result A Refusal) (next : A → Result B Refusal) (b : B) → behind first next ≡ Ok b → (a : A) × (first ≡ Ok a) × (next a ≡ Ok b)
+behind_ok (Ok a) next b e = (a, refl, e)
+behind_ok (Err r) next b e = absurd (cc e)
+
+-- the same under more names
+pub widened : {U B : Type 0} (more : U → B) (named names : List ℕ → Type 0) (r : Result U Stop) (answer : Result B Refusal) → ((q : List ℕ) → named q → names q) → Reads more named r answer → Reads more names r answer
+widened more named names (Ok t) answer are h = h
+widened more named names (Err (stop.Plan why)) answer are h = h
+widened more named names (Err (stop.Input n why)) answer are h = h
+widened more named names (Err (stop.Store n)) answer are h = are (string_bytes n) h
+widened more named names (Err stop.StoreNoMemory) answer are h = h
+widened more named names (Err stop.OutOfMemory) answer are h = h
+
+module _ (A B T U : Type 0) (first : Files → Result A Refusal) (next : Files → A → Result B Refusal) where
+  abbrev Whole : Files → Result B Refusal
+  Whole files = behind (first files) (next files)
+
+  -- the first reading was refused, or stopped: so is the whole
+  pub first_stops : (value : T → A) (more : U → B) (named names : Files → List ℕ → Type 0) (s : Stop) (x : Option Files) → ((u : Files) (q : List ℕ) → named u q → names u q) → IfSome x (λ files. Reads value (named files) (Err s) (first files)) → IfSome x (λ files. Reads more (names files) (Err s) (Whole files))
+  first_stops value more named names s None are h = tt
+  first_stops value more named names s (Some u) are h = behind_stops A B T U (first u) (next u) value more (named u) (names u) s (are u) h
+
+  -- the first was read, and the second came to this: so did the whole
+  pub second_reads : (more : U → B) (named names : Files → List ℕ → Type 0) (a : A) (r : Result U Stop) (x y : Option Files) → y ≡ x → ((u : Files) (q : List ℕ) → first u ≡ Ok a → named u q → names u q) → IfSome x (λ files. first files ≡ Ok a) → IfSome y (λ files. Reads more (named files) r (next files a)) → IfSome x (λ files. Reads more (names files) r (Whole files))
+  second_reads more named names a r None y same are had h = tt
+  second_reads more named names a r (Some u) y same are had h =
+      let here : Reads more (named u) r (next u a) = subst (λ z. IfSome z (λ files. Reads more (named files) r (next files a))) same h in
+      subst (λ w. Reads more (names u) r w) (sym (behind_read A B T U (first u) (next u) a had)) (widened more (named u) (names u) r (next u a) (λ q n. are u q had n) here)
+
+-- a command's reading stopped at a file that it names, whichever files are there, with the files as they were
+pub reading_ends : (T : Type 0) (w : Work) (value : T → w.Inputs) (named : Files → List ℕ → Type 0) (s : Stop) (x y : Option Files) → y ≡ x → ((u : Files) (q : List ℕ) → named u q → w.Names u q) → IfSome x (λ files. Reads value (named files) (Err s) (w.inputs_in files)) → IfSome x (Comes (meaning_by w) x y (Err s))
+reading_ends T w value named s None y same are h = tt
+reading_ends T w value named s (Some u) y same are h = subst (λ z. Comes (meaning_by w) (Some u) z (Err s) u) (sym same) (reading_stops T w value (named u) s u (Some u) (are u) h)

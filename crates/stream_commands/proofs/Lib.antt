@@ -1,0 +1,11 @@
+pub mod OneOutcome
+pub mod SomeOutcome
+pub mod LaneContents
+pub mod NoBurstWhenOff
+pub mod Counted
+pub mod OutputNames
+pub mod PartsOfStreams
+pub mod DefaultSource
+pub mod CaptureWork
+pub mod PlanWork
+pub mod PlanSource

@@ -1,0 +1,16 @@
+//! The commands that make a stream: `burst`, whose words go into a words file, and `send`, whose lanes go into lane files.
+#![tactic(auto)]
+
+mod capture;
+mod form;
+mod law;
+mod names;
+mod plan;
+mod source;
+mod stream;
+mod text;
+mod write;
+
+pub use capture::BurstCapture;
+pub use law::{free_plan_is_not_held, never_bursts_when_off};
+pub use plan::{BurstPlan, SendPlan};
