@@ -55,7 +55,7 @@ some_known v s setting fed given st =
     known_events_exist s setting fed (omega (arith, long)) (omega (arith, low, count))
 
 -- an event, or the end
-gives_one : (event : RxEvent) (w : State) (s : Settings) (setting : Setting) (fed : List Fed) (given : List Event) → GivesEvent event w s setting fed given →
+pub gives_one : (event : RxEvent) (w : State) (s : Settings) (setting : Setting) (fed : List Fed) (given : List Event) → GivesEvent event w s setting fed given →
     ((event ≡ events.Ended) × (all_finished fed ≡ true) × (is_over w.stage ≡ true) × AreAll s setting fed given × Stands w s setting fed given)
     ⊎ ((e : Event) × (event_of w.reassembly.packet event ≡ e ∷ []) × Stands w s setting fed (given ++ e ∷ []))
 gives_one (events.Packet channel length first last) w s setting fed given g = inr (_, refl, g.1)
