@@ -29,7 +29,7 @@ use Rattle.reassembly.specs.OutputLaws.{Rise, SpansAreApart}
 use Rattle.reassembly.proofs.Items.{head_at, items-break, items-control, items-group, items-other, next_items}
 use Rattle.reassembly.proofs.SoFarHold.{outputs-append}
 use Rattle.reassembly.proofs.PacketSizes.{Sound, end_holds, passing_sound, start_holds, why_holds}
-use Rattle.reassembly.proofs.Putting.{places-same, places-more}
+use Rattle.reassembly.proofs.WholePutting.{places-same, places-more}
 
 -- ---- spans, and the last verified word
 

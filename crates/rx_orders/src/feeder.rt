@@ -1,4 +1,4 @@
-ghost use Rattle.std.specs.Prelude.{◌≡◌, ◌<◌, ◌+◌, ◌^◌, true, false, IfOk, OnOk, get_or, length, replicate};
+ghost use Rattle.std.specs.Prelude.{◌≡◌, ◌<◌, ◌+◌, ◌^◌, true, false, IfOk, get_or, length, replicate};
 ghost use Rattle.rx_end.specs.Nexts.{is_packet};
 ghost use Rattle.rx_orders.specs.Runs.{Runs};
 
@@ -114,17 +114,16 @@ impl Feeder {
     }
 
     /// The next event, with the sum of the first bytes of its packet.
-    pub fn next(&mut self) -> Result<Option<Given>, OutOfMemory>
+    pub fn next(&mut self) -> Option<Given>
         requires { Runs self.old.receiver self.old.finished.items self.old.fed.items }
-        ensures { OnOk result (Runs self.new.receiver self.new.finished.items self.new.fed.items) }
+        ensures { Runs self.new.receiver self.new.finished.items self.new.fed.items }
     {
         match self.receiver.next() {
-            Ok(Some(event)) => {
+            Some(event) => {
                 let sum = sum_of(&self.receiver, event);
-                Ok(Some(Given { event, sum }))
+                Some(Given { event, sum })
             }
-            Ok(None) => Ok(None),
-            Err(error) => Err(error),
+            None => None,
         }
     }
 }

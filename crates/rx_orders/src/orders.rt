@@ -40,7 +40,7 @@ pub fn take(feeder: &mut Feeder, given: &mut Vec<Given>) -> Result<bool, OutOfMe
     ensures { OnOk result (Runs feeder.new.receiver feeder.new.finished.items feeder.new.fed.items) }
 {
     for _event in 0..TURNS {
-        let Some(next) = feeder.next()? else {
+        let Some(next) = feeder.next() else {
             return Ok(false);
         };
         given.push(next)?;
