@@ -35,12 +35,6 @@ module _ (words : List RxWord) where
       subst (λ put. IsAt b put false (outputs_of b (first i) false) s receipt now) (step_more i item le is)
       (record { stands = stands; receipt = at.receipt; rises = rise_push (first i) item at.rises (step_behind i item le is); fits = at.fits })
 
-  -- memory ran out
-  pub step_memory : (b : Beginning) (i : ℕ) (r : State) (receipt : Receipt) (now : Option Files) → IsAt b (first i) false (outputs_of b (first i) false) r receipt now → IsStopped b (word_events b.setting words) stop.OutOfMemory now
-  step_memory b i r receipt now at =
-      let (rest, all) = first_events b.setting words i in
-      subst (λ es. IsStopped b es stop.OutOfMemory now) (sym all) (no_memory b (outputs_of b (first i) false) receipt now at.receipt rest)
-
   -- the outputs of the first items were stopped
   pub step_stopped : (b : Beginning) (i : ℕ) (s : Stop) (now : Option Files) → IsStopped b (outputs_of b (first i) false) s now → IsStopped b (word_events b.setting words) s now
   step_stopped b i s now h =

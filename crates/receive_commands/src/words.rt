@@ -153,7 +153,7 @@ fn take_words<S: Store>(
 {
     let mut index = 0;
     while index <= words.len() {
-        reassembly.put(item_at(words, index))?;
+        reassembly.put(item_at(words, index));
         take_outputs(alloc, store, receipt, reassembly)?;
         index += 1;
     }
@@ -163,8 +163,8 @@ fn take_words<S: Store>(
 
 /// Words become the captures of these channels, by number, of this link type, and the table of the fault spans, under names
 /// that begin with `prefix`; a packet has at most `max_packet` bytes. The outputs are created, then the words are taken while
-/// the captures grow, and then the span table is filled. The channels stand in order of number, each once, and `max_packet`
-/// is at most 262,144.
+/// the captures grow, and then the span table is filled. There are at most 1,024 channels, in order of
+/// number, each once, and `max_packet` is at most 262,144.
 pub fn receive_words<S: Store>(
     alloc: Global,
     store: &mut S,
@@ -176,6 +176,7 @@ pub fn receive_words<S: Store>(
 ) -> Result<Finished, Stop>
     requires count { S.faults store.old < 2 ^ 60 }
     requires in_order { IsTrue (is_rising channels.now) }
+    requires few_channels { length channels.now ≤ 1024 }
     requires fits { max_packet ≤ longest_packet }
     requires few { length words.now < 2 ^ 32 }
     ensures cause { StopCount result (S.faults store.old) (S.faults store.new) }

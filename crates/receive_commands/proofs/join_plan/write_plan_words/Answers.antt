@@ -1,8 +1,9 @@
-use Rattle.std.proofs.Common.{◌∙◌, ap, subst, List}
+use Rattle.std.proofs.Common.{◌∙◌, ◌≤◌, ap, sym, subst, List, ℕ, length}
 use Rattle.std.proofs.lemmas.Result.{err_from_is_err_and}
 use Rattle.lk_base.specs.declared.word.RxWord.{RxWord}
 use Rattle.link_plan.specs.Listing.{channels_in_order, numbers_of}
 use Rattle.link_plan.specs.Views.{plan_value}
+use Rattle.link_plan.proofs.Whole.{order-few}
 use Rattle.run_shell.specs.Writing.{Writes}
 use Rattle.run_shell.proofs.Writing.{none_writes}
 use Rattle.receive_commands.specs.JoinPlan.{IsJoined, plan_names}
@@ -16,6 +17,10 @@ returns-in_err-channels-clause-writes g c =
 
 pub receive_words-requires-clause-in_order : goal.receive_words-requires-clause-in_order
 receive_words-requires-clause-in_order g c = order_rises _ c.deref.result.now (c.deref.ensures.value ∙ c.in_ok-channels.ensures)
+
+pub receive_words-requires-clause-few_channels : goal.receive_words-requires-clause-few_channels
+receive_words-requires-clause-few_channels g c =
+    subst (λ (cs : List ℕ). length cs ≤ 1024) (sym (c.deref.ensures.value ∙ c.in_ok-channels.ensures)) (order-few _)
 
 pub returns-clause-writes : goal.returns-clause-writes
 returns-clause-writes g c =

@@ -2,17 +2,12 @@ use Rattle.std.proofs.Common.{◌≤◌, ◌<◌, ◌+◌, ◌∙◌, refl, subs
 use Rattle.std.proofs.lemmas.Result.{err_from_is_err_and}
 use Rattle.receive_commands.specs.Receipts.{Receives}
 use Rattle.receive_commands.specs.Going.{outputs_of}
-use Rattle.receive_commands.proofs.Steps.{all_words, first, step_behind, step_end, step_memory, step_put, step_stopped}
+use Rattle.receive_commands.proofs.Steps.{all_words, first, step_behind, step_end, step_put, step_stopped}
 use Rattle.receive_commands.proofs.Taking.{received_takes}
 use Rattle.receive_commands.proofs.words.take_words.Goals as goal
 
 pub loop-index-init : goal.loop-index-init
 loop-index-init g c = record { within = omega arith; same_faults = refl; waits = c.requires.waits; at = λ b at. at }
-
-pub returns-in_err-put-clause-receives : goal.returns-in_err-put-clause-receives
-returns-in_err-put-clause-receives g c b at =
-    let p = err_from_is_err_and c.from_residual.result c.from_residual.ensures.1 in
-    rw (p.1, p.2) (step_memory c.args.words.now b c.loop-index.index _ _ _ (c.loop-index.invariant.at b at))
 
 pub take_outputs-requires-clause-at : goal.take_outputs-requires-clause-at
 take_outputs-requires-clause-at g c =
@@ -21,7 +16,7 @@ take_outputs-requires-clause-at g c =
     let i = c.loop-index.index in
     let now = c.loop-index.invariant.at b at in
     let le : i ≤ length words = omega arith in
-    (b, first words (i + 1), false, outputs_of b (first words i) false, step_put words b i _ _ _ _ _ le c.item_at.ensures now (c.in_ok-put.ensures.ok b.setting (first words i) _ (step_behind words i _ le c.item_at.ensures) now.stands))
+    (b, first words (i + 1), false, outputs_of b (first words i) false, step_put words b i _ _ _ _ _ le c.item_at.ensures now (c.put.ensures.stands b.setting (first words i) _ (step_behind words i _ le c.item_at.ensures) now.stands))
 
 pub returns-in_err-take_outputs-clause-receives : goal.returns-in_err-take_outputs-clause-receives
 returns-in_err-take_outputs-clause-receives g c b at =
@@ -29,10 +24,10 @@ returns-in_err-take_outputs-clause-receives g c b at =
     let i = c.loop-index.index in
     let now = c.loop-index.invariant.at b at in
     let le : i ≤ length words = omega arith in
-    let r = c.from_residual-in_err-take_outputs in
+    let r = c.from_residual in
     let p = err_from_is_err_and r.result r.ensures.1 in
     rw (p.1, p.2) (step_stopped words b (i + 1) c.in_err-take_outputs.field-0.0 _
-    (c.in_err-take_outputs.ensures.takes b (first words (i + 1)) false (outputs_of b (first words i) false) (step_put words b i _ _ _ _ _ le c.item_at.ensures now (c.in_ok-put.ensures.ok b.setting (first words i) _ (step_behind words i _ le c.item_at.ensures) now.stands))))
+    (c.in_err-take_outputs.ensures.takes b (first words (i + 1)) false (outputs_of b (first words i) false) (step_put words b i _ _ _ _ _ le c.item_at.ensures now (c.put.ensures.stands b.setting (first words i) _ (step_behind words i _ le c.item_at.ensures) now.stands))))
 
 pub loop-index-preserved : goal.loop-index-preserved
 loop-index-preserved g c =
@@ -45,7 +40,7 @@ loop-index-preserved g c =
       waits = c.in_ok-take_outputs.ensures.waits;
       at = λ b at.
           let now = c.loop-index.invariant.at b at in
-          c.in_ok-take_outputs.ensures.takes b (first words (i + 1)) false (outputs_of b (first words i) false) (step_put words b i _ _ _ _ _ le c.item_at.ensures now (c.in_ok-put.ensures.ok b.setting (first words i) _ (step_behind words i _ le c.item_at.ensures) now.stands));
+          c.in_ok-take_outputs.ensures.takes b (first words (i + 1)) false (outputs_of b (first words i) false) (step_put words b i _ _ _ _ _ le c.item_at.ensures now (c.put.ensures.stands b.setting (first words i) _ (step_behind words i _ le c.item_at.ensures) now.stands));
     }
 
 pub take_outputs-requires-2-clause-at : goal.take_outputs-requires-2-clause-at
