@@ -14,7 +14,7 @@ use Rattle.words_files.specs.WordsOfFile.{words_of_file}
 use Rattle.words_files.proofs.Again.{written-again}
 use Rattle.run_shell.specs.Reading.{behind, bytes_by, bytes_in}
 use Rattle.receive_commands.specs.Words.{words_by}
-use Rattle.receive_commands.specs.WordsLaw.{JoinGivesSent, JoinUndoesBurst, bytes_of}
+use Rattle.receive_commands.specs.WordsLaw.{JoinGivesSent, JoinUndoesBurst, BytesUndoWords, bytes_of}
 
 pub join_gives_sent : JoinGivesSent
 join_gives_sent source setting channel w v listed stream fit sent =
@@ -36,3 +36,10 @@ join_undoes_burst files name source setting channel w listed stream fit is le =
       ap (λ r. behind r (λ bytes. words_by name (words_of_file bytes))) there ∙ ap (words_by name) (written-again w (each_sized source w stream)),
       ap bytes_of (the_law_on_clean_words source setting channel w listed stream fit),
     )
+
+pub bytes_undo_words : BytesUndoWords
+bytes_undo_words source setting channel w listed stream fit = (
+  map as_sent w,
+  written-again w (each_sized source w stream),
+  ap bytes_of (the_law_on_clean_words source setting channel w listed stream fit),
+)

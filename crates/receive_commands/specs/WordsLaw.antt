@@ -12,6 +12,7 @@ use Rattle.delivery_laws.specs.Law.{PassingIsSent, word_items, meets_none}
 use Rattle.delivery_laws.specs.LawOnWords.{EachIsPacket}
 use Rattle.delivery_laws.specs.SentPackets.{sent_packets}
 use Rattle.words_files.specs.WordsFile.{words_file}
+use Rattle.words_files.specs.WordsOfFile.{words_of_file}
 use Rattle.receive_commands.specs.Received.{packets_on}
 use Rattle.receive_commands.specs.Words.{words_in}
 
@@ -34,3 +35,10 @@ JoinUndoesBurst = (files : Files) (name : List ℕ) (source : Source) (setting :
     is_listed setting channel ≡ true → IsBurstStream source w → EachIsPacket setting.max_packet source →
     file files name ≡ Some (words_file w) → length (words_file w) ≤ words_limit →
     (v : List RxWord) × (words_in files name ≡ Ok v) × (packets_on channel (word_events setting v) ≡ bytes_of (sent_packets source channel w))
+
+-- the same of the bytes alone, whatever their length: those of a stream's words are read as words, of which the capture of a
+-- listed channel has all sent packets, in order
+abbrev pub BytesUndoWords : Type 0
+BytesUndoWords = (source : Source) (setting : Setting) (channel : ℕ) (w : List Word) →
+    is_listed setting channel ≡ true → IsBurstStream source w → EachIsPacket setting.max_packet source →
+    (v : List RxWord) × (words_of_file (words_file w) ≡ Ok v) × (packets_on channel (word_events setting v) ≡ bytes_of (sent_packets source channel w))

@@ -2,7 +2,7 @@
 ghost use Rattle.std.specs.Prelude.{◌≡◌, codes};
 ghost use Rattle.receive_commands.specs.Received.{capture_name, spans_name};
 ghost use Rattle.receive_commands.specs.JoinPlan.{words_name};
-ghost use Rattle.receive_commands.specs.WordsLaw.{JoinGivesSent, JoinUndoesBurst};
+ghost use Rattle.receive_commands.specs.WordsLaw.{JoinGivesSent, JoinUndoesBurst, BytesUndoWords};
 
 /// The words law over what `join` gives. Where each passing stretch of the received words is as it was sent, the capture of
 /// each listed channel has exactly the sent packets that meet no fault span, in order. And `join` undoes `burst`: the words
@@ -14,6 +14,7 @@ ghost use Rattle.receive_commands.specs.WordsLaw.{JoinGivesSent, JoinUndoesBurst
 pub fn words_law()
     ensures sent { JoinGivesSent }
     ensures clean { JoinUndoesBurst }
+    ensures bytes { BytesUndoWords }
 {}
 
 /// Worked examples: the names of inputs and outputs.
