@@ -1,21 +1,21 @@
 -- What the work came to, as an ending.
-use Rattle.std.proofs.Common.{◌≡◌, ◌⊎◌, ◌+◌, ℕ, Bool, true, false, List, refl, sym, subst, ◌∙◌, [], Option, Some, None, IfSome, Result, Ok, Err, inl, inr, Vec}
-use Rattle.std.specs.declared.alloc.Global.{Global}
+use Rattle.std.proofs.Common.{◌≡◌, ◌⊎◌, ℕ, Bool, true, false, List, refl, sym, subst, ◌∙◌, [], Option, Some, None, IfSome, Ok, Err, inl, inr}
 use Rattle.link_reports.specs.Faults.{usage_line, memory_line}
 use Rattle.run_shell.specs.declared.status.Status.{Status}
-use Rattle.run_shell.specs.declared.status.Status.TheVariants.{Done, StoreFault, Usage, Held, PlanRefused, InputRefused, OutOfMemory, SinkFault}
+use Rattle.run_shell.specs.declared.status.Status.TheVariants.{Usage, OutOfMemory}
 use Rattle.run_shell.specs.declared.stop.Stop.{Stop}
 use Rattle.run_shell.specs.declared.stop.Stop.TheVariants as stop
 use Rattle.run_shell.specs.declared.stop.Finished.{Finished}
-use Rattle.lk_outside.specs.Files.{Files, file, Told}
-use Rattle.run_shell.specs.Outcome.{Outcome, IsFault, Holds, HoldsPart, LeavesOthers}
+use Rattle.lk_outside.specs.Files.{Files, Told}
+use Rattle.run_shell.specs.Outcome.{Outcome, Holds, HoldsPart, LeavesOthers}
 use Rattle.run_shell.specs.Meaning.{Meaning, Cause, IsLawful, IsMeaning, of_words, of_plan, of_input, of_held, of_none}
 use Rattle.run_shell.specs.Stops.{StoreCount, StopCount, Ends, Comes, stop_status, stop_text, is_of_store, held_status}
 use Rattle.run_shell.specs.Run.{TellsStore}
 use Rattle.run_shell.specs.Ended.{Ended}
-use Rattle.run_shell.specs.Ending.{IsEnding, IsEndingOf, IsMisused, misused, misused_meaning}
+use Rattle.run_shell.specs.Ending.{IsEnding, IsEndingOf, IsMisused, IsNoMemory, misused, misused_meaning}
 use Rattle.run_shell.proofs.Moves.{told_refl, if_told_by}
 use Rattle.run_shell.proofs.Runs.{ends_part}
+use Rattle.run_shell.proofs.Works.{untouched}
 
 held_store : (held : Bool) → TellsStore (held_status held) false
 held_store true = refl
@@ -127,10 +127,13 @@ cause_for accepted plan input held s (of_input p i h) = of_input p i h
 cause_for accepted plan input held s (of_held p i h) = of_held p i h
 cause_for accepted plan input held s (of_none p i h) = of_none p i h
 
+pub asked_lawful : (accepted : Type 0) → accepted → (m : Meaning) → IsMeaning m → IsLawful accepted m
+asked_lawful accepted a m h = record { one_outcome = h.one_outcome; some_outcome = h.some_outcome; one_cause = λ files o w. cause_for accepted _ _ _ o.status (h.one_cause files o w) }
+
 -- the end of a command, for words that ask for it
 pub asked_ends : (accepted : Type 0) → accepted → (m : Meaning) (e : Ended) (sb sa : ℕ) (x y : Option Files) → IsEnding (Unit {0}) m e sb sa x y → IsEnding accepted m e sb sa x y
 asked_ends accepted a m e sb sa x y h = record {
-  lawful = record { one_outcome = h.lawful.one_outcome; some_outcome = h.lawful.some_outcome; one_cause = λ files o w. cause_for accepted _ _ _ o.status (h.lawful.one_cause files o w) };
+  lawful = asked_lawful accepted a m h.lawful;
   count = h.count;
   store = h.store;
   usage = λ used. absurd (h.usage used tt);
@@ -138,3 +141,22 @@ asked_ends accepted a m e sb sa x y h = record {
   others = h.others;
   ends = h.ends;
 }
+
+-- memory ran out before there was a command, whatever it means
+pub no_memory_ends : (accepted : Type 0) (m : Meaning) (e : Ended) (sb : ℕ) (x : Option Files) → IsLawful accepted m → IsNoMemory e → IsEnding accepted m e sb sb x x
+no_memory_ends accepted m e sb x law h = record {
+  lawful = law;
+  count = subst (λ b. StoreCount b sb sb) (sym h.store) refl;
+  store = subst (λ z. TellsStore z e.store_failed) (sym h.status) tt;
+  usage = λ used. absurd (apart (sym h.status ∙ used));
+  misused = λ no. inr h.status;
+  others = told_refl (LeavesOthers m.Creates) x (λ u q out. refl);
+  ends = ends x;
+}
+  where
+    apart : OutOfMemory ≡ Usage → ⊥
+    apart e = cc
+
+    ends : (z : Option Files) → IfSome z (λ files. Ends m files e.status e.text z z)
+    ends None = tt
+    ends (Some u) = moved m u OutOfMemory e.status memory_line e.text (Some u) (Some u) h.status h.text (refl, untouched m u (Some u))

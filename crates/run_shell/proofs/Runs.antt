@@ -1,5 +1,5 @@
 -- From the work and its saying to what stands after a run.
-use Rattle.std.proofs.Common.{◌+◌, ◌<◌, ◌≤◌, ◌≡◌, ◌⊎◌, ℕ, Bool, true, false, List, [], ◌∷◌, ◌++◌, length, take, refl, sym, ap, ◌∙◌, subst, arith, Option, Some, None, cond, IfSome, inl, inr}
+use Rattle.std.proofs.Common.{◌+◌, ◌<◌, ◌≤◌, ◌≡◌, ◌⊎◌, ℕ, Bool, true, false, List, [], ◌∷◌, ◌++◌, length, take, refl, sym, ap, ◌∙◌, subst, arith, Option, Some, cond, IfSome, inl, inr}
 use Rattle.std.specs.Option.{option_or}
 use Rattle.std.specs.Str.{bytes_eq}
 use Rattle.run_shell.specs.declared.status.Status.{Status}
@@ -7,7 +7,7 @@ use Rattle.run_shell.specs.declared.status.Status.TheVariants.{Done, StoreFault,
 use Rattle.lk_outside.specs.Files.{Files, file, Told}
 use Rattle.link_reports.specs.Faults.{store_line}
 use Rattle.run_shell.specs.Outcome.{Output, Outcome, IsFault, IsAnswer, Holds, HoldsPart, content_of, cut}
-use Rattle.run_shell.specs.Meaning.{Meaning, IsLawful}
+use Rattle.run_shell.specs.Meaning.{Meaning}
 use Rattle.run_shell.specs.Stops.{StoreCount, Ends, Answers}
 use Rattle.run_shell.specs.Run.{TellsStore, Says, said, cut_off, no_memory, sink_failed, AddsPart, AddsAll, Found, Settles, Tells, IsText}
 use Rattle.run_shell.specs.Ended.{Ended}

@@ -1,5 +1,5 @@
 -- How the work of a command ends, and all that stands after a run.
-use Rattle.std.specs.Prelude.{Bool, false, ◌≡◌, ◌⊎◌, ℕ, ◌<◌, ◌+◌, ◌≤◌, List, [], Option, IfSome}
+use Rattle.std.specs.Prelude.{false, ◌≡◌, ◌⊎◌, ℕ, ◌<◌, ◌+◌, ◌≤◌, List, [], Option, IfSome}
 use Rattle.link_reports.specs.Faults.{usage_line, memory_line}
 use Rattle.lk_outside.specs.Files.{Files, Told}
 use Rattle.run_shell.specs.declared.status.Status.{Status}
@@ -49,6 +49,13 @@ misused_meaning = record {
 
 pub record IsMisused (e : Ended) : Type 0 where
   pub is : ((e.status ≡ Usage) × (e.text ≡ usage_line)) ⊎ ((e.status ≡ OutOfMemory) × (e.text ≡ memory_line))
+  pub store : e.store_failed ≡ false
+
+-- ---- memory that ran out before there was a command
+
+pub record IsNoMemory (e : Ended) : Type 0 where
+  pub status : e.status ≡ OutOfMemory
+  pub text : e.text ≡ memory_line
   pub store : e.store_failed ≡ false
 
 -- ---- after a run

@@ -7,7 +7,6 @@ use Rattle.link_plan.specs.declared.error.PlanError.{PlanError}
 use Rattle.link_plan.specs.declared.error.PlanError.TheVariants as plans
 use Rattle.link_reports.specs.Faults.{plan_line, input_line}
 use Rattle.lk_outside.specs.Files.{Files, file, AreBytes}
-use Rattle.run_shell.specs.declared.status.Status.{Status}
 use Rattle.run_shell.specs.declared.status.Status.TheVariants.{Done, Held, PlanRefused, InputRefused}
 use Rattle.run_shell.specs.declared.stop.Stop.{Stop}
 use Rattle.run_shell.specs.declared.stop.Stop.TheVariants as stop

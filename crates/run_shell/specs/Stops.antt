@@ -1,5 +1,5 @@
 -- Why the work of a command stopped, and what it came to.
-use Rattle.std.specs.Prelude.{Bool, true, false, ◌≡◌, ℕ, ◌+◌, List, [], Result, Ok, Err, Option, string_bytes}
+use Rattle.std.specs.Prelude.{Bool, true, false, ◌≡◌, ℕ, ◌+◌, List, Result, Ok, Err, Option, string_bytes}
 use Rattle.link_reports.specs.Faults.{plan_line, input_line, store_line, memory_line}
 use Rattle.run_shell.specs.declared.stop.Stop.{Stop}
 use Rattle.run_shell.specs.declared.stop.Stop.TheVariants as stop

@@ -2,7 +2,7 @@
 ghost use Rattle.std.specs.Prelude.{◌≡◌, ◌++◌, ◌<◌, ◌^◌, OnOk, IfOk};
 ghost use Rattle.run_shell.specs.Stops.{stop_status, stop_text, is_of_store, held_status};
 ghost use Rattle.run_shell.specs.Run.{Says, sink_failed};
-ghost use Rattle.run_shell.specs.Ending.{IsEndingOf, IsEnding, IsMisused};
+ghost use Rattle.run_shell.specs.Ending.{IsEndingOf, IsEnding, IsMisused, IsNoMemory};
 ghost use Rattle.link_reports.specs.Faults.{usage_line};
 
 use crate::command::Command;
@@ -155,6 +155,17 @@ pub fn misused(alloc: Global) -> Ending
             said: Said::NoMemory,
             store_failed: false,
         },
+    }
+}
+
+/// The ending where memory ran out before there was a command.
+pub fn no_memory() -> Ending
+    ensures { IsNoMemory result }
+{
+    Ending {
+        status: Status::OutOfMemory,
+        said: Said::NoMemory,
+        store_failed: false,
     }
 }
 

@@ -1,0 +1,27 @@
+-- Whatever words ask for, it has one outcome.
+use Rattle.std.proofs.Common.{◌≡◌, ℕ, List, refl, Option, Some, None, IsSome}
+use Rattle.run_shell.specs.Meaning.{IsLawful, IsMeaning}
+use Rattle.run_shell.proofs.Endings.{misused_lawful, asked_lawful}
+use Rattle.stream_commands.proofs.Standins.{means as stream_means}
+use Rattle.receive_commands.proofs.Standins.{means as receive_means}
+use Rattle.interlaken.specs.declared.request.Request.{Request}
+use Rattle.interlaken.specs.declared.request.Request.TheVariants.{BurstCapture, BurstPlan, JoinWords, JoinPlan, SendPlan}
+use Rattle.interlaken.specs.Request.{request_of}
+use Rattle.interlaken.specs.Meanings.{meaning_of, meaning_by}
+use Rattle.interlaken.specs.Run.{meaning_of_words, IsAccepted}
+use Rattle.interlaken.proofs.Asking.{none_some}
+
+-- one line for each command
+pub request_lawful : (r : Request) → IsMeaning (meaning_of r)
+request_lawful (BurstCapture name) = stream_means name
+request_lawful (BurstPlan name) = stream_means name
+request_lawful (JoinWords name) = receive_means name
+request_lawful (JoinPlan name) = receive_means name
+request_lawful (SendPlan name) = stream_means name
+
+by : (a : Option Request) → IsLawful (IsSome a) (meaning_by a)
+by None = misused_lawful (IsSome {T = Request} None) none_some
+by (Some r) = asked_lawful (IsSome (Some r)) refl (meaning_of r) (request_lawful r)
+
+pub lawful : (words : List (List ℕ)) → IsLawful (IsAccepted words) (meaning_of_words words)
+lawful words = by (request_of words)

@@ -1,0 +1,127 @@
+-- What the parser of command lines makes of accepted words.
+use Rattle.std.proofs.Common.{◌≡◌, ◌∙◌, ℕ, ◌+◌, ◌<◌, length, get_or, drop, map, add-one, Bool, true, false, not, List, [], ◌∷◌, Option, Some, None, is_some, refl, sym, ap, subst, codes, nat_eq}
+use Rattle.std.specs.Str.{bytes_eq}
+use Rattle.std.specs.Prelude.{if◌then◌else◌, Box, IsSome, option_map, option_and_then}
+use Rattle.std.specs.Box.{box_value}
+use Rattle.std.specs.Borrow.{Bor}
+use Rattle.std.proofs.lemmas.Slice.Eq.{bytes_eq-Decides}
+use Rattle.std.proofs.Math.Seq.{drop-cons}
+use Rattle.clap.specs.Words.{App, Row, Text, with_subcommand, first_of, first_value, found_of, is_simple, rows_of, subcommand_name_of, subcommand_of, subcommand_rows, subcommand_rows_of, takes}
+use Rattle.clap.specs.declared.parser.matches.ArgMatches.{ArgMatches}
+use Rattle.clap.specs.declared.parser.matches.ArgMatches.TheViews.{out-ArgMatches, out-SubCommand}
+use Rattle.clap.specs.declared.parser.matches.SubCommand.{SubCommand}
+use Rattle.clap.proofs.OnLiterals.{clap_on_literals}
+use Rattle.clap.proofs.WalkLemmas.{both, first_value-rows}
+use Rattle.interlaken.specs.declared.table.Row.{Row as TableRow}
+use Rattle.interlaken.specs.declared.table.Rule.TheVariants.{File, NumberAndPrefix}
+use Rattle.interlaken.specs.Table.{Kind, shown, rows, row_in}
+use Rattle.interlaken.specs.Given.{Given}
+use Rattle.interlaken.specs.Arguments.{arguments_of, file_in, is_name}
+use Rattle.interlaken.specs.Request.{request_of, request_by}
+use Rattle.interlaken.specs.CommandLine.{before}
+use Rattle.interlaken.specs.Parser.{IsReadAs, bare_app, program_app, row_app, words_in}
+
+-- the words are taken, and found again
+pub record AreRead (words : List Text) : Type 0 where
+  pub simple : is_simple (program_app bare_app rows) ≡ true
+  pub taken : takes (program_app bare_app rows) words ≡ true
+  pub found : words_in (subcommand_of (program_app bare_app rows) words) ≡ Some words
+
+-- a file whose name does not begin with a dash (45): one lemma for each command
+module _ (x : ℕ) (xs : Text) (e : nat_eq x 45 ≡ false) where
+  burst_read : AreRead (codes "burst" ∷ (x ∷ xs) ∷ [])
+  unfolding clap_on_literals rows
+  burst_read = record { simple = refl; taken = simp e; found = simp e }
+
+  join_read : AreRead (codes "join" ∷ (x ∷ xs) ∷ [])
+  unfolding clap_on_literals rows
+  join_read = record { simple = refl; taken = simp e; found = simp e }
+
+  send_read : AreRead (codes "send" ∷ (x ∷ xs) ∷ [])
+  unfolding clap_on_literals rows
+  send_read = record { simple = refl; taken = simp e; found = simp e }
+
+is_not : (b : Bool) → not b ≡ true → b ≡ false
+is_not true e = absurd (cc)
+is_not false e = refl
+
+some_where : {X : Type 0} (b : Bool) (x : X) → is_some (if b then Some x else None) ≡ true → b ≡ true
+some_where true x e = refl
+some_where false x e = absurd (cc)
+
+-- the arguments that the rule of a row accepts are read
+abbrev Reads : Kind → Type 0
+Reads row = (args : List Text) → is_some (arguments_of row.rule args) ≡ true → AreRead (row.word ∷ args)
+
+file_reads : (word : Text) → ((x : ℕ) (xs : Text) → nat_eq x 45 ≡ false → AreRead (word ∷ (x ∷ xs) ∷ [])) → (args : List Text) → is_some (arguments_of File args) ≡ true → AreRead (word ∷ args)
+file_reads word read [] e = absurd (cc)
+file_reads word read ([] ∷ []) e = absurd (cc)
+file_reads word read ((x ∷ xs) ∷ []) e =
+    let named : is_name 255 (x ∷ xs) ≡ true = some_where (is_name 255 (x ∷ xs)) _ e in
+    read x xs (is_not (nat_eq x 45) (both _ _ (both _ _ named).0).1)
+file_reads word read (file ∷ more ∷ rest) e = absurd (cc)
+
+abbrev AllRead : List Kind → Type 0
+AllRead [] = Unit {0}
+AllRead (row ∷ more) = Reads row × AllRead more
+
+all_read : AllRead rows
+unfolding rows
+all_read = (file_reads (codes "burst") burst_read, (file_reads (codes "join") join_read, (file_reads (codes "send") send_read, tt)))
+
+some_mapped : {A B : Type 0} (f : A → B) (o : Option A) → is_some (option_map f o) ≡ true → is_some o ≡ true
+some_mapped f None e = e
+some_mapped f (Some a) e = refl
+
+read_by : (row : Kind) (more : List Kind) (first : Text) (args : List Text) → Reads row → (is_some (option_and_then (λ k. request_by k args) (row_in more first)) ≡ true → AreRead (first ∷ args))
+    → (b : Bool) → bytes_eq first row.word ≡ b → is_some (option_and_then (λ k. request_by k args) (if b then Some row else row_in more first)) ≡ true → AreRead (first ∷ args)
+read_by row more first args this next true same h = subst (λ w. AreRead (w ∷ args)) (sym ((bytes_eq-Decides first row.word).0 same)) (this args (some_mapped _ (arguments_of row.rule args) h))
+read_by row more first args this next false same h = next h
+
+-- the arguments of the row of a word
+found_read : (table : List Kind) → AllRead table → (first : Text) (args : List Text) → is_some (option_and_then (λ row. request_by row args) (row_in table first)) ≡ true → AreRead (first ∷ args)
+found_read [] all first args e = absurd (cc)
+found_read (row ∷ more) all first args e = read_by row more first args all.0 (found_read more all.1 first args) (bytes_eq first row.word) refl e
+
+pub are_read : (words : List Text) → is_some (request_of words) ≡ true → AreRead words
+are_read [] e = absurd (cc)
+are_read (first ∷ args) e = found_read rows all_read first args e
+
+-- ---- from the matches back to the words
+
+pair_found : {Z : Type 0} (s : Option (Box SubCommand Z)) (n : Text) (rs : List Row) → Some n ≡ option_map (λ b. (out-SubCommand (box_value b)).name.now) s
+    → Some rs ≡ option_map (λ p. p.1) (subcommand_rows s) → subcommand_rows s ≡ Some (n, rs)
+pair_found None n rs a e = absurd (cc)
+pair_found (Some b) n rs a e = cc
+
+some_back : {A B C : Type 0} (f : A → B) (g : B → C) (o : Option A) (w : C) → option_map g (option_map f o) ≡ Some w → IsSome o
+some_back f g None w e = absurd (cc)
+some_back f g (Some x) w e = refl
+
+-- what the getters give of matches that are read as some words
+pub record IsFound (m : ArgMatches) (command : Text) (number file : Option (Bor Text)) : Type 0 where
+  pub there : IsSome file
+  pub read : (f : Bor Text) → file ≡ Some f → IsReadAs (command ∷ before (option_map (λ s. s.now) number) f.now) m
+
+pub are_found : (m : ArgMatches) (sub : Option (Bor Text × Bor ArgMatches)) (p : Bor Text × Bor ArgMatches) (number file : Option (Bor Text)) (words : List Text) → IsReadAs words m → sub ≡ Some p
+    → option_map (λ q. q.0.now) sub ≡ subcommand_name_of m
+    → option_map (λ q. rows_of (found_of q.1.now)) sub ≡ option_map (λ q. q.1) (subcommand_rows_of m)
+    → option_map (λ s. s.now) number ≡ first_value (found_of p.1.now) (codes "number")
+    → option_map (λ s. s.now) file ≡ first_value (found_of p.1.now) (codes "file") → IsFound m p.0.now number file
+are_found m sub p number file words read is name rows counted got =
+    let rs = rows_of (found_of p.1.now) in
+    let pair = pair_found (out-ArgMatches m).subcommand p.0.now rs (ap (option_map (λ q. q.0.now)) (sym is) ∙ name) (ap (option_map (λ q. rows_of (found_of q.1.now))) (sym is) ∙ rows) in
+    let first : option_map (λ s. s.now) file ≡ first_of (codes "file") rs = got ∙ first_value-rows (found_of p.1.now) (codes "file") in
+    let count : option_map (λ s. s.now) number ≡ first_of (codes "number") rs = counted ∙ first_value-rows (found_of p.1.now) (codes "number") in
+    let found : words_in (subcommand_rows_of m) ≡ option_map (λ f. p.0.now ∷ before (option_map (λ s. s.now) number) f) (option_map (λ s. s.now) file) =
+    ap words_in pair ∙ ap (option_map (λ f. p.0.now ∷ before (first_of (codes "number") rs) f)) (sym first)
+    ∙ ap (λ c. option_map (λ f. p.0.now ∷ before c f) (option_map (λ s. s.now) file)) (sym count) in
+    record {
+      there = some_back (λ s. s.now) (λ f. p.0.now ∷ before (option_map (λ s. s.now) number) f) file words (sym found ∙ read);
+      read = λ f e. found ∙ ap (λ o. option_map (λ g. p.0.now ∷ before (option_map (λ s. s.now) number) g) (option_map (λ s. s.now) o)) e;
+    }
+
+-- ---- the program of a table
+
+pub next_program : (table : List TableRow) (i : ℕ) (d : TableRow) (a b : App) → i < length table → b ≡ with_subcommand a (row_app (shown (get_or table i d))).top → program_app b (map shown (drop (i + 1) table)) ≡ program_app a (map shown (drop i table))
+next_program table i d a b lt e = rw (drop-cons table i d lt, add-one i, e) refl

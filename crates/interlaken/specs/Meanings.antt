@@ -1,0 +1,22 @@
+-- What each request means.
+use Rattle.std.specs.Prelude.{Option, Some, None}
+use Rattle.run_shell.specs.Meaning.{Meaning}
+use Rattle.run_shell.specs.Ending.{misused_meaning}
+use Rattle.stream_commands.specs.Capture.{burst_capture_meaning}
+use Rattle.stream_commands.specs.Planned.{burst_plan_meaning, send_plan_meaning}
+use Rattle.receive_commands.specs.Join.{join_words_meaning, join_plan_meaning}
+use Rattle.interlaken.specs.declared.request.Request.{Request}
+use Rattle.interlaken.specs.declared.request.Request.TheVariants.{BurstCapture, BurstPlan, JoinWords, JoinPlan, SendPlan}
+
+-- one line for each command
+abbrev pub meaning_of : Request → Meaning
+meaning_of (BurstCapture name) = burst_capture_meaning name
+meaning_of (BurstPlan name) = burst_plan_meaning name
+meaning_of (JoinWords name) = join_words_meaning name
+meaning_of (JoinPlan name) = join_plan_meaning name
+meaning_of (SendPlan name) = send_plan_meaning name
+
+-- words that are not accepted have a meaning too: the line of the usage
+abbrev pub meaning_by : Option Request → Meaning
+meaning_by None = misused_meaning
+meaning_by (Some r) = meaning_of r

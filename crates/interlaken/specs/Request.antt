@@ -1,0 +1,37 @@
+-- What words ask for.
+use Rattle.std.specs.Prelude.{ℕ, Bool, nat_eq, List, [], ◌∷◌, Option, Some, None, option_map, option_and_then, if◌then◌else◌}
+use Rattle.std.specs.List.{ends_with}
+use lib.Chars.{codes}
+use Rattle.interlaken.specs.declared.table.Name.{Name}
+use Rattle.interlaken.specs.declared.table.Name.TheVariants as names
+use Rattle.interlaken.specs.declared.request.Request.{Request}
+use Rattle.interlaken.specs.declared.request.Request.TheVariants.{BurstCapture, BurstPlan, JoinWords, JoinPlan, SendPlan}
+use Rattle.interlaken.specs.Given.{Given}
+use Rattle.interlaken.specs.Arguments.{arguments_of}
+use Rattle.interlaken.specs.Table.{Kind, rows, row_in}
+
+-- the name of a plan
+abbrev pub is_plan_name : List ℕ → Bool
+is_plan_name word = ends_with nat_eq word (codes ".plan")
+
+-- a file by its name: a plan, or a capture
+abbrev pub burst_of : List ℕ → Request
+burst_of file = if is_plan_name file then BurstPlan file else BurstCapture file
+
+-- a file by its name: a plan, or a words file
+abbrev pub join_of : List ℕ → Request
+join_of file = if is_plan_name file then JoinPlan file else JoinWords file
+
+-- a command with its arguments; `send` takes any file as a plan
+abbrev pub request_for : Name → Given → Request
+request_for names.Burst a = burst_of a.file
+request_for names.Join a = join_of a.file
+request_for names.Send a = SendPlan a.file
+
+abbrev pub request_by : Kind → List (List ℕ) → Option Request
+request_by row words = option_map (request_for row.command) (arguments_of row.rule words)
+
+-- what accepted words ask for: the first names a command, and the others are its arguments
+abbrev pub request_of : List (List ℕ) → Option Request
+request_of [] = None
+request_of (first ∷ rest) = option_and_then (λ row. request_by row rest) (row_in rows first)

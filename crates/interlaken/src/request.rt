@@ -1,0 +1,122 @@
+//! What words ask for.
+ghost use Rattle.std.specs.Prelude.{◌≡◌, map, is_some, IfOk, IfErr, IsSome, string_bytes};
+ghost use Rattle.interlaken.specs.Request.{is_plan_name, burst_of, join_of, request_for, request_by, request_of};
+ghost use Rattle.interlaken.specs.CommandLine.{words_of};
+
+use crate::arguments::{Arguments, arguments_of};
+use crate::command_line::{CommandLine, line_of, read_line};
+use crate::table::{Name, row_in, rows};
+use lk_base::OutOfMemory;
+use lk_outside::Store;
+use receive_commands::{JoinPlan, JoinWords};
+use run_shell::{Command, Finished, Stop};
+use std::alloc::Global;
+use stream_commands::{BurstCapture, BurstPlan, SendPlan};
+
+/// A command of the program, with its arguments.
+#[derive(Drop)]
+pub enum Request<'w> {
+    /// A capture becomes a words file.
+    BurstCapture(BurstCapture<'w>),
+    /// A plan becomes a words file.
+    BurstPlan(BurstPlan<'w>),
+    /// A words file becomes a capture and a span table.
+    JoinWords(JoinWords<'w>),
+    /// The words file of a plan becomes captures and a span table.
+    JoinPlan(JoinPlan<'w>),
+    /// A plan becomes lane files.
+    SendPlan(SendPlan<'w>),
+}
+
+impl Command for Request<'_> {
+    ghost use Rattle.interlaken.specs.Meanings.{meaning_of};
+
+    ghost meaning = { meaning_of };
+
+    fn obey<S: Store>(&self, alloc: Global, store: &mut S) -> Result<Finished, Stop> {
+        match self {
+            Request::BurstCapture(burst) => burst.obey(alloc, store),
+            Request::BurstPlan(burst) => burst.obey(alloc, store),
+            Request::JoinWords(join) => join.obey(alloc, store),
+            Request::JoinPlan(join) => join.obey(alloc, store),
+            Request::SendPlan(send) => send.obey(alloc, store),
+        }
+    }
+}
+
+// Whether a word names a plan.
+fn is_plan_name(word: &str) -> bool
+    ensures { result ≡ is_plan_name word.now }
+{
+    word.as_bytes().ends_with(b".plan")
+}
+
+// What `burst` makes of a file, by its name.
+fn burst_of<'w>(file: &'w str) -> Request<'w>
+    ensures { result ≡ burst_of file.now }
+{
+    if is_plan_name(file) {
+        Request::BurstPlan(BurstPlan::make(file))
+    } else {
+        Request::BurstCapture(BurstCapture::make(file))
+    }
+}
+
+// What `join` makes of a file, by its name.
+fn join_of<'w>(file: &'w str) -> Request<'w>
+    ensures { result ≡ join_of file.now }
+{
+    if is_plan_name(file) {
+        Request::JoinPlan(JoinPlan::make(file))
+    } else {
+        Request::JoinWords(JoinWords::make(file))
+    }
+}
+
+// A command with its arguments.
+fn request_for<'w>(command: Name, arguments: &Arguments<'w>) -> Request<'w>
+    ensures { result ≡ request_for command arguments.now }
+{
+    match command {
+        Name::Burst => burst_of(arguments.file),
+        Name::Join => join_of(arguments.file),
+        Name::Send => Request::SendPlan(SendPlan::make(arguments.file)),
+    }
+}
+
+// What a command line asks for, where it is accepted.
+fn request_by<'w>(line: &CommandLine<'w>) -> Option<Request<'w>>
+    ensures { result ≡ request_of (words_of line.now) }
+{
+    let row = row_in(rows(), line.command)?;
+    let arguments = arguments_of(row.rule, line)?;
+    Some(request_for(row.command, &arguments))
+}
+
+// Whether the words are accepted.
+fn are_accepted(words: &[String]) -> bool
+    ensures { result ≡ is_some (request_of (map string_bytes words.now)) }
+{
+    match line_of(words) {
+        Some(line) => request_by(&line).is_some(),
+        None => false,
+    }
+}
+
+/// What the words ask for, where they are accepted.
+///
+/// The rule is judged first: `Ok(None)` comes exactly where the words are not accepted, and `OutOfMemory` only where they
+/// are, from the reading.
+pub fn request_of<'w>(
+    alloc: Global,
+    words: &'w [String],
+) -> Result<Option<Request<'w>>, OutOfMemory>
+    ensures memory { IfErr result (λ e. IsSome (request_of (map string_bytes words.now))) }
+    ensures request { IfOk result (λ r. r ≡ request_of (map string_bytes words.now)) }
+{
+    if !are_accepted(words) {
+        return Ok(None);
+    }
+    let line = read_line(alloc, words)?;
+    Ok(request_by(&line))
+}

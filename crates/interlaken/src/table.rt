@@ -1,0 +1,73 @@
+//! The commands of the program: the word of each, and the rule of its arguments.
+ghost use Rattle.std.specs.Prelude.{◌≡◌, map, option_map};
+ghost use Rattle.interlaken.specs.Table.{shown, rows, row_in};
+
+/// What a command is given.
+#[derive(Clone, Copy, Debug, PartialEq, Eq)]
+pub enum Rule {
+    /// A file.
+    File,
+    /// A number and the prefix of files.
+    NumberAndPrefix,
+}
+
+/// The commands.
+#[derive(Clone, Copy, Debug, PartialEq, Eq)]
+pub enum Name {
+    /// A capture or a plan becomes a words file.
+    Burst,
+    /// A words file, or that of a plan, becomes captures and a span table.
+    Join,
+    /// A plan becomes lane files.
+    Send,
+}
+
+/// A command: its word, and the rule of its arguments.
+#[derive(Clone, Copy, Debug, PartialEq, Eq)]
+pub struct Row {
+    /// The word that calls it.
+    pub word: &'static str,
+    /// The command.
+    pub command: Name,
+    /// What it is given.
+    pub rule: Rule,
+}
+
+// A command that is not built has no row.
+static ROWS: &[Row] = &[
+    Row {
+        word: "burst",
+        command: Name::Burst,
+        rule: Rule::File,
+    },
+    Row {
+        word: "join",
+        command: Name::Join,
+        rule: Rule::File,
+    },
+    Row {
+        word: "send",
+        command: Name::Send,
+        rule: Rule::File,
+    },
+];
+
+/// The table.
+#[tactic(auto, unfolding(crate::specs::Table::rows))]
+pub fn rows() -> &'static [Row]
+    ensures { map shown result.now ≡ rows }
+{
+    ROWS
+}
+
+/// The row of a word.
+pub fn row_in(table: &[Row], word: &str) -> Option<Row>
+    ensures { option_map shown result ≡ row_in (map shown table.now) word.now }
+{
+    for i in 0..table.len() {
+        if word == table[i].word {
+            return Some(table[i]);
+        }
+    }
+    None
+}
