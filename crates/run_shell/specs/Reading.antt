@@ -1,5 +1,5 @@
 -- Inputs of a command that are read one after another: all of them, or the first that is refused.
-use Rattle.std.specs.Prelude.{◌≡◌, ◌⊎◌, ℕ, List, [], length, nat_lt, Option, Some, None, Result, Ok, Err, MatchResult, Vec, string_bytes, if◌then◌else◌}
+use Rattle.std.specs.Prelude.{◌≡◌, ◌⊎◌, ℕ, List, [], length, nat_lt, Option, Some, None, IsSomeAnd, Result, Ok, Err, MatchResult, Vec, string_bytes, if◌then◌else◌}
 use Rattle.std.specs.declared.alloc.Global.{Global}
 use Rattle.link_reports.specs.declared.faults.InputError.{InputError}
 use Rattle.link_reports.specs.declared.faults.InputError.TheVariants as refused
@@ -7,6 +7,7 @@ use Rattle.link_plan.specs.declared.error.PlanError.{PlanError}
 use Rattle.link_plan.specs.declared.error.PlanError.TheVariants as plans
 use Rattle.link_reports.specs.Faults.{plan_line, input_line}
 use Rattle.lk_outside.specs.Files.{Files, file, AreBytes}
+use Rattle.lk_outside.specs.Reads as lk_reads
 use Rattle.run_shell.specs.declared.status.Status.TheVariants.{Done, Held, PlanRefused, InputRefused}
 use Rattle.run_shell.specs.declared.stop.Stop.{Stop}
 use Rattle.run_shell.specs.declared.stop.Stop.TheVariants as stop
@@ -105,3 +106,19 @@ Reads value named (Err (stop.Input n why)) answer = answer ≡ Err (of_input (st
 Reads value named (Err (stop.Store n)) answer = named (string_bytes n)
 Reads value named (Err stop.StoreNoMemory) answer = Unit {0}
 Reads value named (Err stop.OutOfMemory) answer = Unit {0}
+
+-- ---- an input that is read in pieces
+
+-- what was asked for can be had, and a refusal is this one, unless the store, at one of these names, or memory stopped it
+abbrev pub Probes : {T V : Type 0} → (List ℕ → Type 0) → Result T Stop → Result V Refusal → Type 0
+Probes {T} {V} named (Ok _) answer = (value : V) × (answer ≡ Ok value)
+Probes {T} {V} named (Err s) answer = Reads {T = V} (λ v. v) named (Err s) answer
+
+-- the bytes at this offset were read, or the file is absent, unless the store, at this name, or memory stopped it
+abbrev pub ReadsPiece : Result ℕ Stop → List ℕ → ℕ → List ℕ → Files → Type 0
+ReadsPiece (Ok n) name offset buf files = IsSomeAnd (file files name) (λ bytes. lk_reads.Reads bytes offset n buf)
+ReadsPiece (Err (stop.Plan why)) name offset buf files = ⊥
+ReadsPiece (Err (stop.Input n why)) name offset buf files = (string_bytes n ≡ name) × (why ≡ refused.NoFile) × (file files name ≡ None)
+ReadsPiece (Err (stop.Store n)) name offset buf files = string_bytes n ≡ name
+ReadsPiece (Err stop.StoreNoMemory) name offset buf files = Unit {0}
+ReadsPiece (Err stop.OutOfMemory) name offset buf files = Unit {0}

@@ -1,12 +1,12 @@
-//! The inputs of a run, each read whole.
-ghost use Rattle.std.specs.Prelude.{◌≡◌, ◌<◌, ◌≤◌, ◌^◌, IfOk, IfSome, vec_len};
+//! The inputs of a run, read whole or in pieces.
+ghost use Rattle.std.specs.Prelude.{◌≡◌, ◌<◌, ◌≤◌, ◌^◌, length, IfOk, IfSome, vec_len};
 ghost use Rattle.run_shell.specs.Stops.{StopCount};
-ghost use Rattle.run_shell.specs.Reading.{Reads, bytes_in, plan_bytes, vec_items};
+ghost use Rattle.run_shell.specs.Reading.{Probes, Reads, ReadsPiece, bytes_in, plan_bytes, vec_items};
 
 use crate::stop::{Stop, input_stop, store_stop};
 use link_plan::PlanError;
 use link_reports::InputError;
-use lk_outside::{Store, WholeError, read_whole};
+use lk_outside::{ReadError, Store, WholeError, read_whole};
 use std::alloc::Global;
 
 /// The whole of an input of at most `limit` bytes. It is refused exactly where it is absent or longer, but for faults of
@@ -52,4 +52,50 @@ pub fn read_plan<S: Store>(
         Err(WholeError::Failed) => Err(store_stop(alloc, name)),
         Err(WholeError::OutOfMemory) => Err(Stop::OutOfMemory),
     }
+}
+
+/// Bytes of an input that is there, from an offset on: how many, which is 0 exactly where `buf` is empty or the offset is at
+/// or past the end; they stand at the front of `buf`. It is refused exactly where it is absent, but for faults of the store
+/// and want of memory. The files are as they were.
+pub fn read_piece<S: Store>(
+    alloc: Global,
+    store: &mut S,
+    name: &str,
+    offset: u64,
+    buf: &mut [u8],
+) -> Result<usize, Stop>
+    requires { S.faults store.old < 2 ^ 60 }
+    ensures cause { StopCount result (S.faults store.old) (S.faults store.new) }
+    ensures unchanged { S.files store.new ≡ S.files store.old }
+    ensures within { IfOk result (λ n. n ≤ length buf.new) }
+    ensures reads { IfSome (S.files store.old) (ReadsPiece result name.now offset buf.new) }
+{
+    match store.read_at(name, offset, buf) {
+        Ok(count) => Ok(count),
+        Err(ReadError::NoFile) => Err(input_stop(alloc, name, InputError::NoFile)),
+        Err(ReadError::Failed) => Err(store_stop(alloc, name)),
+        Err(ReadError::OutOfMemory) => Err(Stop::OutOfMemory),
+    }
+}
+
+/// Asks for an input of at most `limit` bytes that is read later: for its first byte, and for a byte at the limit. It is
+/// refused exactly where it is absent or longer, but for faults of the store and want of memory. The files are as they were.
+pub fn probe_input<S: Store>(
+    alloc: Global,
+    store: &mut S,
+    name: &str,
+    limit: u64,
+) -> Result<(), Stop>
+    requires { S.faults store.old < 2 ^ 60 }
+    ensures cause { StopCount result (S.faults store.old) (S.faults store.new) }
+    ensures unchanged { S.files store.new ≡ S.files store.old }
+    ensures probes { IfSome (S.files store.old) (λ files. Probes (λ n. n ≡ name.now) result (bytes_in files name.now limit)) }
+{
+    let mut byte = [0; 1];
+    read_piece(alloc, store, name, 0, &mut byte)?;
+    let past = read_piece(alloc, store, name, limit, &mut byte)?;
+    if past > 0 {
+        return Err(input_stop(alloc, name, InputError::TooLarge));
+    }
+    Ok(())
 }

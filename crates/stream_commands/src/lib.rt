@@ -13,4 +13,5 @@ mod write;
 
 pub use capture::BurstCapture;
 pub use law::{free_plan_is_not_held, never_bursts_when_off};
+pub use names::lane_names;
 pub use plan::{BurstPlan, SendPlan};
