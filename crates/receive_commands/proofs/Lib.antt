@@ -1,0 +1,12 @@
+pub mod Rising
+pub mod Captures
+pub mod NamesDiffer
+pub mod Heads
+pub mod Receiving
+pub mod Lines
+pub mod Placing
+pub mod Taking
+pub mod Steps
+pub mod Making
+pub mod Joins
+pub mod WordsLaws

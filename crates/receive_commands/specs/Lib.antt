@@ -1,0 +1,11 @@
+-- cited by public clauses
+pub mod Received
+pub mod Words
+pub mod JoinWords
+pub mod JoinPlan
+pub mod WordsLaw
+pub mod Receipts
+-- needed by private functions and proofs alone
+pub mod PlanWords
+pub mod Heads
+pub mod Going

@@ -1,0 +1,20 @@
+//! The commands that receive: received words become captures and a table of fault spans.
+#![tactic(auto)]
+
+mod channels;
+mod join_plan;
+mod join_words;
+mod law;
+mod names;
+mod outputs;
+mod plan_words;
+mod receipt;
+#[cfg(test)]
+mod tests;
+mod words;
+mod words_file;
+
+pub use join_plan::JoinPlan;
+pub use join_words::JoinWords;
+pub use law::{output_names, words_law};
+pub use receipt::{ChannelReceipt, Receipt};

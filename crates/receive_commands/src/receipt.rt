@@ -1,0 +1,212 @@
+//! What came: captures that grow, counts, fault spans and drops.
+ghost use Rattle.std.specs.Prelude.{◌≡◌, ◌<◌, ◌≤◌, ◌+◌, ◌-◌, ◌^◌, ◌++◌, ◌∷◌, [], IsTrue, ℕ, List, length, map, nat_lt, slice_index, get_or, replicate, Option, IfOk, IfSome, OnOk, OnErr};
+ghost use Rattle.std.specs.List.{list_all, flat_map};
+ghost use Rattle.lk_base.specs.declared.position.Pos.{Pos};
+ghost use Rattle.lk_base.specs.Limits.{longest_packet};
+ghost use Rattle.lk_outside.specs.Files.{Files};
+ghost use Rattle.fault_spans.specs.SpanLists.{MayFollow};
+ghost use Rattle.receive_model.specs.Lists.{last_of};
+ghost use Rattle.receive_model.specs.Events.{Event, Setting, Delivered, Dropped, FaultSpan, is_rising};
+ghost use Rattle.reassembly.specs.OutputLaws.{HasSize};
+ghost use Rattle.pcap_files.specs.Written.{header_bytes, record_bytes};
+ghost use Rattle.link_reports.specs.Lines.{got_line, spans_line, dropped_line};
+ghost use Rattle.link_reports.specs.Table.{span_table};
+ghost use Rattle.run_shell.specs.Stops.{StopCount};
+ghost use Rattle.run_shell.specs.Writing.{Writes};
+ghost use Rattle.receive_commands.specs.declared.receipt.ChannelReceipt.{ChannelReceipt};
+ghost use Rattle.receive_commands.specs.Received.{received_outcome};
+ghost use Rattle.receive_commands.specs.Receipts.{Beginning, names_of, IsReceipt, IsStopped, Receives, Opens};
+ghost use Rattle.receive_commands.specs.Going.{numbers_of};
+
+use crate::channels::{channel_lines, nothing_yet, one_more, place_of};
+use crate::outputs::create_captures;
+use fault_spans::SpanList;
+use link_reports::{count_drop, dropped_line, spans_csv, spans_line};
+use lk_base::{DropWhy, OutOfMemory};
+use lk_outside::Store;
+use pcap_files::write_packet;
+use receive_model::Span;
+use run_shell::{Finished, Outputs, Stop};
+use std::alloc::Global;
+
+/// What came for a channel.
+#[derive(Clone, Copy, Debug, PartialEq, Eq)]
+pub struct ChannelReceipt {
+    /// The number of the channel.
+    pub channel: u16,
+    /// How many packets came.
+    pub packets: u64,
+    /// How many bytes they have together.
+    pub bytes: u64,
+}
+
+/// What came so far of a receiver's outputs, which are given to it one by one. The captures of the listed channels grow while
+/// it takes packets, and the span table is made of the spans when nothing more comes.
+#[derive(Drop)]
+pub struct Receipt {
+    /// The captures, in order of number, and behind them the span table.
+    pub outputs: Outputs,
+    /// What came for each channel, in order of number.
+    pub channels: Vec<ChannelReceipt>,
+    /// The fault spans.
+    pub spans: SpanList,
+    /// How many drops there are for each reason.
+    pub drops: [u64; 8],
+}
+
+// The record of a packet in a capture.
+fn record_of(alloc: Global, packet: &[u8]) -> Result<Vec<u8>, OutOfMemory>
+    requires { HasSize longest_packet packet.now }
+    ensures { IfOk result (λ bytes. bytes.items ≡ record_bytes packet.now) }
+{
+    let mut bytes = Vec::new(alloc);
+    write_packet(alloc, &mut bytes, packet)?;
+    Ok(bytes)
+}
+
+// Whether each count finds room for one more.
+fn have_room(drops: &[u64; 8]) -> bool
+    ensures { result ≡ list_all (λ count. nat_lt count (2 ^ 64 - 1)) drops.now }
+{
+    drops.iter().all(|count| *count < u64::MAX)
+}
+
+// The lines of what came, behind a text.
+fn text_of(
+    alloc: Global,
+    before: Vec<u8>,
+    channels: &[ChannelReceipt],
+    spans: &SpanList,
+    drops: &[u64; 8],
+) -> Result<Vec<u8>, OutOfMemory>
+    ensures { IfOk result (λ text. text.items ≡ (before.items ++ flat_map (λ (c : ChannelReceipt). got_line c.channel c.packets c.bytes) channels.now) ++ spans_line (length spans.now) ++ dropped_line drops.now) }
+{
+    let mut text = before;
+    channel_lines(alloc, &mut text, channels)?;
+    spans_line(alloc, &mut text, spans.len() as u64)?;
+    dropped_line(alloc, &mut text, drops)?;
+    Ok(text)
+}
+
+fn table_of(alloc: Global, spans: &SpanList) -> Result<Vec<u8>, OutOfMemory>
+    ensures { IfOk result (λ table. table.items ≡ span_table spans.now) }
+{
+    let mut table = Vec::new(alloc);
+    spans_csv(alloc, &mut table, spans)?;
+    Ok(table)
+}
+
+impl Receipt {
+    /// Creates the captures of these channels, by number, and then the span table, under names that begin with `prefix`. Each
+    /// capture has its header, of this link type; nothing came yet. The channels stand in order of number, each once.
+    pub fn open<S: Store>(
+        alloc: Global,
+        store: &mut S,
+        prefix: &str,
+        channels: &[u16],
+        link_type: u32,
+    ) -> Result<Receipt, Stop>
+        requires count { S.faults store.old < 2 ^ 60 }
+        requires in_order { IsTrue (is_rising channels.now) }
+        ensures cause { StopCount result (S.faults store.old) (S.faults store.new) }
+        ensures opens { (setting : Setting) → setting.channels ≡ channels.now →
+            Opens (record { setting = setting; link_type = link_type; prefix = prefix.now; was = S.files store.old }) result (S.files store.new) }
+    {
+        let counts = nothing_yet(alloc, channels)?;
+        let outputs = create_captures(alloc, store, prefix, channels, link_type)?;
+        Ok(Receipt {
+            outputs,
+            channels: counts,
+            spans: SpanList::make(alloc),
+            drops: [0; 8],
+        })
+    }
+
+    /// A packet came on a channel. It is kept where the channel is one of the receipt's.
+    pub fn add_packet<S: Store>(
+        &mut self,
+        alloc: Global,
+        store: &mut S,
+        channel: u16,
+        packet: &[u8],
+    ) -> Result<(), Stop>
+        requires count { S.faults store.old < 2 ^ 60 }
+        requires sized { HasSize longest_packet packet.now }
+        requires receipt { (b : Beginning) × (outputs : List Event) × IsReceipt b outputs self.old (S.files store.old) }
+        ensures cause { StopCount result (S.faults store.old) (S.faults store.new) }
+        ensures receives { (b : Beginning) (outputs : List Event) (first last : Pos) → IsReceipt b outputs self.old (S.files store.old) →
+            Receives b (outputs ++ Delivered channel (record { bytes = packet.now; first = first; last = last }) ∷ []) result self.new (S.files store.new) }
+    {
+        match place_of(&self.channels, channel) {
+            Some(place) => self.put_packet(alloc, store, place, packet),
+            None => Ok(()),
+        }
+    }
+
+    // A packet came on the channel at this place.
+    fn put_packet<S: Store>(
+        &mut self,
+        alloc: Global,
+        store: &mut S,
+        place: usize,
+        packet: &[u8],
+    ) -> Result<(), Stop>
+        requires count { S.faults store.old < 2 ^ 60 }
+        requires sized { HasSize longest_packet packet.now }
+        requires place { place < length self.old.channels.items }
+        requires receipt { (b : Beginning) × (outputs : List Event) × IsReceipt b outputs self.old (S.files store.old) }
+        ensures cause { StopCount result (S.faults store.old) (S.faults store.new) }
+        ensures receives { (b : Beginning) (outputs : List Event) (first last : Pos) → IsReceipt b outputs self.old (S.files store.old) →
+            Receives b (outputs ++ Delivered (slice_index (numbers_of self.old.channels.items) place) (record { bytes = packet.now; first = first; last = last }) ∷ []) result self.new (S.files store.new) }
+    {
+        let record = record_of(alloc, packet)?;
+        let counts = one_more(self.channels[place], packet.len() as u64)?;
+        self.outputs.put(alloc, store, place, &record)?;
+        self.channels[place] = counts;
+        Ok(())
+    }
+
+    /// A piece of a packet was dropped. A count that finds no room in 64 bits is told as want of memory.
+    pub fn add_drop(&mut self, why: DropWhy) -> Result<(), OutOfMemory>
+        ensures { OnOk result ((b : Beginning) (outputs : List Event) (now : Option Files) (channel : ℕ) → IsReceipt b outputs self.old now →
+            IsReceipt b (outputs ++ Dropped channel why ∷ []) self.new now) }
+    {
+        if !have_room(&self.drops) {
+            return Err(OutOfMemory);
+        }
+        count_drop(&mut self.drops, why);
+        Ok(())
+    }
+
+    /// A fault span is shown. The last span before it, if there is one, ends where it begins or before.
+    pub fn add_span(&mut self, span: Span) -> Result<(), OutOfMemory>
+        requires { MayFollow (last_of self.old.spans) span }
+        ensures { OnOk result ((b : Beginning) (outputs : List Event) (now : Option Files) → IsReceipt b outputs self.old now →
+            IsReceipt b (outputs ++ FaultSpan span ∷ []) self.new now) }
+    {
+        self.spans.push(span)?;
+        Ok(())
+    }
+
+    /// Nothing more comes: the span table is given its bytes, and all outputs are filled. The lines of what came stand behind
+    /// the text `before`.
+    pub fn finish<S: Store>(
+        &mut self,
+        alloc: Global,
+        store: &mut S,
+        before: Vec<u8>,
+    ) -> Result<Finished, Stop>
+        requires count { S.faults store.old < 2 ^ 60 }
+        requires receipt { (b : Beginning) × (outputs : List Event) × IsReceipt b outputs self.old (S.files store.old) }
+        ensures cause { StopCount result (S.faults store.old) (S.faults store.new) }
+        ensures writes { (b : Beginning) (outputs : List Event) → IsReceipt b outputs self.old (S.files store.old) →
+            Writes (λ o. o ≡ received_outcome b.setting b.link_type b.prefix before.items outputs) (names_of b) result b.was (S.files store.new) }
+    {
+        let text = text_of(alloc, before, &self.channels, &self.spans, &self.drops)?;
+        let table = table_of(alloc, &self.spans)?;
+        let place = self.channels.len();
+        self.outputs.put(alloc, store, place, &table)?;
+        self.outputs.finish(alloc, store)?;
+        Ok(Finished { held: false, text })
+    }
+}
