@@ -15,3 +15,7 @@ pub mod LaneEvents
 pub mod LanesThere
 pub mod LaneOffsets
 pub mod FedLanes
+pub mod ReceiveLanes
+pub mod Receives
+pub mod PlanLanes
+pub mod LaneLines
