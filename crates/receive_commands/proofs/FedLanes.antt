@@ -64,18 +64,18 @@ some_least (lane ∷ fed) = by lane.finished refl (some_least fed)
     by : (f : Bool) → lane.finished ≡ f → (least_unfinished fed ≡ None) ⊎ ((i : ℕ) × (is_unfinished i fed ≡ true) × (least_unfinished fed ≡ Some (bytes_at i fed)))
         → (least_unfinished (lane ∷ fed) ≡ None) ⊎ ((i : ℕ) × (is_unfinished i (lane ∷ fed) ≡ true) × (least_unfinished (lane ∷ fed) ≡ Some (bytes_at i (lane ∷ fed))))
     by true f (inl none) = inl (rw f none)
-    by true f (inr (i, open, least)) = inr (suc i, open, rw f least)
+    by true f (inr (i, next, least)) = inr (suc i, next, rw f least)
     by false f (inl none) = inr (0, ap not f, rw (f, none) refl)
-    by false f (inr (i, open, least)) = elim (min_cases (length lane.bytes) (bytes_at i fed)) [
+    by false f (inr (i, next, least)) = elim (min_cases (length lane.bytes) (bytes_at i fed)) [
       | inl e ↦ inr (0, ap not f, rw (f, least) (ap Some e))
-      | inr e ↦ inr (suc i, open, rw (f, least) (ap Some e))
+      | inr e ↦ inr (suc i, next, rw (f, least) (ap Some e))
     ]
 
 pub least_is : (fed : List Fed) (i at : ℕ) → slice_get (map offset_of fed) i ≡ Some (Some at) → ((other n : ℕ) → slice_get (map offset_of fed) other ≡ Some (Some n) → at ≤ n) → least_unfinished fed ≡ Some at
 least_is fed i at here least = elim (some_least fed) [
   | inl none ↦ absurd (no_open fed i (open_is fed i at here).0 none)
-  | inr (j, open, is) ↦ (
-      let le : at ≤ bytes_at j fed = least j (bytes_at j fed) (open_at fed j open) in
+  | inr (j, next, is) ↦ (
+      let le : at ≤ bytes_at j fed = least j (bytes_at j fed) (open_at fed j next) in
       let (unfinished, count) = open_is fed i at here in
       let ge : bytes_at j fed ≤ bytes_at i fed = at_most fed i (bytes_at j fed) unfinished is in
       is ∙ ap Some (same (bytes_at j fed) (bytes_at i fed) at le ge count))
@@ -94,10 +94,10 @@ least_is fed i at here least = elim (some_least fed) [
 
     no_open : (f : List Fed) (k : ℕ) → is_unfinished k f ≡ true → least_unfinished f ≡ None → ⊥
     no_open [] k e n = cc
-    no_open (lane ∷ f) zero e n = none-some _ (sym n ∙ rw (not_true lane.finished e) refl)
+    no_open (lane ∷ f) zero e n = none-some (lesser (length lane.bytes) (least_unfinished f)) (sym n ∙ rw (not_true lane.finished e) refl)
     no_open (lane ∷ f) (suc k) e n = elim (cases_Bool lane.finished) [
       | inl t ↦ no_open f k e (rw t at n)
-      | inr t ↦ none-some _ (sym n ∙ rw t refl)
+      | inr t ↦ none-some (lesser (length lane.bytes) (least_unfinished f)) (sym n ∙ rw t refl)
     ]
 
     at_most : (f : List Fed) (k m : ℕ) → is_unfinished k f ≡ true → least_unfinished f ≡ Some m → m ≤ bytes_at k f
@@ -109,7 +109,7 @@ least_is fed i at here least = elim (some_least fed) [
           let h : Some (lesser (length lane.bytes) (least_unfinished f)) ≡ Some m = rw t at n in
           elim (some_least f) [
             | inl none ↦ absurd (no_open f k e none)
-            | inr (j, open, is) ↦ (let a = rest_at_least (length lane.bytes) (least_unfinished f) m h (bytes_at j f) is in let b = at_most f k (bytes_at j f) e is in omega arith)
+            | inr (j, next, is) ↦ (let a = rest_at_least (length lane.bytes) (least_unfinished f) m h (bytes_at j f) is in let b = at_most f k (bytes_at j f) e is in omega arith)
           ])
     ]
 
@@ -161,13 +161,13 @@ behind_first [] rest = refl
 behind_first (x ∷ first) rest = behind_first first rest
 
 goes_on : (bytes : List ℕ) (lane : Fed) (piece : List ℕ) → lane.finished ≡ false → IsPieceAt (length lane.bytes) piece bytes → Goes lane (whole bytes) → Goes (record { bytes = lane.bytes ++ piece; finished = lane.finished }) (whole bytes)
-goes_on bytes lane piece open is go = record {
+goes_on bytes lane piece next is go = record {
   rest = drop (length piece) go.rest;
   bytes =
       let here : piece ≡ take (length piece) go.rest = is.taken ∙ ap (take (length piece)) (ap (drop (length lane.bytes)) go.bytes ∙ behind_first lane.bytes go.rest) in
       go.bytes ∙ ap (λ (r : List ℕ). lane.bytes ++ r) (sym (take-append-drop (length piece) go.rest) ∙ ap (λ (p : List ℕ). p ++ drop (length piece) go.rest) (sym here))
       ∙ sym (append_assoc lane.bytes piece (drop (length piece) go.rest));
-  over = λ t. absurd (let f : true ≡ false = sym t ∙ open in cc);
+  over = λ t. absurd (let f : true ≡ false = sym t ∙ next in cc);
 }
 
 no_rest : (first rest : List ℕ) → length (first ++ rest) ≤ length first → rest ≡ []
@@ -182,8 +182,8 @@ ends_here bytes lane le go = record {
 }
 
 one_more : (o : Option (List ℕ)) (lane : Fed) (piece : List ℕ) → lane.finished ≡ false → IsSomeAnd o (IsPieceAt (length lane.bytes) piece) → ComesFrom o lane → ComesFrom o (record { bytes = lane.bytes ++ piece; finished = lane.finished })
-one_more None lane piece open is h = absurd h
-one_more (Some bytes) lane piece open is h = (h.0, goes_on bytes lane piece open is h.1)
+one_more None lane piece next is h = absurd h
+one_more (Some bytes) lane piece next is h = (h.0, goes_on bytes lane piece next is h.1)
 
 one_end : (o : Option (List ℕ)) (lane : Fed) → IsSomeAnd o (IsPieceAt (length lane.bytes) []) → ComesFrom o lane → ComesFrom o (record { bytes = lane.bytes; finished = true })
 one_end None lane is h = absurd h

@@ -57,7 +57,7 @@ order_rising numbers = rising_range (is_listed numbers) 0 256
 pub order_rises : (numbers channels : List ℕ) → channels ≡ channels_in_order numbers → IsTrue (is_rising channels)
 order_rises numbers channels e = subst (λ cs. IsTrue (is_rising cs)) (sym e) (order_rising numbers)
 
-same_numbers : (channels : List ChannelRow) → map (λ (c : Listed). c.number) (map listed_of channels) ≡ numbers_of channels
+pub same_numbers : (channels : List ChannelRow) → map (λ (c : Listed). c.number) (map listed_of channels) ≡ numbers_of channels
 same_numbers [] = refl
 same_numbers (c ∷ channels) = ap (λ ns. c.number ∷ ns) (same_numbers channels)
 

@@ -16,7 +16,7 @@ use Rattle.rx_end.specs.declared.event.RxEvent.{RxEvent}
 use Rattle.rx_end.specs.declared.event.RxEvent.TheVariants as events
 use Rattle.rx_end.specs.Nexts.{IsKept, IsNext, is_packet}
 use Rattle.rx_end.specs.Stages.{is_closed}
-use Rattle.rx_end.specs.Standing.{GivesEvent, Stands, StandsWith, TellsLength, event_of}
+use Rattle.rx_end.specs.Standing.{GivesEvent, GivesNext, Stands, StandsWith, TellsLength, event_of}
 use Rattle.rx_end.specs.States.{State}
 use Rattle.rx_end.proofs.Ends.{none_made_all_rounds}
 use Rattle.rx_end.proofs.Pieces.{given_come_first}
@@ -127,3 +127,9 @@ module _ (b : Beginning) (s : Settings) (fed : List Fed) (given : List Event) (v
           rounds = none_made_all_rounds v w s b.setting fed given next at.stands gives.1;
           all = gives.0;
         }
+
+    pub event_given : (r : Option RxEvent) (event : RxEvent) → r ≡ Some event → IsNext v w r → GivesEvent event w s b.setting fed given
+    event_given r event e next = subst (λ (x : Option RxEvent). GivesNext x w s b.setting fed given) e (next.gives s b.setting fed given at.stands)
+
+    pub none_given : (r : Option RxEvent) → r ≡ None → IsNext v w r → IsDrained b s fed given w receipt now
+    none_given r e next = none_left (subst (λ (x : Option RxEvent). IsNext v w x) e next)

@@ -28,36 +28,36 @@ module _ (offsets : List (Option ℕ)) (i : ℕ) where
   same_at o other at here e there = same_Some o (Some at) (sym here ∙ ap (slice_get offsets) (sym e) ∙ there)
 
   pub least_next : (least : Option OpenLane) (o : Option ℕ) → slice_get offsets i ≡ Some o → IsLeastOrNone i offsets least → IsLeastOrNone (i + 1) offsets (lesser_open least i o)
-  least_next None None here h other at lt e = elim (one_behind i other lt) [
+  least_next None None here h = λ other at lt e. elim (one_behind i other lt) [
     | inl below ↦ h other at below e
     | inr is ↦ none-some at (same_at None other at here is e)
   ]
   least_next None (Some offset) here h = record {
-    open = here;
+    next = here;
     least = λ other at lt e. elim (one_behind i other lt) [
       | inl below ↦ absurd (h other at below e)
       | inr is ↦ (let same : offset ≡ at = same_Some offset at (same_at (Some offset) other at here is e) in omega arith)
     ];
   }
-  least_next (Some open) None here h = record {
-    open = h.open;
+  least_next (Some next) None here h = record {
+    next = h.next;
     least = λ other at lt e. elim (one_behind i other lt) [
       | inl below ↦ h.least other at below e
       | inr is ↦ absurd (none-some at (same_at None other at here is e))
     ];
   }
-  least_next (Some open) (Some offset) here h = elim (cases_Bool (nat_le open.offset offset)) [
+  least_next (Some next) (Some offset) here h = elim (cases_Bool (nat_le next.offset offset)) [
     | inl t ↦ rw t (record {
-        open = h.open;
+        next = h.next;
         least = λ other at lt e. elim (one_behind i other lt) [
           | inl below ↦ h.least other at below e
-          | inr is ↦ (let same : offset ≡ at = same_Some offset at (same_at (Some offset) other at here is e) in let le = leb-true open.offset offset t in omega arith)
+          | inr is ↦ (let same : offset ≡ at = same_Some offset at (same_at (Some offset) other at here is e) in let le = leb-true next.offset offset t in omega arith)
         ];
       })
     | inr t ↦ rw t (record {
-        open = here;
+        next = here;
         least = λ other at lt e. elim (one_behind i other lt) [
-          | inl below ↦ (let le = h.least other at below e in let more : offset < open.offset = grind (arith, nat_tests) in omega arith)
+          | inl below ↦ (let le = h.least other at below e in let more : offset < next.offset = grind (arith, nat_tests) in omega arith)
           | inr is ↦ (let same : offset ≡ at = same_Some offset at (same_at (Some offset) other at here is e) in omega arith)
         ];
       })

@@ -34,7 +34,7 @@ module _ (names : List (List ℕ)) (i : ℕ) (name : List ℕ) (lt : i < length 
   unfolding lanes_in
   next_in = ap (lanes_in files) (drop_next names i [] lt ∙ ap (λ n. n ∷ drop (i + 1) names) (sym is))
 
-  pub led_next : Led names i files → (bytes : List ℕ) × (bytes_in files name lane_limit ≡ Ok bytes) → Led names (i + 1) files
+  pub led_next : Led names i files → ((bytes : List ℕ) × (bytes_in files name lane_limit ≡ Ok bytes)) → Led names (i + 1) files
   led_next (front, e) (bytes, had) = (front ++ bytes ∷ [],
       e ∙ ap (λ r. behind r (λ lanes. Ok (front ++ lanes))) (next_in ∙ ap (λ r. behind r (λ b. behind (lanes_in files (drop (i + 1) names)) (λ lanes. Ok (b ∷ lanes)))) had)
       ∙ behind_twice front bytes (lanes_in files (drop (i + 1) names)))
@@ -49,11 +49,8 @@ module _ (names : List (List ℕ)) (i : ℕ) (name : List ℕ) (lt : i < length 
       (behind_stops (List ℕ) (List (List ℕ)) (List ℕ) (List (List ℕ)) (bytes_in files name lane_limit) (λ bytes. behind (lanes_in files (drop (i + 1) names)) (λ lanes. Ok (bytes ∷ lanes))) (λ v. v) (λ v. v) (λ n. n ≡ name) (Contains names) s (λ q k. subst (Contains names) (sym k) among) h))
 
 drop_all : (names : List (List ℕ)) (i : ℕ) → length names ≤ i → drop i names ≡ []
-drop_all [] i le = drop_nil i
-  where
-    drop_nil : (n : ℕ) → drop n [] ≡ ([] : List (List ℕ))
-    drop_nil zero = refl
-    drop_nil (suc n) = refl
+drop_all [] zero le = refl
+drop_all [] (suc i) le = refl
 drop_all (n ∷ names) zero le = absurd (omega arith)
 drop_all (n ∷ names) (suc i) le = drop_all names i (omega arith)
 

@@ -19,3 +19,4 @@ pub mod ReceiveLanes
 pub mod Receives
 pub mod PlanLanes
 pub mod LaneLines
+pub mod ReceiveEnds

@@ -78,7 +78,7 @@ some_reports s [] = ([], tt)
 some_reports s (bytes ∷ lanes) =
     let (attempts, are) = attempts_exist s.metaframe (bits_of_bytes bytes) in
     let (reports, rest) = some_reports s lanes in
-    (report_of s (bits_of_bytes bytes) attempts ∷ reports, record { attempts = attempts; are = are; is = refl }, rest)
+    (report_of s (bits_of_bytes bytes) attempts ∷ reports, (record { attempts = attempts; are = are; is = refl }, rest))
 
 one_report : (s : Settings) (bytes : List ℕ) (r q : LaneReport) → IsLaneReport s bytes r → IsLaneReport s bytes q → r ≡ q
 one_report s bytes r q h k =
@@ -94,9 +94,6 @@ same_reports s (bytes ∷ lanes) (r ∷ rs) (q ∷ qs) h k = ap₂ (λ (x : Lane
 
 -- ---- the work
 
-received_by : PlanLanes → Setting → List LaneReport → List Event → Outcome
-received_by i setting reports events = received_outcome setting i.plan.link_type i.plan.out (lane_lines 0 reports) events
-
 same_events : (i : PlanLanes) (setting other : Setting) (one two : List Event) → IsLink i.plan.settings → setting ≡ other → AreEvents i.plan.settings setting i.lanes one → AreEvents i.plan.settings other i.lanes two → one ≡ two
 same_events i setting other one two link e h k =
     events_are_determined i.plan.settings other i.lanes link.deskew_below_half one two (subst (λ (x : Setting). AreEvents i.plan.settings x i.lanes one) e h) k
@@ -110,7 +107,7 @@ one_received i o p h k =
     ∙ ap (λ (x : List LaneReport). received_outcome k.setting i.plan.link_type i.plan.out (lane_lines 0 x) h.events) g
     ∙ ap (λ (x : List Event). received_outcome k.setting i.plan.link_type i.plan.out (lane_lines 0 k.reports) x) f ∙ sym k.is
 
-pub the_setting : PlanValue → Setting
+abbrev pub the_setting : PlanValue → Setting
 the_setting plan = setting_from (channels_in_order (numbers_in plan)) (order_rising (numbers_in plan)) plan.settings.max_packet
 
 pub is_the_setting : (plan : PlanValue) → IsSettingOf plan (the_setting plan)
@@ -232,7 +229,7 @@ module _ (plan : PlanValue) (b : Beginning) (is_setting : IsSettingOf plan b.set
 
   module _ (r : State) (kept : Receipt) (now : Option Files) (h : AllReceived b plan.settings lane_files r kept now) (reports : List LaneReport) (count : length reports ≡ plan.settings.lanes)
       (each : (setting : Setting) (fed : List Fed) (given : List Event) (stands : Stands r plan.settings setting fed given) (lane : ℕ) (report : LaneReport) → slice_get reports lane ≡ Some report → IsReportOf plan.settings stands.rounds lane fed report) where
-    the : Outcome
+    abbrev the : Outcome
     the = received_outcome b.setting b.link_type b.prefix (lane_lines 0 reports) h.given
 
     is_received : (files : Files) (lanes : List (List ℕ)) → AllComeFrom lane_files h.fed files → lanes_in files lane_files ≡ Ok lanes → IsReceived (record { plan = plan; lanes = lanes }) the

@@ -77,19 +77,19 @@ AllComeFrom names fed files = ⊥
 
 -- the lane is not over, and none of the first i lanes that are not over was fed less
 pub record IsLeastOpen (i : ℕ) (offsets : List (Option ℕ)) (lane : ℕ) (offset : ℕ) : Type 0 where
-  pub open : slice_get offsets lane ≡ Some (Some offset)
+  pub next : slice_get offsets lane ≡ Some (Some offset)
   pub least : (other at : ℕ) → other < i → slice_get offsets other ≡ Some (Some at) → offset ≤ at
 
 -- it is such a lane, or all of the first i lanes are over
 abbrev pub IsLeastOrNone : ℕ → List (Option ℕ) → Option OpenLane → Type 0
 IsLeastOrNone i offsets None = (other at : ℕ) → other < i → slice_get offsets other ≡ Some (Some at) → ⊥
-IsLeastOrNone i offsets (Some open) = IsLeastOpen i offsets open.lane open.offset
+IsLeastOrNone i offsets (Some next) = IsLeastOpen i offsets next.lane next.offset
 
 -- whichever of the two was fed less, the former where both were fed as much
 abbrev pub lesser_open : Option OpenLane → ℕ → Option ℕ → Option OpenLane
 lesser_open least lane None = least
 lesser_open None lane (Some offset) = Some (record { lane = lane; offset = offset })
-lesser_open (Some open) lane (Some offset) = cond (nat_le open.offset offset) (Some open) (Some (record { lane = lane; offset = offset }))
+lesser_open (Some next) lane (Some offset) = cond (nat_le next.offset offset) (Some next) (Some (record { lane = lane; offset = offset }))
 
 -- how much is still to be read, one more for each lane that is not over
 abbrev pub left_of : Option ℕ → ℕ
@@ -123,13 +123,13 @@ offset_next at (byte ∷ piece) = Some (at + length (byte ∷ piece))
 -- ---- lanes and events
 
 -- so much was read of the lane: a piece of its file, all of whose events came; or something stopped it
-pub record HasFed (b : Beginning) (s : Settings) (fed : List Fed) (open : OpenLane) (name : List ℕ) (before offsets : List (Option ℕ)) (old : Option Files) (r : State) (kept : Receipt) (now : Option Files) : Type 0 where
+pub record HasFed (b : Beginning) (s : Settings) (fed : List Fed) (next : OpenLane) (name : List ℕ) (before offsets : List (Option ℕ)) (old : Option Files) (r : State) (kept : Receipt) (now : Option Files) : Type 0 where
   pub piece : List ℕ
-  pub read : IfSome old (λ files. IsSomeAnd (file files name) (IsPieceAt open.offset piece))
-  pub within : open.offset + length piece ≤ lane_limit
-  pub offsets : offsets ≡ set before open.lane (offset_next open.offset piece)
+  pub read : IfSome old (λ files. IsSomeAnd (file files name) (IsPieceAt next.offset piece))
+  pub within : next.offset + length piece ≤ lane_limit
+  pub reached : offsets ≡ set before next.lane (offset_next next.offset piece)
   pub given : List Event
-  pub drained : IsDrained b s (fed_next open.lane piece fed) given r kept now
+  pub drained : IsDrained b s (fed_next next.lane piece fed) given r kept now
 
 -- the lane was not read
 pub record NotRead (name : List ℕ) (why : Stop) (old now : Option Files) : Type 0 where
@@ -137,19 +137,19 @@ pub record NotRead (name : List ℕ) (why : Stop) (old now : Option Files) : Typ
   pub cause : IfSome old (λ files. IsOfStore (λ n. n ≡ name) why ⊎ (file files name ≡ None))
 
 -- it was read, and its events were cut off
-pub record CutOffBehind (b : Beginning) (s : Settings) (fed : List Fed) (open : OpenLane) (name : List ℕ) (why : Stop) (old now : Option Files) : Type 0 where
+pub record CutOffBehind (b : Beginning) (s : Settings) (fed : List Fed) (next : OpenLane) (name : List ℕ) (why : Stop) (old now : Option Files) : Type 0 where
   pub piece : List ℕ
-  pub read : IfSome old (λ files. IsSomeAnd (file files name) (IsPieceAt open.offset piece))
-  pub cut : IsCutOff b s (fed_next open.lane piece fed) why now
+  pub read : IfSome old (λ files. IsSomeAnd (file files name) (IsPieceAt next.offset piece))
+  pub cut : IsCutOff b s (fed_next next.lane piece fed) why now
 
 abbrev pub FeedsLane : {T : Type 0} → Beginning → Settings → List Fed → OpenLane → List ℕ → List (Option ℕ) → List (Option ℕ) → Result T Stop → Option Files → State → Receipt → Option Files → Type 0
-FeedsLane b s fed open name before offsets (Ok _) old r kept now = HasFed b s fed open name before offsets old r kept now
-FeedsLane b s fed open name before offsets (Err why) old r kept now = NotRead name why old now ⊎ CutOffBehind b s fed open name why old now
+FeedsLane b s fed next name before offsets (Ok _) old r kept now = HasFed b s fed next name before offsets old r kept now
+FeedsLane b s fed next name before offsets (Err why) old r kept now = NotRead name why old now ⊎ CutOffBehind b s fed next name why old now
 
 -- these lanes were read on from there, as far as what was fed, and all events that are known have come
 pub record IsReceiving (b : Beginning) (s : Settings) (names : List (List ℕ)) (first fed : List Fed) (given : List Event) (r : State) (offsets : List (Option ℕ)) (kept : Receipt) (now : Option Files) : Type 0 where
   pub drained : IsDrained b s fed given r kept now
-  pub offsets : offsets ≡ map offset_of fed
+  pub reached : offsets ≡ map offset_of fed
   pub from : IfSome b.was (AllComeFrom names first) → IfSome b.was (AllComeFrom names fed)
 
 -- all lanes were read to their ends, and their events have come

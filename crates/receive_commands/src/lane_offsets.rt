@@ -19,7 +19,7 @@ fn lesser_open(least: Option<OpenLane>, lane: u32, offset: Option<u64>) -> Optio
         return least;
     };
     match least {
-        Some(open) if open.offset <= offset => Some(open),
+        Some(next) if next.offset <= offset => Some(next),
         Some(_) | None => Some(OpenLane { lane, offset }),
     }
 }

@@ -28,25 +28,25 @@ use std::alloc::Global;
 fn feed_piece(
     receiver: &mut Receiver,
     offsets: &mut [Option<u64>],
-    open: OpenLane,
+    next: OpenLane,
     piece: &[u8],
 )
-    requires unfinished { is_open open.lane receiver.old.lanes ≡ true }
-    requires counted { count_at open.lane receiver.old.lanes ≡ open.offset }
-    requires room { room_at open.lane receiver.old.lanes ≡ 4096 }
+    requires unfinished { is_open next.lane receiver.old.lanes ≡ true }
+    requires counted { count_at next.lane receiver.old.lanes ≡ next.offset }
+    requires room { room_at next.lane receiver.old.lanes ≡ 4096 }
     requires small { length piece.now ≤ 4096 }
-    requires within { open.offset + length piece.now ≤ lane_limit }
-    requires place { open.lane < length offsets.old }
+    requires within { next.offset + length piece.now ≤ lane_limit }
+    requires place { next.lane < length offsets.old }
     ensures stands { (s : Settings) (setting : Setting) (fed : List Fed) (given : List Event) →
-        Stands receiver.old s setting fed given → Stands receiver.new s setting (fed_next open.lane piece.now fed) given }
-    ensures offsets { offsets.new ≡ set offsets.old open.lane (offset_next open.offset piece.now) }
+        Stands receiver.old s setting fed given → Stands receiver.new s setting (fed_next next.lane piece.now fed) given }
+    ensures offsets { offsets.new ≡ set offsets.old next.lane (offset_next next.offset piece.now) }
 {
     if piece.is_empty() {
-        receiver.finish(open.lane);
-        offsets[open.lane as usize] = None;
+        receiver.finish(next.lane);
+        offsets[next.lane as usize] = None;
     } else {
-        let count = receiver.feed(open.lane, piece);
-        offsets[open.lane as usize] = Some(open.offset + count as u64);
+        let count = receiver.feed(next.lane, piece);
+        offsets[next.lane as usize] = Some(next.offset + count as u64);
     }
 }
 
@@ -57,22 +57,22 @@ fn take_piece<S: Store>(
     receipt: &mut Receipt,
     receiver: &mut Receiver,
     offsets: &mut [Option<u64>],
-    open: OpenLane,
+    next: OpenLane,
     name: &str,
 ) -> Result<(), Stop>
     requires count { S.faults store.old < 2 ^ 60 }
-    requires within { open.offset ≤ lane_limit }
-    requires place { open.lane < length offsets.old }
-    requires unfinished { is_open open.lane receiver.old.lanes ≡ true }
-    requires counted { count_at open.lane receiver.old.lanes ≡ open.offset }
-    requires room { room_at open.lane receiver.old.lanes ≡ 4096 }
+    requires within { next.offset ≤ lane_limit }
+    requires place { next.lane < length offsets.old }
+    requires unfinished { is_open next.lane receiver.old.lanes ≡ true }
+    requires counted { count_at next.lane receiver.old.lanes ≡ next.offset }
+    requires room { room_at next.lane receiver.old.lanes ≡ 4096 }
     requires taking { (b : Beginning) × (s : Settings) × (fed : List Fed) × (given : List Event) × IsTaking b s fed given receiver.old receipt.old (S.files store.old) }
     ensures cause { StopCount result (S.faults store.old) (S.faults store.new) }
     ensures feeds { (b : Beginning) (s : Settings) (fed : List Fed) (given : List Event) → IsTaking b s fed given receiver.old receipt.old (S.files store.old) →
-        FeedsLane b s fed open name.now offsets.old offsets.new result (S.files store.old) receiver.new receipt.new (S.files store.new) }
+        FeedsLane b s fed next name.now offsets.old offsets.new result (S.files store.old) receiver.new receipt.new (S.files store.new) }
 {
-    let piece = read_lane(alloc, store, name, open.offset)?;
-    feed_piece(receiver, offsets, open, &piece);
+    let piece = read_lane(alloc, store, name, next.offset)?;
+    feed_piece(receiver, offsets, next, &piece);
     take_events(alloc, store, receipt, receiver)
 }
 
@@ -98,9 +98,9 @@ pub fn take_lanes<S: Store>(
         ReceivesLanes b s (map string_bytes names.now) result receiver.new receipt.new (S.files store.new) }
 {
     take_events(alloc, store, receipt, receiver)?;
-    while let Some(open) = least_open(offsets) {
-        let name = names[open.lane as usize].as_str();
-        take_piece(alloc, store, receipt, receiver, offsets, open, name)?;
+    while let Some(next) = least_open(offsets) {
+        let name = names[next.lane as usize].as_str();
+        take_piece(alloc, store, receipt, receiver, offsets, next, name)?;
     }
     Ok(())
 }
