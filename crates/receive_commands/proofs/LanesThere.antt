@@ -20,10 +20,13 @@ behind_nothing (Err e) = refl
 pub led_first : (names : List (List ℕ)) (files : Files) → Led names 0 files
 led_first names files = ([], behind_nothing (lanes_in files names))
 
+drop_here : (names : List (List ℕ)) (i : ℕ) (d : List ℕ) → i < length names → drop i names ≡ get_or names i d ∷ drop (suc i) names
+drop_here [] i d lt = absurd (omega arith)
+drop_here (n ∷ names) zero d lt = refl
+drop_here (n ∷ names) (suc i) d lt = drop_here names i d (omega arith)
+
 drop_next : (names : List (List ℕ)) (i : ℕ) (d : List ℕ) → i < length names → drop i names ≡ get_or names i d ∷ drop (i + 1) names
-drop_next [] i d lt = absurd (omega arith)
-drop_next (n ∷ names) zero d lt = refl
-drop_next (n ∷ names) (suc i) d lt = drop_next names i d (omega arith)
+drop_next names i d lt = let e : suc i ≡ i + 1 = omega arith in drop_here names i d lt ∙ ap (λ k. get_or names i d ∷ drop k names) e
 
 behind_twice : (front : List (List ℕ)) (bytes : List ℕ) (r : Result (List (List ℕ)) Refusal) → behind (behind r (λ lanes. Ok (bytes ∷ lanes))) (λ lanes. Ok (front ++ lanes)) ≡ behind r (λ lanes. Ok ((front ++ bytes ∷ []) ++ lanes))
 behind_twice front bytes (Ok lanes) = ap Ok (sym (append_assoc front (bytes ∷ []) lanes))
@@ -42,8 +45,8 @@ module _ (names : List (List ℕ)) (i : ℕ) (name : List ℕ) (lt : i < length 
   among : Contains names name
   among = named_at names i name lt is
 
-  pub led_stops : (T : Type 0) (s : Stop) → Led names i files → Probes {T = T} {V = List ℕ} (λ n. n ≡ name) (Err s) (bytes_in files name lane_limit) → Probes {T = T} {V = List (List ℕ)} (Contains names) (Err s) (lanes_in files names)
-  led_stops T s (front, e) h =
+  pub led_stops : (s : Stop) → Led names i files → Reads {T = List ℕ} (λ v. v) (λ n. n ≡ name) (Err s) (bytes_in files name lane_limit) → Reads {T = List (List ℕ)} (λ v. v) (Contains names) (Err s) (lanes_in files names)
+  led_stops s (front, e) h =
       subst (λ r. Reads {T = List (List ℕ)} (λ v. v) (Contains names) (Err s) r) (sym (e ∙ ap (λ r. behind r (λ lanes. Ok (front ++ lanes))) next_in))
       (behind_stops (List (List ℕ)) (List (List ℕ)) (List (List ℕ)) (List (List ℕ)) _ (λ lanes. Ok (front ++ lanes)) (λ v. v) (λ v. v) (Contains names) (Contains names) s (λ q k. k)
       (behind_stops (List ℕ) (List (List ℕ)) (List ℕ) (List (List ℕ)) (bytes_in files name lane_limit) (λ bytes. behind (lanes_in files (drop (i + 1) names)) (λ lanes. Ok (bytes ∷ lanes))) (λ v. v) (λ v. v) (λ n. n ≡ name) (Contains names) s (λ q k. subst (Contains names) (sym k) among) h))
@@ -69,9 +72,9 @@ module _ (names : List (List ℕ)) (i : ℕ) (name : List ℕ) (lt : i < length 
   goes_there None y same led h = tt
   goes_there (Some files) y same led h = led_next names i name lt is files led (subst (λ z. IfSome z (λ fs. (bytes : List ℕ) × (bytes_in fs name lane_limit ≡ Ok bytes))) same h)
 
-  pub stops_there : (T : Type 0) (s : Stop) (x y : Option Files) → y ≡ x → IfSome x (Led names i) → IfSome y (λ files. Probes {T = T} {V = List ℕ} (λ n. n ≡ name) (Err s) (bytes_in files name lane_limit)) → IfSome x (λ files. Probes {T = T} {V = List (List ℕ)} (Contains names) (Err s) (lanes_in files names))
-  stops_there T s None y same led h = tt
-  stops_there T s (Some files) y same led h = led_stops names i name lt is files T s led (subst (λ z. IfSome z (λ fs. Probes {T = T} {V = List ℕ} (λ n. n ≡ name) (Err s) (bytes_in fs name lane_limit))) same h)
+  pub stops_there : (s : Stop) (x y : Option Files) → y ≡ x → IfSome x (Led names i) → IfSome y (λ files. Reads {T = List ℕ} (λ v. v) (λ n. n ≡ name) (Err s) (bytes_in files name lane_limit)) → IfSome x (λ files. Reads {T = List (List ℕ)} (λ v. v) (Contains names) (Err s) (lanes_in files names))
+  stops_there s None y same led h = tt
+  stops_there s (Some files) y same led h = led_stops names i name lt is files s led (subst (λ z. IfSome z (λ fs. Reads {T = List ℕ} (λ v. v) (λ n. n ≡ name) (Err s) (bytes_in fs name lane_limit))) same h)
 
 pub all_there : (names : List (List ℕ)) (i : ℕ) (x : Option Files) → length names ≤ i → IfSome x (Led names i) → IfSome x (λ files. (lanes : List (List ℕ)) × (lanes_in files names ≡ Ok lanes))
 all_there names i None le led = tt

@@ -1,6 +1,9 @@
 //! How far lanes were read.
-ghost use Rattle.std.specs.Prelude.{◌≡◌, ◌<◌, ◌≤◌, ◌^◌, Option, Some, length, slice_get};
+ghost use Rattle.std.specs.Prelude.{◌≡◌, ◌<◌, ◌≤◌, ◌^◌, Option, Some, length, slice_get, replicate, IfOk};
 ghost use Rattle.receive_commands.specs.Feeding.{IsLeastOrNone, lesser_open};
+
+use lk_base::OutOfMemory;
+use std::alloc::Global;
 
 /// A lane that is not over.
 #[derive(Clone, Copy, Debug, Drop, PartialEq, Eq)]
@@ -9,6 +12,14 @@ pub struct OpenLane {
     pub lane: u32,
     /// How many of its bytes were read.
     pub offset: u64,
+}
+
+/// Nothing was read of so many lanes.
+pub fn nothing_read(alloc: Global, lanes: usize) -> Result<Vec<Option<u64>>, OutOfMemory>
+    ensures count { IfOk result (λ offsets. length offsets.items ≡ lanes) }
+    ensures nothing { IfOk result (λ offsets. offsets.items ≡ replicate lanes (Some 0)) }
+{
+    Ok(vec![in alloc; Some(0u64); lanes]?)
 }
 
 // Whichever of the two was fed less, the former where both were fed as much.

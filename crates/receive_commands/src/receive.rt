@@ -10,6 +10,7 @@ ghost use Rattle.run_shell.specs.Writing.{Fills};
 ghost use Rattle.receive_commands.specs.JoinPlan.{plan_names};
 ghost use Rattle.receive_commands.specs.Receive.{IsReceiveInput, IsReceived, lanes_in, names_of_lanes, plan_lanes_in};
 
+use crate::lane_offsets::nothing_read;
 use crate::lanes::{lane_lines, take_lanes};
 use crate::lanes_in::probe_lanes;
 use crate::receipt::Receipt;
@@ -59,7 +60,7 @@ fn receive_lanes<S: Store>(alloc: Global, store: &mut S, read: &PlanLanes) -> Re
     let names = read.names.as_slice();
     let channels = channels_in_order(alloc, plan.channels.as_slice())?;
     let mut receiver = Receiver::make(alloc, plan)?;
-    let mut offsets = vec![in alloc; Some(0u64); names.len()]?;
+    let mut offsets = nothing_read(alloc, names.len())?;
     let mut receipt = Receipt::open(alloc, store, plan.out.as_str(), &channels, plan.link_type)?;
     take_lanes(alloc, store, &mut receipt, &mut receiver, names, &mut offsets)?;
     let text = lane_lines(alloc, &receiver, plan.link.lanes())?;

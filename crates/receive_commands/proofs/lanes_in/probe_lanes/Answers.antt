@@ -23,7 +23,7 @@ pub returns-in_err-probe_input-clause-probes : goal.returns-in_err-probe_input-c
 returns-in_err-probe_input-clause-probes g c =
     let at = named string_bytes _ _ _ _ c.loop-name-test.true c.name-item.is c.as_str.ensures.value in
     let p = err_from_is_err_and c.from_residual.result c.from_residual.ensures.1 in
-    rw (p.1, p.2) (stops_there _ _ _ at.0 at.1 _ c.in_err-probe_input.field-0.0 _ _ c.loop-name.invariant.same_files c.loop-name.invariant.led c.in_err-probe_input.ensures.probes)
+    rw (p.1, p.2) (stops_there _ _ _ at.0 at.1 c.in_err-probe_input.field-0.0 _ _ c.loop-name.invariant.same_files c.loop-name.invariant.led c.in_err-probe_input.ensures.probes)
 
 pub returns-clause-probes : goal.returns-clause-probes
 returns-clause-probes g c =
