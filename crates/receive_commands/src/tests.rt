@@ -57,18 +57,24 @@ fn a_words_file_becomes_a_capture_and_a_table(rt: HostRuntime) -> Result<(), Fai
     Ok(())
 }
 
+// One bit of the packet is inverted.
 #[test]
 fn a_plan_names_its_words_file(rt: HostRuntime) -> Result<(), Fail> {
     let alloc = rt.alloc();
     let mut store = store_of(alloc, "o.words")?;
+    let mut inverted = SIXTY;
+    inverted[50] ^= 1;
+    store.put("o.words", &inverted)?;
     let Ok(finished) = JoinPlan::make("p").obey(alloc, &mut store) else {
         return Err(Fail::new("stopped"));
     };
-    let text = b"got channel=0 packets=1 bytes=60\ngot channel=3 packets=0 bytes=0\nspans 2\n\
-        dropped bad=0 crc=0 protocol=0 lost=0 end=0 toolong=0 unlisted=0 sender=0\n";
+    let text = b"got channel=0 packets=0 bytes=0\ngot channel=3 packets=0 bytes=0\nspans 3\n\
+        dropped bad=0 crc=1 protocol=0 lost=0 end=0 toolong=0 unlisted=0 sender=0\n";
     assert_eq!(rt; finished.text.as_slice(), text.as_slice());
-    assert_eq!(rt; size_of(&store, "o.0.pcap"), 100);
+    assert_eq!(rt; size_of(&store, "o.0.pcap"), 24);
     assert_eq!(rt; size_of(&store, "o.3.pcap"), 24);
-    assert_eq!(rt; store.get("o.spans.csv").unwrap_or(&[]), WHOLE_TABLE);
+    let table =
+        b"after_group,after_index,before_group,before_index,why\n-,-,0,1,start\n0,1,0,11,crc\n0,11,-,-,end\n";
+    assert_eq!(rt; store.get("o.spans.csv").unwrap_or(&[]), table.as_slice());
     Ok(())
 }
