@@ -48,19 +48,19 @@ module _ (offsets : List (Option ℕ)) (i : ℕ) where
   }
   least_next (Some next) (Some offset) here h = elim (cases_Bool (nat_le next.offset offset)) [
     | inl t ↦ rw t (record {
-        next = h.next;
-        least = λ other at lt e. elim (one_behind i other lt) [
-          | inl below ↦ h.least other at below e
-          | inr is ↦ (let same : offset ≡ at = same_Some offset at (same_at (Some offset) other at here is e) in let le = leb-true next.offset offset t in omega arith)
-        ];
-      })
+      next = h.next;
+      least = λ other at lt e. elim (one_behind i other lt) [
+        | inl below ↦ h.least other at below e
+        | inr is ↦ (let same : offset ≡ at = same_Some offset at (same_at (Some offset) other at here is e) in let le = leb-true next.offset offset t in omega arith)
+      ];
+    })
     | inr t ↦ rw t (record {
-        next = here;
-        least = λ other at lt e. elim (one_behind i other lt) [
-          | inl below ↦ (let le = h.least other at below e in let more : offset < next.offset = grind (arith, nat_tests) in omega arith)
-          | inr is ↦ (let same : offset ≡ at = same_Some offset at (same_at (Some offset) other at here is e) in omega arith)
-        ];
-      })
+      next = here;
+      least = λ other at lt e. elim (one_behind i other lt) [
+        | inl below ↦ (let le = h.least other at below e in let more : offset < next.offset = grind (arith, nat_tests) in omega arith)
+        | inr is ↦ (let same : offset ≡ at = same_Some offset at (same_at (Some offset) other at here is e) in omega arith)
+      ];
+    })
   ]
 
 -- ---- what is left

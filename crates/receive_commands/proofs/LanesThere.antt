@@ -38,9 +38,11 @@ module _ (names : List (List ℕ)) (i : ℕ) (name : List ℕ) (lt : i < length 
   next_in = ap (lanes_in files) (drop_next names i [] lt ∙ ap (λ n. n ∷ drop (i + 1) names) (sym is))
 
   pub led_next : Led names i files → ((bytes : List ℕ) × (bytes_in files name lane_limit ≡ Ok bytes)) → Led names (i + 1) files
-  led_next (front, e) (bytes, had) = (front ++ bytes ∷ [],
-      e ∙ ap (λ r. behind r (λ lanes. Ok (front ++ lanes))) (next_in ∙ ap (λ r. behind r (λ b. behind (lanes_in files (drop (i + 1) names)) (λ lanes. Ok (b ∷ lanes)))) had)
-      ∙ behind_twice front bytes (lanes_in files (drop (i + 1) names)))
+  led_next (front, e) (bytes, had) = (
+    front ++ bytes ∷ [],
+    e ∙ ap (λ r. behind r (λ lanes. Ok (front ++ lanes))) (next_in ∙ ap (λ r. behind r (λ b. behind (lanes_in files (drop (i + 1) names)) (λ lanes. Ok (b ∷ lanes)))) had)
+        ∙ behind_twice front bytes (lanes_in files (drop (i + 1) names)),
+  )
 
   among : Contains names name
   among = named_at names i name lt is

@@ -54,8 +54,10 @@ module _ (file : List ℕ) where
   pub both_there : (x : Option Files) (plan : PlanValue) → IfSome x (λ files. plan_in files file ≡ Ok plan) → IfSome x (λ files. (lanes : List (List ℕ)) × (lanes_in files (names_of_lanes plan) ≡ Ok lanes))
       → IfSome x (λ files. (value : PlanLanes) × (plan_lanes_in files file ≡ Ok value))
   both_there None plan had h = tt
-  both_there (Some u) plan had (lanes, got) = (record { plan = plan; lanes = lanes },
-      ap (λ r. behind r (with_lanes u)) had ∙ ap (λ r. behind r (λ ls. Ok (record { plan = plan; lanes = ls }))) got)
+  both_there (Some u) plan had (lanes, got) = (
+    record { plan = plan; lanes = lanes },
+    ap (λ r. behind r (with_lanes u)) had ∙ ap (λ r. behind r (λ ls. Ok (record { plan = plan; lanes = ls }))) got,
+  )
 
 -- ---- the ends
 

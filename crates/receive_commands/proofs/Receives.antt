@@ -118,9 +118,10 @@ some_received plan lanes link some =
     let setting = the_setting plan in
     let long = link.metaframe.0 in
     let (events, are) = events_exist plan.settings setting lanes (omega (arith, long)) some in
-    let (reports, reported) = some_reports plan.settings lanes in
-    (received_outcome setting plan.link_type plan.out (lane_lines 0 reports) events,
-      record { link = link; setting = setting; is_setting = is_the_setting plan; events = events; are_events = are; reports = reports; are_reports = reported; is = refl })
+    let (reports, reported) = some_reports plan.settings lanes in (
+      received_outcome setting plan.link_type plan.out (lane_lines 0 reports) events,
+      record { link = link; setting = setting; is_setting = is_the_setting plan; events = events; are_events = are; reports = reports; are_reports = reported; is = refl },
+    )
 
 lanes_there : (files : Files) (name : List ℕ) (i : PlanLanes) → plan_lanes_in files name ≡ Ok i → (o : Outcome) × IsReceived i o
 lanes_there files name i e =

@@ -25,12 +25,7 @@ use rx_end::Receiver;
 use std::alloc::Global;
 
 // A piece of a lane comes; where it is empty the lane is over. The lane has room for it.
-fn feed_piece(
-    receiver: &mut Receiver,
-    offsets: &mut [Option<u64>],
-    next: OpenLane,
-    piece: &[u8],
-)
+fn feed_piece(receiver: &mut Receiver, offsets: &mut [Option<u64>], next: OpenLane, piece: &[u8])
     requires unfinished { is_open next.lane receiver.old.lanes ≡ true }
     requires counted { count_at next.lane receiver.old.lanes ≡ next.offset }
     requires room { room_at next.lane receiver.old.lanes ≡ 4096 }

@@ -62,7 +62,14 @@ fn receive_lanes<S: Store>(alloc: Global, store: &mut S, read: &PlanLanes) -> Re
     let mut receiver = Receiver::make(alloc, plan)?;
     let mut offsets = nothing_read(alloc, names.len())?;
     let mut receipt = Receipt::open(alloc, store, plan.out.as_str(), &channels, plan.link_type)?;
-    take_lanes(alloc, store, &mut receipt, &mut receiver, names, &mut offsets)?;
+    take_lanes(
+        alloc,
+        store,
+        &mut receipt,
+        &mut receiver,
+        names,
+        &mut offsets,
+    )?;
     let text = lane_lines(alloc, &receiver, plan.link.lanes())?;
     receipt.finish(alloc, store, text)
 }

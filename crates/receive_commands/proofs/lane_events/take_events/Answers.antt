@@ -55,11 +55,12 @@ pub events-preserved : goal.events-preserved
 events-preserved g c = record {
   same_faults = c.in_ok-take_event-in-Some.ensures.cause ∙ c.events.invariant.same_faults;
   taking = λ b s fed given at.
-      let (came, now) = c.events.invariant.taking b s fed given at in
-      (came ++ event_of c.next.new.self.reassembly.packet c.in-Some.event,
-      event_taken b s fed came c.events.receiver c.next.new.self c.events.receipt _ now c.in-Some.event _ _
-      (event_given b s fed came c.events.receiver c.next.new.self c.events.receipt _ now _ c.in-Some.event c.in-Some.is c.in_ok-event.ensures.next)
-      (c.in_ok-take_event-in-Some.ensures.receives b came now.receipt));
+      let (came, now) = c.events.invariant.taking b s fed given at in (
+        came ++ event_of c.next.new.self.reassembly.packet c.in-Some.event,
+        event_taken b s fed came c.events.receiver c.next.new.self c.events.receipt _ now c.in-Some.event _ _
+            (event_given b s fed came c.events.receiver c.next.new.self c.events.receipt _ now _ c.in-Some.event c.in-Some.is c.in_ok-event.ensures.next)
+            (c.in_ok-take_event-in-Some.ensures.receives b came now.receipt),
+      );
 }
 
 pub returns-clause-drains : goal.returns-clause-drains

@@ -10,7 +10,9 @@ pub loop-lane-preserved : goal.loop-lane-preserved
 loop-lane-preserved c =
     let (reports, count, text, each) = c.loop-lane.invariant in
     let report = c.lane_report-report.result in
-    let lane = c.loop-lane.lane in
-    (reports ++ report ∷ [], next_count reports report lane count,
-    c.in_ok-lane_line.ensures.ok ∙ ap (λ (t : List ℕ). t ++ lane_line lane report) text ∙ next_line reports report lane count,
-    λ s setting fed given stands k r e. next_report s stands.rounds fed reports report lane count (λ j q f. each s setting fed given stands j q f) (c.lane_report-report.ensures s setting fed given stands) k r e)
+    let lane = c.loop-lane.lane in (
+      reports ++ report ∷ [],
+      next_count reports report lane count,
+      c.in_ok-lane_line.ensures.ok ∙ ap (λ (t : List ℕ). t ++ lane_line lane report) text ∙ next_line reports report lane count,
+      λ s setting fed given stands k r e. next_report s stands.rounds fed reports report lane count (λ j q f. each s setting fed given stands j q f) (c.lane_report-report.ensures s setting fed given stands) k r e,
+    )

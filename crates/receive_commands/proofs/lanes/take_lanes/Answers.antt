@@ -63,10 +63,12 @@ loop-next-preserved g c =
           still_within c.loop-next.offsets c.take_piece.new.offsets next.lane next.offset h.piece h.reached h.within c.loop-next.invariant.within;
       receiving = λ b s first given at is.
           let (fed, came, now) = c.loop-next.invariant.receiving b s first given at is in
-          let h = c.in_ok-take_piece.ensures.feeds b s fed came now.drained.taking in
-          (fed_next next.lane h.piece fed, h.given,
-          lane_read b s (map string_bytes c.args.names.now) first fed came c.loop-next.receiver c.loop-next.offsets c.loop-next.receipt _ now next least c.as_str-name.result.now place.1
-          (λ out. c.requires.apart c.as_str-name.result.now among (subst (λ ns. Contains ns c.as_str-name.result.now) (sym at.receipt.names) out)) _ _ _ _ h);
+          let h = c.in_ok-take_piece.ensures.feeds b s fed came now.drained.taking in (
+            fed_next next.lane h.piece fed,
+            h.given,
+            lane_read b s (map string_bytes c.args.names.now) first fed came c.loop-next.receiver c.loop-next.offsets c.loop-next.receipt _ now next least c.as_str-name.result.now place.1
+                (λ out. c.requires.apart c.as_str-name.result.now among (subst (λ ns. Contains ns c.as_str-name.result.now) (sym at.receipt.names) out)) _ _ _ _ h,
+          );
     }
 
 pub loop-next-smaller : goal.loop-next-smaller
