@@ -50,14 +50,14 @@ rising_range p a (suc n) = split (p a)
     (λ h. rw h (above_range p a (a + 1) n (omega arith)))
     (λ h. rw h (rising_range p (a + 1) n))
 
-order_rising : (numbers : List ℕ) → IsTrue (is_rising (channels_in_order numbers))
+pub order_rising : (numbers : List ℕ) → IsTrue (is_rising (channels_in_order numbers))
 unfolding channels_in_order
 order_rising numbers = rising_range (is_listed numbers) 0 256
 
 pub order_rises : (numbers channels : List ℕ) → channels ≡ channels_in_order numbers → IsTrue (is_rising channels)
 order_rises numbers channels e = subst (λ cs. IsTrue (is_rising cs)) (sym e) (order_rising numbers)
 
-same_numbers : (channels : List ChannelRow) → map (λ (c : Listed). c.number) (map listed_of channels) ≡ numbers_of channels
+pub same_numbers : (channels : List ChannelRow) → map (λ (c : Listed). c.number) (map listed_of channels) ≡ numbers_of channels
 same_numbers [] = refl
 same_numbers (c ∷ channels) = ap (λ ns. c.number ∷ ns) (same_numbers channels)
 
@@ -70,7 +70,7 @@ plan_order plan channels e = e ∙ ap channels_in_order (sym (same_numbers plan.
 is_prop : (channels : List ℕ) → IsProp (IsTrue (is_rising channels))
 is_prop channels = hlevel props
 
-abbrev setting_from : (channels : List ℕ) → IsTrue (is_rising channels) → ℕ → Setting
+abbrev pub setting_from : (channels : List ℕ) → IsTrue (is_rising channels) → ℕ → Setting
 setting_from channels rising most = record { channels = channels; in_order = rising; max_packet = most }
 
 same_with : (c d : List ℕ) (m n : ℕ) (p : IsTrue (is_rising c)) (q : IsTrue (is_rising d)) → c ≡ d → m ≡ n → setting_from c p m ≡ setting_from d q n
@@ -82,7 +82,7 @@ same_with c d m n p q e f =
 same_setting : (x y : Setting) → x.channels ≡ y.channels → x.max_packet ≡ y.max_packet → x ≡ y
 same_setting x y e f = same_with x.channels y.channels x.max_packet y.max_packet x.in_order y.in_order e f
 
-plan_setting : (plan : PlanValue) (x y : Setting) → IsSettingOf plan x → IsSettingOf plan y → x ≡ y
+pub plan_setting : (plan : PlanValue) (x y : Setting) → IsSettingOf plan x → IsSettingOf plan y → x ≡ y
 plan_setting plan x y h k = same_setting x y (h.channels ∙ sym k.channels) (h.max_packet ∙ sym k.max_packet)
 
 -- ---- the works

@@ -10,3 +10,13 @@ pub mod Steps
 pub mod Making
 pub mod Joins
 pub mod WordsLaws
+pub mod LaneNames
+pub mod LaneEvents
+pub mod LanesThere
+pub mod LaneOffsets
+pub mod FedLanes
+pub mod ReceiveLanes
+pub mod Receives
+pub mod PlanLanes
+pub mod LaneLines
+pub mod ReceiveEnds

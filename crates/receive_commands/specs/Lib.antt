@@ -3,9 +3,11 @@ pub mod Received
 pub mod Words
 pub mod JoinWords
 pub mod JoinPlan
+pub mod Receive
 pub mod WordsLaw
 pub mod Receipts
 -- needed by private functions and proofs alone
 pub mod PlanWords
 pub mod Heads
 pub mod Going
+pub mod Feeding

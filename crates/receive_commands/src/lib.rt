@@ -4,11 +4,18 @@
 mod channels;
 mod join_plan;
 mod join_words;
+mod lane_events;
+mod lane_offsets;
+mod lanes;
+mod lanes_in;
 mod law;
 mod names;
 mod outputs;
 mod plan_words;
 mod receipt;
+mod receive;
+#[cfg(test)]
+mod receive_tests;
 #[cfg(test)]
 mod tests;
 mod words;
@@ -18,3 +25,4 @@ pub use join_plan::JoinPlan;
 pub use join_words::JoinWords;
 pub use law::{output_names, words_law};
 pub use receipt::{ChannelReceipt, Receipt};
+pub use receive::Receive;

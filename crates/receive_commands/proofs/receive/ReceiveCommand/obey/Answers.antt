@@ -1,0 +1,37 @@
+use Rattle.std.proofs.Common.{◌≡◌, ◌∙◌, refl, sym, subst, List, ℕ, IfSome, Ok, Err}
+use Rattle.std.proofs.lemmas.Result.{err_from_is_err_and}
+use Rattle.lk_outside.specs.Files.{Told}
+use Rattle.link_plan.specs.Views.{plan_value}
+use Rattle.run_shell.specs.Outcome.{LeavesOthers}
+use Rattle.run_shell.specs.Stops.{Comes}
+use Rattle.run_shell.proofs.Readings.{reading_ends}
+use Rattle.receive_commands.specs.Receive.{IsReceiveInput, PlanLanes, lanes_in, names_of_lanes, receive_meaning, receive_work}
+use Rattle.receive_commands.proofs.PlanLanes.{receive_comes, receive_leaves}
+use Rattle.receive_commands.proofs.Receives.{receive_means}
+use Rattle.receive_commands.proofs.receive.ReceiveCommand.obey.Goals as goal
+
+pub returns-in_err-read-clause-lawful : goal.returns-in_err-read-clause-lawful
+returns-in_err-read-clause-lawful g c = receive_means c.args.self.now
+
+pub returns-in_err-read-clause-comes : goal.returns-in_err-read-clause-comes
+returns-in_err-read-clause-comes g c =
+    let p = err_from_is_err_and c.from_residual.result c.from_residual.ensures.1 in
+    rw (p.1, p.2) (subst (λ (n : List ℕ). IfSome (g.S.Store.files c.args.store.now) (Comes (receive_meaning n) (g.S.Store.files c.args.store.now) (g.S.Store.files c.read_plan_lanes.new.store) (Err c.in_err-read.field-0.0))) c.self.view_is
+    (reading_ends PlanLanes (receive_work c.self.inside.file.now) (λ v. v) (IsReceiveInput c.self.inside.file.now) c.in_err-read.field-0.0 _ _ c.in_err-read.ensures.unchanged (λ u q e. e) c.in_err-read.ensures.reads))
+
+pub receive_lanes-requires-clause-there : goal.receive_lanes-requires-clause-there
+receive_lanes-requires-clause-there g c =
+    subst (λ x. IfSome x (λ files. (lanes : List (List ℕ)) × (lanes_in files (names_of_lanes (plan_value c.in_ok-read.read.plan)) ≡ Ok lanes))) (sym c.in_ok-read.ensures.unchanged) c.in_ok-read.ensures.there
+
+pub returns-clause-lawful : goal.returns-clause-lawful
+returns-clause-lawful g c = receive_means c.args.self.now
+
+pub returns-clause-comes : goal.returns-clause-comes
+returns-clause-comes g c =
+    subst (λ (n : List ℕ). IfSome (g.S.Store.files c.args.store.now) (Comes (receive_meaning n) (g.S.Store.files c.args.store.now) (g.S.Store.files c.receive_lanes.new.store) c.receive_lanes.result)) c.self.view_is
+    (receive_comes c.self.inside.file.now (plan_value c.in_ok-read.read.plan) c.receive_lanes.result _ _ _ c.in_ok-read.ensures.unchanged c.in_ok-read.ensures.plan c.in_ok-read.ensures.there c.receive_lanes.ensures.others c.receive_lanes.ensures.fills)
+
+pub returns-clause-others : goal.returns-clause-others
+returns-clause-others g c =
+    subst (λ (n : List ℕ). Told (g.S.Store.files c.args.store.now) (g.S.Store.files c.receive_lanes.new.store) (LeavesOthers (receive_meaning n).Creates)) c.self.view_is
+    (receive_leaves c.self.inside.file.now (plan_value c.in_ok-read.read.plan) _ _ _ c.in_ok-read.ensures.unchanged c.in_ok-read.ensures.plan c.in_ok-read.ensures.there c.receive_lanes.ensures.others)

@@ -1,0 +1,94 @@
+-- What `receive FILE` means, where FILE is a plan.
+use Rattle.std.specs.Prelude.{◌≡◌, ◌⊎◌, ℕ, suc, List, [], ◌∷◌, ◌++◌, Result, Ok, MatchResult, Contains}
+use Rattle.lk_base.specs.Checksum.{bits_of_bytes}
+use Rattle.lk_base.specs.Limits.{lane_limit}
+use Rattle.lk_base.specs.Link.{Settings, IsLink}
+use Rattle.lk_outside.specs.Files.{Files}
+use Rattle.lock_model.specs.declared.types.LaneReport.{LaneReport}
+use Rattle.lock_model.specs.Locks.{Attempt, AreAttempts}
+use Rattle.lock_model.specs.Report.{report_of}
+use Rattle.receive_model.specs.Events.{Event, Setting}
+use Rattle.receiver_model.specs.Given.{AreEvents}
+use Rattle.link_plan.specs.Plan.{PlanValue}
+use Rattle.link_reports.specs.Lines.{lane_line}
+use Rattle.plan_inputs.specs.Inputs.{plan_in}
+use Rattle.run_shell.specs.Outcome.{Outcome}
+use Rattle.run_shell.specs.Meaning.{Meaning}
+use Rattle.run_shell.specs.Reading.{Refusal, Work, behind, bytes_in, meaning_by}
+use Rattle.stream_commands.specs.Outputs.{lane_names}
+use Rattle.receive_commands.specs.Received.{received_outcome}
+use Rattle.receive_commands.specs.JoinPlan.{IsSettingOf, plan_names}
+
+-- ---- the plan and its lanes
+
+-- the bytes of the lanes in the files of these names, in their order; or the first that is absent or too large
+unfoldable pub lanes_in : Files → List (List ℕ) → Result (List (List ℕ)) Refusal
+lanes_in files [] = Ok []
+lanes_in files (name ∷ names) = behind (bytes_in files name lane_limit) (λ bytes. behind (lanes_in files names) (λ lanes. Ok (bytes ∷ lanes)))
+
+-- a plan and the bytes of its lanes, by number
+pub record PlanLanes : Type 0 where
+  pub plan : PlanValue
+  pub lanes : List (List ℕ)
+
+-- the names of the files of a plan's lanes, by number
+abbrev pub names_of_lanes : PlanValue → List (List ℕ)
+names_of_lanes plan = lane_names plan.out plan.settings.lanes
+
+abbrev pub with_lanes : Files → PlanValue → Result PlanLanes Refusal
+with_lanes files plan = behind (lanes_in files (names_of_lanes plan)) (λ lanes. Ok (record { plan = plan; lanes = lanes }))
+
+-- the plan in the file of this name, and behind it the bytes of its lanes
+abbrev pub plan_lanes_in : Files → List ℕ → Result PlanLanes Refusal
+plan_lanes_in files name = behind (plan_in files name) (with_lanes files)
+
+-- the plan's own file, and where it is accepted the files of its lanes
+abbrev pub IsReceiveInput : List ℕ → Files → List ℕ → Type 0
+IsReceiveInput name files q = (q ≡ name) ⊎ MatchResult (plan_in files name) (λ plan. Contains (names_of_lanes plan) q) (λ r. ⊥)
+
+-- ---- what they come to
+
+-- this is the report of a lane with these bytes
+pub record IsLaneReport (s : Settings) (bytes : List ℕ) (report : LaneReport) : Type 0 where
+  pub attempts : List Attempt
+  pub are : AreAttempts s.metaframe (bits_of_bytes bytes) attempts
+  pub is : report ≡ report_of s (bits_of_bytes bytes) attempts
+
+-- there is one for each lane, in order
+abbrev pub AreLaneReports : Settings → List (List ℕ) → List LaneReport → Type 0
+AreLaneReports s [] [] = Unit {0}
+AreLaneReports s (bytes ∷ lanes) (report ∷ reports) = IsLaneReport s bytes report × AreLaneReports s lanes reports
+AreLaneReports s lanes reports = ⊥
+
+-- the lines of lanes, from this number on
+abbrev pub lane_lines : ℕ → List LaneReport → List ℕ
+lane_lines lane [] = []
+lane_lines lane (report ∷ reports) = lane_line lane report ++ lane_lines (suc lane) reports
+
+-- What the lanes of a plan come to: the captures and the span table of the events of their bits, and the lines of their reports
+-- before those of what came.
+pub record IsReceived (i : PlanLanes) (o : Outcome) : Type 0 where
+  -- as of every plan that is accepted
+  pub link : IsLink i.plan.settings
+  pub setting : Setting
+  pub is_setting : IsSettingOf i.plan setting
+  pub events : List Event
+  pub are_events : AreEvents i.plan.settings setting i.lanes events
+  pub reports : List LaneReport
+  pub are_reports : AreLaneReports i.plan.settings i.lanes reports
+  pub is : o ≡ received_outcome setting i.plan.link_type i.plan.out (lane_lines 0 reports) events
+
+-- The lanes of the plan become the captures of its channels by number, of its link type, and the span table, under names that
+-- begin with its `out`. No stream is held.
+abbrev pub receive_work : List ℕ → Work
+receive_work name = record {
+  Inputs = PlanLanes;
+  inputs_in = λ files. plan_lanes_in files name;
+  IsMade = IsReceived;
+  IsHeld = λ i. ⊥;
+  Creates = λ i q. Contains (plan_names i.plan) q;
+  Names = IsReceiveInput name;
+}
+
+abbrev pub receive_meaning : List ℕ → Meaning
+receive_meaning name = meaning_by (receive_work name)

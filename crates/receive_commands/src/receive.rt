@@ -1,0 +1,110 @@
+//! `receive FILE`, where FILE is a plan.
+ghost use Rattle.std.specs.Prelude.{◌≡◌, ◌<◌, ◌^◌, ◌++◌, List, ℕ, Ok, Contains, map, IfOk, IfSome, string_bytes};
+ghost use Rattle.lk_outside.specs.Files.{Told};
+ghost use Rattle.link_plan.specs.Views.{plan_value};
+ghost use Rattle.plan_inputs.specs.Inputs.{plan_in};
+ghost use Rattle.run_shell.specs.Outcome.{LeavesOthers};
+ghost use Rattle.run_shell.specs.Stops.{StopCount};
+ghost use Rattle.run_shell.specs.Reading.{Probes};
+ghost use Rattle.run_shell.specs.Writing.{Fills};
+ghost use Rattle.receive_commands.specs.JoinPlan.{plan_names};
+ghost use Rattle.receive_commands.specs.Receive.{IsReceiveInput, IsReceived, lanes_in, names_of_lanes, plan_lanes_in};
+
+use crate::lane_offsets::nothing_read;
+use crate::lanes::{lane_lines, take_lanes};
+use crate::lanes_in::probe_lanes;
+use crate::receipt::Receipt;
+use link_plan::{Plan, channels_in_order};
+use lk_outside::Store;
+use plan_inputs::read_plan_file;
+use run_shell::{Command, Finished, Stop};
+use rx_end::Receiver;
+use std::alloc::Global;
+use std::marker::Model;
+use stream_commands::lane_names;
+
+/// A plan and the names of its lanes' files, by number.
+#[derive(Drop)]
+struct PlanLanes {
+    plan: Plan,
+    names: Vec<String>,
+}
+
+// The plan of this name, whose lanes are there and no longer than their limit.
+fn read_plan_lanes<S: Store>(alloc: Global, store: &mut S, file: &str) -> Result<PlanLanes, Stop>
+    requires { S.faults store.old < 2 ^ 60 }
+    ensures cause { StopCount result (S.faults store.old) (S.faults store.new) }
+    ensures unchanged { S.files store.new ≡ S.files store.old }
+    ensures names { IfOk result (λ read. map string_bytes read.names.items ≡ names_of_lanes (plan_value read.plan)) }
+    ensures reads { IfSome (S.files store.old) (λ files. Probes (IsReceiveInput file.now files) result (plan_lanes_in files file.now)) }
+    ensures there { IfOk result (λ read. IfSome (S.files store.old) (λ files. (lanes : List (List ℕ)) × (lanes_in files (names_of_lanes (plan_value read.plan)) ≡ Ok lanes))) }
+    ensures plan { IfOk result (λ read. IfSome (S.files store.old) (λ files. plan_in files file.now ≡ Ok (plan_value read.plan))) }
+{
+    let plan = read_plan_file(alloc, store, file)?;
+    let names = lane_names(alloc, plan.out.as_str(), plan.link.lanes())?;
+    probe_lanes(alloc, store, &names)?;
+    Ok(PlanLanes { plan, names })
+}
+
+// What the lanes become.
+fn receive_lanes<S: Store>(alloc: Global, store: &mut S, read: &PlanLanes) -> Result<Finished, Stop>
+    requires count { S.faults store.old < 2 ^ 60 }
+    requires names { map string_bytes read.now.names.items ≡ names_of_lanes (plan_value read.now.plan) }
+    requires there { IfSome (S.files store.old) (λ files. (lanes : List (List ℕ)) × (lanes_in files (names_of_lanes (plan_value read.now.plan)) ≡ Ok lanes)) }
+    ensures cause { StopCount result (S.faults store.old) (S.faults store.new) }
+    ensures others { Told (S.files store.old) (S.files store.new) (LeavesOthers (λ files q. Contains (plan_names (plan_value read.now.plan)) q)) }
+    ensures fills { IfSome (S.files store.old) (λ files. (lanes : List (List ℕ)) → lanes_in files (names_of_lanes (plan_value read.now.plan)) ≡ Ok lanes →
+        Fills (IsReceived (record { plan = plan_value read.now.plan; lanes = lanes })) (plan_names (plan_value read.now.plan) ++ names_of_lanes (plan_value read.now.plan)) result (S.files store.old) (S.files store.new)) }
+{
+    let plan = &read.plan;
+    let names = read.names.as_slice();
+    let channels = channels_in_order(alloc, plan.channels.as_slice())?;
+    let mut receiver = Receiver::make(alloc, plan)?;
+    let mut offsets = nothing_read(alloc, names.len())?;
+    let mut receipt = Receipt::open(alloc, store, plan.out.as_str(), &channels, plan.link_type)?;
+    take_lanes(
+        alloc,
+        store,
+        &mut receipt,
+        &mut receiver,
+        names,
+        &mut offsets,
+    )?;
+    let text = lane_lines(alloc, &receiver, plan.link.lanes())?;
+    receipt.finish(alloc, store, text)
+}
+
+/// `receive FILE`: the lanes of a plan become the captures of the plan's channels, by number, and the table of the fault spans,
+/// under names that begin with the plan's `out`. The lanes are asked for before anything is created, and read during the work.
+#[derive(Drop)]
+pub struct Receive<'w> {
+    file: &'w str,
+}
+
+impl<'w> Model for Receive<'w> {
+    ghost use Rattle.std.specs.Prelude.{List, ℕ};
+
+    ghost Value = { List ℕ };
+
+    ghost view = { λ c. c.file.now };
+}
+
+impl<'w> Receive<'w> {
+    /// The command, of the plan of this name.
+    pub fn make(file: &'w str) -> Receive<'w>
+        ensures { result ≡ file.now }
+    {
+        Receive { file }
+    }
+}
+
+impl Command for Receive<'_> {
+    ghost use Rattle.receive_commands.specs.Receive.{receive_meaning};
+
+    ghost meaning = { receive_meaning };
+
+    fn obey<S: Store>(&self, alloc: Global, store: &mut S) -> Result<Finished, Stop> {
+        let read = read_plan_lanes(alloc, store, self.file)?;
+        receive_lanes(alloc, store, &read)
+    }
+}
