@@ -6,8 +6,9 @@ use Rattle.stream_commands.specs.Capture.{burst_capture_meaning}
 use Rattle.stream_commands.specs.Plan.{burst_plan_meaning, send_plan_meaning}
 use Rattle.receive_commands.specs.JoinPlan.{join_plan_meaning}
 use Rattle.receive_commands.specs.JoinWords.{join_words_meaning}
+use Rattle.receive_commands.specs.Receive.{receive_meaning}
 use Rattle.interlaken.specs.declared.request.Request.{Request}
-use Rattle.interlaken.specs.declared.request.Request.TheVariants.{BurstCapture, BurstPlan, JoinWords, JoinPlan, SendPlan}
+use Rattle.interlaken.specs.declared.request.Request.TheVariants.{BurstCapture, BurstPlan, JoinWords, JoinPlan, SendPlan, Receive}
 
 -- one line for each command
 abbrev pub meaning_of : Request → Meaning
@@ -16,6 +17,7 @@ meaning_of (BurstPlan name) = burst_plan_meaning name
 meaning_of (JoinWords name) = join_words_meaning name
 meaning_of (JoinPlan name) = join_plan_meaning name
 meaning_of (SendPlan name) = send_plan_meaning name
+meaning_of (Receive name) = receive_meaning name
 
 -- words that are not accepted have a meaning too: the line of the usage
 abbrev pub meaning_by : Option Request → Meaning

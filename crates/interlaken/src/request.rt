@@ -8,7 +8,7 @@ use crate::command_line::{CommandLine, line_of, read_line};
 use crate::table::{Name, row_in, rows};
 use lk_base::OutOfMemory;
 use lk_outside::Store;
-use receive_commands::{JoinPlan, JoinWords};
+use receive_commands::{JoinPlan, JoinWords, Receive};
 use run_shell::{Command, Finished, Stop};
 use std::alloc::Global;
 use stream_commands::{BurstCapture, BurstPlan, SendPlan};
@@ -26,6 +26,8 @@ pub enum Request<'w> {
     JoinPlan(JoinPlan<'w>),
     /// A plan becomes lane files.
     SendPlan(SendPlan<'w>),
+    /// The lane files of a plan become captures and a span table.
+    Receive(Receive<'w>),
 }
 
 impl Command for Request<'_> {
@@ -40,6 +42,7 @@ impl Command for Request<'_> {
             Request::JoinWords(join) => join.obey(alloc, store),
             Request::JoinPlan(join) => join.obey(alloc, store),
             Request::SendPlan(send) => send.obey(alloc, store),
+            Request::Receive(receive) => receive.obey(alloc, store),
         }
     }
 }
@@ -81,6 +84,7 @@ fn request_for<'w>(command: Name, arguments: &Arguments<'w>) -> Request<'w>
         Name::Burst => burst_of(arguments.file),
         Name::Join => join_of(arguments.file),
         Name::Send => Request::SendPlan(SendPlan::make(arguments.file)),
+        Name::Receive => Request::Receive(Receive::make(arguments.file)),
     }
 }
 

@@ -20,6 +20,8 @@ pub enum Name {
     Join,
     /// A plan becomes lane files.
     Send,
+    /// The lane files of a plan become captures and a span table.
+    Receive,
 }
 
 /// A command: its word, and the rule of its arguments.
@@ -48,6 +50,11 @@ static ROWS: &[Row] = &[
     Row {
         word: "send",
         command: Name::Send,
+        rule: Rule::File,
+    },
+    Row {
+        word: "receive",
+        command: Name::Receive,
         rule: Rule::File,
     },
 ];

@@ -116,7 +116,7 @@ pub fn take_events<S: Store>(
         Drains b s fed result receiver.new receipt.new (S.files store.new) }
 {
     'events: for _event in 0..u64::MAX {
-        match receiver.next()? {
+        match receiver.next() {
             Some(event) => take_event(alloc, store, receipt, receiver, event)?,
             None => return Ok(()),
         }
