@@ -1,5 +1,5 @@
 -- Of what rises, the spans among the outputs stand one behind the other.
-use Rattle.std.proofs.Common.{ℕ, ◌≡◌, refl, sym, ap, ap₂, ◌∙◌, subst, Bool, true, false, cond, List, [], ◌∷◌, ◌++◌, append_assoc, append-nil, map, Option, Some, None, is_some, is_none, MatchOption}
+use Rattle.std.proofs.Common.{ℕ, ◌≡◌, refl, sym, ap, ◌∙◌, subst, true, false, List, [], ◌∷◌, ◌++◌, append_assoc, append-nil, map, Option, Some, None, is_some, MatchOption}
 use Rattle.std.specs.List.{AllByRecursion, list_all}
 use Rattle.std.proofs.lemmas.Bool.{both_ways, false_from_ne_true}
 use Rattle.lk_base.specs.declared.position.Pos.{Pos}
@@ -15,7 +15,7 @@ use Rattle.receive_model.specs.Stretches.{Item, OfStretch, Headed, Verified, bet
 use Rattle.receive_model.specs.Stretches as items
 use Rattle.receive_model.specs.Spans.{last_span}
 use Rattle.receive_model.specs.Behind.{comes_behind, is_earlier}
-use Rattle.receive_model.specs.Events.{Event, FaultSpan, Flow, Setting, at_either, at_end, at_start, at_why, at_word, events_of_items, no_word_span, outputs_at, outputs_from, run_at_end, shown_span, shown_spans, span_closed_at, span_up_to}
+use Rattle.receive_model.specs.Events.{Event, FaultSpan, Flow, Setting, at_either, at_end, at_start, at_why, at_word, no_word_span, outputs_at, outputs_from, run_at_end, shown_span, shown_spans, span_closed_at, span_up_to}
 use Rattle.receive_model.proofs.Cuts.{split}
 use Rattle.receive_model.proofs.Ends.{filter_map-append, last_of-append}
 use Rattle.receive_model.proofs.Order.{before-irrefl, before-trans}
@@ -23,10 +23,10 @@ use Rattle.receive_model.proofs.AllEvents.{verified-append}
 use Rattle.receive_model.proofs.HeadsOn.{with_last}
 use Rattle.fault_spans.specs.SpanLists.{AreApart, IsUpTo, MayFollow}
 use Rattle.fault_spans.proofs.Apart.{apart-either}
-use Rattle.reassembly.specs.SoFar.{items_so_far, open_words, outputs_so_far}
+use Rattle.reassembly.specs.SoFar.{items_so_far, open_words}
 use Rattle.reassembly.specs.Keeps.{KeepsPlaces}
 use Rattle.reassembly.specs.OutputLaws.{Rise, SpansAreApart}
-use Rattle.reassembly.proofs.Items.{head_at, items-break, items-control, items-group, items-other, next_items}
+use Rattle.reassembly.proofs.Items.{head_at, items-break, items-control, items-group, items-other}
 use Rattle.reassembly.proofs.SoFarHold.{outputs-append}
 use Rattle.reassembly.proofs.PacketSizes.{Sound, end_holds, passing_sound, start_holds, why_holds}
 use Rattle.reassembly.proofs.Putting.{places-same, places-more}
