@@ -1,9 +1,9 @@
 -- What was read of lanes, and what a receiver was fed of them.
-use Rattle.std.proofs.Common.{◌≡◌, ℕ, zero, suc, ◌+◌, ◌-◌, ◌<◌, ◌≤◌, Bool, true, false, List, [], ◌∷◌, ◌++◌, length, length-append, map, take, drop, set, get_or, slice_get, replicate, nat_lt, cond, min, refl, sym, ap, ap₂, ◌∙◌, subst, append-nil, append_assoc, arith, inl, inr, ◌⊎◌, Option, Some, None, IfSome, IsSomeAnd, Result, Ok, Err}
+use Rattle.std.proofs.Common.{◌≡◌, ℕ, zero, suc, ◌+◌, ◌<◌, ◌≤◌, Bool, true, false, List, [], ◌∷◌, ◌++◌, length, length-append, map, take, drop, set, get_or, slice_get, nat_lt, cond, min, refl, sym, ap, ap₂, ◌∙◌, subst, append-nil, append_assoc, arith, inl, inr, ◌⊎◌, Option, Some, None, IsSomeAnd, Ok, Err}
 use Rattle.std.specs.Prelude.{not, ◌&&◌}
 use Rattle.std.proofs.lemmas.Bool.{and_from, cases_Bool}
 use Rattle.std.proofs.lemmas.Bool.Decides.{nat_tests}
-use Rattle.std.proofs.lemmas.List.{length-drop, length-take, take-append-drop}
+use Rattle.std.proofs.lemmas.List.{length-drop, take-append-drop}
 use Rattle.std.proofs.lemmas.List.FromFn.{length-map-range_with_len}
 use Rattle.std.proofs.lemmas.Option.{none-some, same_Some}
 use Rattle.stream_commands.specs.Outputs.{lane_name, lane_names}
@@ -16,7 +16,7 @@ use Rattle.rx_end.specs.Calls.{bytes_at, fed_more, finished_at, is_unfinished, n
 use Rattle.rx_end.specs.Lanes.{AllStand}
 use Rattle.rx_end.specs.PiecesLaw.{bytes_of}
 use Rattle.rx_end.specs.States.{Lane}
-use Rattle.run_shell.specs.Reading.{Refusal, behind, bytes_by, bytes_in}
+use Rattle.run_shell.specs.Reading.{behind, bytes_by, bytes_in}
 use Rattle.run_shell.proofs.Readings.{behind_ok}
 use Rattle.receive_commands.specs.Receive.{lanes_in}
 use Rattle.receive_commands.specs.Feeding.{AllComeFrom, ComesFrom, IsPieceAt, fed_next, offset_next, offset_of}

@@ -1,22 +1,20 @@
 -- The events of a receiver, taken one by one.
-use Rattle.std.proofs.Common.{◌≡◌, ℕ, ◌+◌, ◌*◌, ◌<◌, ◌≤◌, Bool, true, false, List, [], ◌∷◌, ◌++◌, length, refl, sym, ap, ◌∙◌, subst, append_assoc, append-nil, arith, Option, Some, None, Result, Ok, Err, OnOk}
-use Rattle.std.specs.List.{AllByRecursion, cons_option}
+use Rattle.std.proofs.Common.{◌≡◌, ℕ, ◌≤◌, true, false, List, [], ◌∷◌, ◌++◌, sym, ap, ◌∙◌, subst, append_assoc, append-nil, arith, Option, Some, None}
+use Rattle.std.specs.List.{cons_option}
 use Rattle.lk_base.specs.Limits.{longest_packet}
 use Rattle.lk_base.specs.Link.{Settings}
 use Rattle.lk_base.specs.declared.word.Aligned.{Aligned}
 use Rattle.lk_outside.specs.Files.{Files}
 use Rattle.receive_model.specs.declared.span.Span.{Span}
-use Rattle.receive_model.specs.Behind.{comes_behind}
-use Rattle.receive_model.specs.Events.{Event, Setting, Delivered, Dropped, FaultSpan, Flow, shown_spans}
-use Rattle.receiver_model.specs.Fed.{Fed, AllBegin}
-use Rattle.receiver_model.specs.Given.{AreEvents}
+use Rattle.receive_model.specs.Events.{Event, Setting, shown_spans}
+use Rattle.receiver_model.specs.Fed.{Fed}
 use Rattle.receiver_model.proofs.KnownItems.{items_exist, items_rise}
-use Rattle.reassembly.specs.OutputLaws.{HasSize, IsOfSize, Rise}
+use Rattle.reassembly.specs.OutputLaws.{IsOfSize, Rise}
 use Rattle.rx_end.specs.declared.event.RxEvent.{RxEvent}
 use Rattle.rx_end.specs.declared.event.RxEvent.TheVariants as events
-use Rattle.rx_end.specs.Nexts.{IsKept, IsNext, is_packet}
+use Rattle.rx_end.specs.Nexts.{IsNext, is_packet}
 use Rattle.rx_end.specs.Stages.{is_closed}
-use Rattle.rx_end.specs.Standing.{GivesEvent, GivesNext, Stands, StandsWith, TellsLength, event_of}
+use Rattle.rx_end.specs.Standing.{GivesEvent, GivesNext, Stands, TellsLength, event_of}
 use Rattle.rx_end.specs.States.{State}
 use Rattle.rx_end.proofs.Ends.{none_made_all_rounds}
 use Rattle.rx_end.proofs.Pieces.{given_come_first}
@@ -24,8 +22,8 @@ use Rattle.rx_end.proofs.Putting.{clock_in, known_here}
 use Rattle.run_shell.specs.declared.stop.Stop.{Stop}
 use Rattle.run_shell.specs.declared.stop.Stop.TheVariants as stop
 use Rattle.receive_commands.specs.declared.receipt.Receipt.{Receipt}
-use Rattle.receive_commands.specs.Receipts.{Beginning, IsReceipt, IsStopped, MayCome, Receives}
-use Rattle.receive_commands.specs.Feeding.{CanBeWritten, ComeFirst, Drains, IsCutOff, IsDrained, IsTaking, MayFollowAll}
+use Rattle.receive_commands.specs.Receipts.{Beginning, IsReceipt, IsStopped, MayCome}
+use Rattle.receive_commands.specs.Feeding.{CanBeWritten, IsCutOff, IsDrained, IsTaking, MayFollowAll}
 use Rattle.receive_commands.proofs.Receiving.{no_memory}
 use Rattle.receive_commands.proofs.Taking.{event_fits, event_follows}
 

@@ -10,7 +10,7 @@ use Rattle.run_shell.specs.declared.stop.Stop.TheVariants as stop
 use Rattle.run_shell.specs.declared.stop.Finished.{Finished}
 use Rattle.run_shell.specs.Outcome.{LeavesOthers}
 use Rattle.run_shell.specs.Stops.{Comes}
-use Rattle.run_shell.specs.Reading.{Probes, Reads, Refusal, behind}
+use Rattle.run_shell.specs.Reading.{Reads, behind}
 use Rattle.run_shell.specs.Writing.{Fills}
 use Rattle.run_shell.proofs.Readings.{first_stops, second_reads}
 use Rattle.run_shell.proofs.Works.{behind_stops, made_of, names_by, store_stops}

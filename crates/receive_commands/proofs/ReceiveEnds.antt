@@ -1,12 +1,12 @@
 -- `receive`: where its lanes begin, and where memory ends it.
-use Rattle.std.proofs.Common.{◌≡◌, ℕ, zero, suc, ◌≤◌, ◌<◌, List, [], ◌∷◌, ◌++◌, length, map, replicate, slice_get, refl, sym, ap, ◌∙◌, subst, arith, Option, Some, None, IfSome, Result, Ok, Contains}
+use Rattle.std.proofs.Common.{◌≡◌, ℕ, zero, suc, ◌≤◌, List, [], ◌∷◌, length, map, replicate, slice_get, refl, sym, ap, ◌∙◌, subst, arith, Option, Some, None, IfSome, Ok}
 use Rattle.std.proofs.lemmas.List.{length-map}
 use Rattle.std.proofs.lemmas.List.FromFn.{length-map-range_with_len}
 use Rattle.std.proofs.lemmas.Option.{none-some, same_Some}
 use Rattle.lk_base.specs.Limits.{lane_limit, longest_packet}
 use Rattle.lk_base.specs.Link.{Settings, IsLink}
 use Rattle.lk_outside.specs.Files.{Files}
-use Rattle.receive_model.specs.Events.{Event, Setting}
+use Rattle.receive_model.specs.Events.{Setting}
 use Rattle.reassembly.specs.Settings as reassembly
 use Rattle.link_plan.specs.Listing.{numbers_of}
 use Rattle.link_plan.specs.Views.{plan_value}

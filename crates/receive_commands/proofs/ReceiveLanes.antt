@@ -1,11 +1,11 @@
 -- Lanes are read on, and their events come.
-use Rattle.std.proofs.Common.{◌≡◌, ℕ, zero, suc, ◌+◌, ◌-◌, ◌<◌, ◌≤◌, true, false, List, [], ◌∷◌, ◌++◌, length, map, set, get_or, slice_get, refl, sym, ap, ◌∙◌, subst, append_assoc, arith, inl, inr, ◌⊎◌, Option, Some, None, IfSome, IsSomeAnd, Result, Ok, Err, Contains}
+use Rattle.std.proofs.Common.{◌≡◌, ℕ, zero, suc, ◌+◌, ◌<◌, ◌≤◌, true, false, List, [], ◌∷◌, ◌++◌, length, map, set, get_or, slice_get, refl, sym, ap, ◌∙◌, subst, append_assoc, arith, inl, inr, ◌⊎◌, Option, Some, None, IfSome, IsSomeAnd, Result, Ok, Err, Contains}
 use Rattle.std.proofs.lemmas.Option.{none-some, same_Some}
 use Rattle.lk_base.specs.Limits.{lane_limit}
 use Rattle.lk_base.specs.Link.{Settings}
 use Rattle.lk_outside.specs.Files.{Files, file, Told}
 use Rattle.receive_model.specs.Events.{Event}
-use Rattle.receiver_model.specs.Fed.{Fed, all_finished, least_unfinished, longest, rounds as rounds_of}
+use Rattle.receiver_model.specs.Fed.{Fed, least_unfinished}
 use Rattle.receiver_model.specs.Given.{AreEvents}
 use Rattle.rx_end.specs.Calls.{bytes_at, count_at, is_open, is_unfinished, room_at}
 use Rattle.rx_end.specs.Standing.{Stands}
@@ -22,7 +22,7 @@ use Rattle.receive_commands.specs.declared.receipt.Receipt.{Receipt}
 use Rattle.receive_commands.specs.declared.lane_offsets.OpenLane.{OpenLane}
 use Rattle.receive_commands.specs.Receipts.{Beginning, IsReceipt, names_of}
 use Rattle.receive_commands.specs.Receive.{lanes_in}
-use Rattle.receive_commands.specs.Feeding.{AllComeFrom, AllReceived, ComeFirst, CutOffBehind, Drains, FeedsLane, HasFed, IsBroken, IsCutOff, IsDrained, IsLeastOpen, IsLeastOrNone, IsPieceAt, IsReceiving, IsTaking, NotRead, fed_next, left_in, left_of, offset_next, offset_of}
+use Rattle.receive_commands.specs.Feeding.{AllComeFrom, AllReceived, ComeFirst, CutOffBehind, Drains, FeedsLane, HasFed, IsBroken, IsCutOff, IsLeastOpen, IsLeastOrNone, IsPieceAt, IsReceiving, IsTaking, NotRead, fed_next, left_in, left_of, offset_next, offset_of}
 use Rattle.receive_commands.proofs.Receiving.{open_part}
 use Rattle.receive_commands.proofs.LaneOffsets.{all_over, less_left, open_below}
 use Rattle.receive_commands.proofs.FedLanes.{all_end, begin_all, comes_there, least_is, next_from, next_offset, open_is, room_there}

@@ -1,19 +1,18 @@
 -- `receive`: what its lanes come to.
-use Rattle.std.proofs.Common.{◌≡◌, ℕ, zero, suc, ◌+◌, ◌*◌, ◌<◌, ◌≤◌, Bool, true, false, IsTrue, List, [], ◌∷◌, ◌++◌, length, map, slice_get, take, refl, sym, ap, ap₂, ◌∙◌, subst, arith, inl, inr, ◌⊎◌, Option, Some, None, IfSome, Result, Ok, Err, Contains}
+use Rattle.std.proofs.Common.{◌≡◌, ℕ, zero, suc, ◌*◌, ◌<◌, Bool, true, List, [], ◌∷◌, ◌++◌, length, slice_get, refl, sym, ap, ap₂, ◌∙◌, subst, arith, inl, inr, ◌⊎◌, Option, Some, None, IfSome, Result, Ok, Err, Contains}
 use Rattle.std.specs.Prelude.{nat_le}
 use Rattle.std.specs.List.{list_all}
 use Rattle.std.proofs.lemmas.List.{length-map, take_all}
 use Rattle.lk_base.specs.Checksum.{bits_of_bytes}
 use Rattle.lk_base.specs.Link.{Settings, IsLink}
-use Rattle.lk_outside.specs.Files.{Files, AreBytes, Told}
+use Rattle.lk_outside.specs.Files.{Files, Told}
 use Rattle.lock_model.specs.declared.types.LaneReport.{LaneReport}
-use Rattle.lock_model.specs.Locks.{Attempt, AreAttempts}
 use Rattle.lock_model.specs.Report.{report_of}
 use Rattle.lock_model.proofs.Determined.{determined}
 use Rattle.lock_model.proofs.Existing.{attempts_exist}
 use Rattle.lane_lock.specs.Standing.{IsReport}
 use Rattle.receive_model.specs.Events.{Event, Setting}
-use Rattle.receiver_model.specs.Fed.{Fed, all_finished, clock_of, first_bits, rounds as rounds_of}
+use Rattle.receiver_model.specs.Fed.{Fed, first_bits}
 use Rattle.receiver_model.specs.Given.{AreEvents}
 use Rattle.receiver_model.proofs.Clocks.{AreShort, short_at_end}
 use Rattle.receiver_model.proofs.KnownEvents.{events_are_determined, events_exist, known_events_exist}
@@ -35,20 +34,18 @@ use Rattle.run_shell.specs.declared.stop.Finished.{Finished}
 use Rattle.run_shell.specs.Outcome.{Outcome, HoldsPart, LeavesOthers}
 use Rattle.run_shell.specs.Meaning.{IsMeaning}
 use Rattle.run_shell.specs.Stops.{IsOfStore}
-use Rattle.run_shell.specs.Reading.{IsWork, behind}
+use Rattle.run_shell.specs.Reading.{IsWork}
 use Rattle.run_shell.specs.Writing.{Fills, Writes}
 use Rattle.run_shell.proofs.Moves.{if_both, if_told_by}
 use Rattle.run_shell.proofs.Readings.{behind_ok}
 use Rattle.run_shell.proofs.Works.{is_meaning}
 use Rattle.run_shell.proofs.Writing.{none_writes, one_writes, part_leaves}
-use Rattle.stream_commands.specs.Outputs.{lane_names}
 use Rattle.receive_commands.specs.declared.receipt.Receipt.{Receipt}
-use Rattle.receive_commands.specs.Going.{IsFor}
 use Rattle.receive_commands.specs.Received.{output_names, received_outcome}
-use Rattle.receive_commands.specs.Receipts.{Beginning, IsReceipt, IsStopped, given_of, names_of}
+use Rattle.receive_commands.specs.Receipts.{Beginning, IsStopped, given_of, names_of}
 use Rattle.receive_commands.specs.JoinPlan.{IsSettingOf, plan_names}
 use Rattle.receive_commands.specs.Receive.{AreLaneReports, IsLaneReport, IsReceived, PlanLanes, lane_lines, lanes_in, names_of_lanes, plan_lanes_in, receive_meaning, receive_work, with_lanes}
-use Rattle.receive_commands.specs.Feeding.{AllComeFrom, AllReceived, IsBroken, IsDrained}
+use Rattle.receive_commands.specs.Feeding.{AllComeFrom, AllReceived, IsBroken}
 use Rattle.receive_commands.proofs.Joins.{order_rising, plan_setting, setting_from}
 use Rattle.receive_commands.proofs.Making.{stopped_writes}
 use Rattle.receive_commands.proofs.Placing.{lists_channels}

@@ -1,4 +1,4 @@
-use Rattle.std.proofs.Common.{◌≡◌, ◌∙◌, refl, ◌++◌}
+use Rattle.std.proofs.Common.{◌∙◌, refl, ◌++◌}
 use Rattle.std.proofs.lemmas.Result.{err_from_is_err_and}
 use Rattle.rx_end.specs.Standing.{event_of}
 use Rattle.receive_commands.proofs.LaneEvents.{event_cut, event_given, event_taken, gives_follows, gives_length, gives_written, memory_cut, none_given}

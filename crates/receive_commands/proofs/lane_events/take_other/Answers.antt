@@ -1,4 +1,4 @@
-use Rattle.std.proofs.Common.{sym, subst, List, [], ◌∷◌, ◌++◌, append-nil}
+use Rattle.std.proofs.Common.{sym, subst, List, [], ◌++◌, append-nil}
 use Rattle.receive_model.specs.Events.{Event}
 use Rattle.rx_end.specs.Standing.{event_of}
 use Rattle.receive_commands.specs.Receipts.{IsReceipt}

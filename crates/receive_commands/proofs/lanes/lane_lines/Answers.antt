@@ -1,4 +1,4 @@
-use Rattle.std.proofs.Common.{◌≡◌, ◌∙◌, refl, sym, ap, [], ◌∷◌, ◌++◌, List, ℕ}
+use Rattle.std.proofs.Common.{◌∙◌, refl, ap, [], ◌∷◌, ◌++◌, List, ℕ}
 use Rattle.link_reports.specs.Lines.{lane_line}
 use Rattle.receive_commands.proofs.LaneLines.{next_count, next_line, next_report, no_report}
 use Rattle.receive_commands.proofs.lanes.lane_lines.Goals as goal

@@ -1,4 +1,4 @@
-use Rattle.std.proofs.Common.{◌≡◌, ◌∙◌, ◌<◌, ◌≤◌, refl, sym, ap, subst, arith, List, ℕ, map, length, string_bytes, Contains, Some, Ok, Err}
+use Rattle.std.proofs.Common.{◌∙◌, ◌<◌, sym, subst, arith, map, length, string_bytes, Contains, Some}
 use Rattle.std.proofs.lemmas.Result.{err_from_is_err_and}
 use Rattle.run_shell.proofs.Creating.{named, named_at}
 use Rattle.receive_commands.specs.Feeding.{fed_next}

@@ -1,4 +1,4 @@
-use Rattle.std.proofs.Common.{◌≡◌, ◌≤◌, ℕ, List, map, slice_get, Option, Some, string_bytes}
+use Rattle.std.proofs.Common.{◌≡◌, ◌≤◌, ℕ, List, map, slice_get, Some, string_bytes}
 use Rattle.lk_base.specs.Limits.{lane_limit}
 use Rattle.lk_base.specs.Link.{Settings}
 use Rattle.receive_model.specs.Events.{Event}

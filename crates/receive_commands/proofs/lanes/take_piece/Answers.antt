@@ -1,4 +1,4 @@
-use Rattle.std.proofs.Common.{◌≡◌, ◌≤◌, ◌+◌, ◌∙◌, refl, sym, subst, arith, inl, length, List, ℕ, IfSome, IsSomeAnd, Ok, Err}
+use Rattle.std.proofs.Common.{◌≤◌, ◌+◌, sym, subst, inl, length, List, ℕ, IfSome, IsSomeAnd}
 use Rattle.std.proofs.lemmas.Result.{err_from_is_err_and}
 use Rattle.lk_base.specs.Limits.{lane_limit}
 use Rattle.lk_outside.specs.Files.{file}

@@ -1,8 +1,6 @@
-use Rattle.std.proofs.Common.{◌≡◌, ◌∙◌, refl, sym, subst, arith, map, string_bytes, IfSome, Err, List, ℕ}
+use Rattle.std.proofs.Common.{◌∙◌, refl, arith, string_bytes}
 use Rattle.std.proofs.lemmas.List.{length-map}
 use Rattle.std.proofs.lemmas.Result.{err_from_is_err_and}
-use Rattle.lk_base.specs.Limits.{lane_limit}
-use Rattle.run_shell.specs.Reading.{Probes, bytes_in}
 use Rattle.run_shell.proofs.Creating.{named}
 use Rattle.receive_commands.proofs.LanesThere.{all_there, begin_there, goes_there, stops_there}
 use Rattle.receive_commands.proofs.lanes_in.probe_lanes.Goals as goal

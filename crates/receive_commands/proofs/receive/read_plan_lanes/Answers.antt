@@ -1,4 +1,4 @@
-use Rattle.std.proofs.Common.{◌≡◌, ◌∙◌, refl, sym, ap, ap₂, subst, map, string_bytes, List, ℕ, IfSome, Ok, Err}
+use Rattle.std.proofs.Common.{◌∙◌, ap, ap₂, map, string_bytes}
 use Rattle.std.proofs.lemmas.Result.{err_from_is_err_and}
 use Rattle.link_plan.specs.Views.{plan_value}
 use Rattle.stream_commands.specs.Outputs.{lane_names}

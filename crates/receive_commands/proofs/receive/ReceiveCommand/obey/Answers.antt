@@ -1,4 +1,4 @@
-use Rattle.std.proofs.Common.{◌≡◌, ◌∙◌, refl, sym, subst, List, ℕ, IfSome, Ok, Err}
+use Rattle.std.proofs.Common.{◌≡◌, sym, subst, List, ℕ, IfSome, Ok, Err}
 use Rattle.std.proofs.lemmas.Result.{err_from_is_err_and}
 use Rattle.lk_outside.specs.Files.{Told}
 use Rattle.link_plan.specs.Views.{plan_value}
