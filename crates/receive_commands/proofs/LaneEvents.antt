@@ -34,14 +34,14 @@ items_rising v s setting fed given st before after x e =
     let lanes = st.link.lanes.0 in
     let long = st.link.metaframe.0 in
     let count = st.lane_count in
-    let more = cons_option v.kept [] in
+    let more : List Aligned = cons_option None [] in
     let found = items_exist s st.clock fed (omega (arith, long)) (omega (arith, lanes, count)) in
-    let known = st.deskew.known found.0 (known_here v s setting fed given v.kept st found.0 found.1) in
+    let known = st.deskew.known found.0 (known_here v s setting fed given None st found.0 found.1) in
     let cut : found.0 ≡ before ++ x ∷ ((after ++ more) ++ known.0) =
     known.1 ∙ ap (λ (is : List Aligned). (is ++ more) ++ known.0) e
     ∙ ap (λ (is : List Aligned). is ++ known.0) (append_assoc before (x ∷ after) more)
     ∙ append_assoc before (x ∷ (after ++ more)) known.0 in
-    (items_rise s st.clock fed found.0 st.link.deskew_below_half (clock_in v s setting fed given v.kept st).1 found.1 before ((after ++ more) ++ known.0) x cut).0
+    (items_rise s st.clock fed found.0 st.link.deskew_below_half (clock_in v s setting fed given None st).1 found.1 before ((after ++ more) ++ known.0) x cut).0
 
 -- ---- one event
 
