@@ -15,8 +15,6 @@ mod plan_words;
 mod receipt;
 mod receive;
 #[cfg(test)]
-mod receive_tests;
-#[cfg(test)]
 mod tests;
 mod words;
 mod words_file;

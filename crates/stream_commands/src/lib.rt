@@ -15,6 +15,3 @@ pub use capture::BurstCapture;
 pub use law::{free_plan_is_not_held, never_bursts_when_off};
 pub use names::lane_names;
 pub use plan::{BurstPlan, SendPlan};
-
-#[cfg(test)]
-mod tests;
