@@ -131,6 +131,13 @@ more_last [] (suc n) bytes e = absurd (omega arith)
 more_last (x ∷ xs) zero bytes e = absurd (omega arith)
 more_last (x ∷ xs) (suc n) bytes e = ap (λ ys. x ∷ ys) (more_last xs n bytes (omega arith))
 
+-- one behind others was given more
+pub more_behind : (front xs : List (List ℕ)) (n : ℕ) (bytes : List ℕ) → more (front ++ xs) (length front + n) bytes ≡ front ++ more xs n bytes
+more_behind [] xs n bytes = ap (λ k. more xs k bytes) (let e : 0 + n ≡ n = omega arith in e)
+more_behind (f ∷ front) xs n bytes =
+    let e : suc (length front) + n ≡ suc (length front + n) = omega arith in
+    ap (λ k. more (f ∷ (front ++ xs)) k bytes) e ∙ ap (λ gs. f ∷ gs) (more_behind front xs n bytes)
+
 -- ---- counts of drops
 
 -- each of the counts is below

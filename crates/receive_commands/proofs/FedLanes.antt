@@ -35,7 +35,7 @@ open_is (lane ∷ fed) zero at e =
     (ap not unfinished, count)
 open_is (lane ∷ fed) (suc i) at e = open_is fed i at e
 
-not_true : (b : Bool) → not b ≡ true → b ≡ false
+pub not_true : (b : Bool) → not b ≡ true → b ≡ false
 not_true true e = absurd (let f : false ≡ true = e in cc)
 not_true false e = refl
 
@@ -160,11 +160,11 @@ behind_first : (first rest : List ℕ) → drop (length first) (first ++ rest) �
 behind_first [] rest = refl
 behind_first (x ∷ first) rest = behind_first first rest
 
-goes_on : (bytes : List ℕ) (lane : Fed) (piece : List ℕ) → lane.finished ≡ false → IsPieceAt (length lane.bytes) piece bytes → Goes lane (whole bytes) → Goes (record { bytes = lane.bytes ++ piece; finished = lane.finished }) (whole bytes)
+pub goes_on : (bytes : List ℕ) (lane : Fed) (piece : List ℕ) → lane.finished ≡ false → piece ≡ take (length piece) (drop (length lane.bytes) bytes) → Goes lane (whole bytes) → Goes (record { bytes = lane.bytes ++ piece; finished = lane.finished }) (whole bytes)
 goes_on bytes lane piece next is go = record {
   rest = drop (length piece) go.rest;
   bytes =
-      let here : piece ≡ take (length piece) go.rest = is.taken ∙ ap (take (length piece)) (ap (drop (length lane.bytes)) go.bytes ∙ behind_first lane.bytes go.rest) in
+      let here : piece ≡ take (length piece) go.rest = is ∙ ap (take (length piece)) (ap (drop (length lane.bytes)) go.bytes ∙ behind_first lane.bytes go.rest) in
       go.bytes ∙ ap (λ (r : List ℕ). lane.bytes ++ r) (sym (take-append-drop (length piece) go.rest) ∙ ap (λ (p : List ℕ). p ++ drop (length piece) go.rest) (sym here))
       ∙ sym (append_assoc lane.bytes piece (drop (length piece) go.rest));
   over = λ t. absurd (let f : true ≡ false = sym t ∙ next in cc);
@@ -174,7 +174,7 @@ no_rest : (first rest : List ℕ) → length (first ++ rest) ≤ length first �
 no_rest first [] le = refl
 no_rest first (x ∷ rest) le = absurd (let l = length-append first (x ∷ rest) in omega arith)
 
-ends_here : (bytes : List ℕ) (lane : Fed) → length bytes ≤ length lane.bytes → Goes lane (whole bytes) → Goes (record { bytes = lane.bytes; finished = true }) (whole bytes)
+pub ends_here : (bytes : List ℕ) (lane : Fed) → length bytes ≤ length lane.bytes → Goes lane (whole bytes) → Goes (record { bytes = lane.bytes; finished = true }) (whole bytes)
 ends_here bytes lane le go = record {
   rest = go.rest;
   bytes = go.bytes;
@@ -183,7 +183,7 @@ ends_here bytes lane le go = record {
 
 one_more : (o : Option (List ℕ)) (lane : Fed) (piece : List ℕ) → lane.finished ≡ false → IsSomeAnd o (IsPieceAt (length lane.bytes) piece) → ComesFrom o lane → ComesFrom o (record { bytes = lane.bytes ++ piece; finished = lane.finished })
 one_more None lane piece next is h = absurd h
-one_more (Some bytes) lane piece next is h = (h.0, goes_on bytes lane piece next is h.1)
+one_more (Some bytes) lane piece next is h = (h.0, goes_on bytes lane piece next is.taken h.1)
 
 one_end : (o : Option (List ℕ)) (lane : Fed) → IsSomeAnd o (IsPieceAt (length lane.bytes) []) → ComesFrom o lane → ComesFrom o (record { bytes = lane.bytes; finished = true })
 one_end None lane is h = absurd h
@@ -259,7 +259,7 @@ begin_all files (name ∷ names) (lane ∷ fed) lanes h e =
     subst (λ ls. AllBegin (lane ∷ fed) ls) (sym is)
     (one_begins (file files name) bytes lane (bytes_there name (file files name) bytes had).0 h.0, begin_all files names fed rest h.1 got)
 
-one_whole : (lane : Fed) (bytes : List ℕ) → lane.finished ≡ true → Goes lane (whole bytes) → lane.bytes ≡ bytes
+pub one_whole : (lane : Fed) (bytes : List ℕ) → lane.finished ≡ true → Goes lane (whole bytes) → lane.bytes ≡ bytes
 one_whole lane bytes over go = sym (go.bytes ∙ ap (λ (r : List ℕ). lane.bytes ++ r) (go.over over).1 ∙ append-nil lane.bytes)
 
 both_true : (a b : Bool) → (a && b) ≡ true → (a ≡ true) × (b ≡ true)

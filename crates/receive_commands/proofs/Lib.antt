@@ -1,7 +1,7 @@
 pub mod Rising
 pub mod Captures
 pub mod NamesDiffer
-pub mod Heads
+pub mod Firsts
 pub mod Receiving
 pub mod Lines
 pub mod Placing
@@ -20,3 +20,5 @@ pub mod Receives
 pub mod PlanLanes
 pub mod LaneLines
 pub mod ReceiveEnds
+pub mod HeldLanes
+pub mod HeldEnds

@@ -1,5 +1,5 @@
 -- The names of the outputs differ.
-use Rattle.std.proofs.Common.{◌≡◌, ◌≢◌, ℕ, ◌<◌, ◌^◌, IsTrue, List, [], ◌∷◌, ◌++◌, length, get_or, map, refl, sym, ap, ◌∙◌, arith, Fits, w16}
+use Rattle.std.proofs.Common.{◌≡◌, ◌≢◌, ◌⊎◌, inl, inr, ℕ, zero, suc, ◌+◌, ◌<◌, ◌^◌, Contains, IsTrue, List, [], ◌∷◌, ◌++◌, length, get_or, map, refl, sym, ap, ◌∙◌, arith, Fits, w16}
 use Rattle.std.specs.Fmt.{decimal}
 use Rattle.std.proofs.lemmas.Fmt.{decimal_injective}
 use Rattle.std.proofs.lemmas.List.{append_cancel_left, append_cancel_right, get_or-map, length-map}
@@ -55,3 +55,32 @@ names_differ prefix channels rising small =
 
 pub small_channels : (channels : List ℕ) → ((i : ℕ) → Fits w16 (get_or channels i 0)) → (i : ℕ) → get_or channels i 0 < 2 ^ 64
 small_channels channels fits i = let small = fits i in omega arith
+
+-- ---- names behind others
+
+get_or_any : {A : Type 0} (xs : List A) (k : ℕ) (c d : A) → k < length xs → get_or xs k c ≡ get_or xs k d
+get_or_any [] k c d lt = absurd (omega arith)
+get_or_any (x ∷ xs) zero c d lt = refl
+get_or_any (x ∷ xs) (suc k) c d lt = get_or_any xs k c d (omega arith)
+
+in_append : {A : Type 0} (xs ys : List A) (j : ℕ) (d : A) → j < length (xs ++ ys) → ((j < length xs) × (get_or (xs ++ ys) j d ≡ get_or xs j d)) ⊎ ((k : ℕ) × (k < length ys) × (get_or (xs ++ ys) j d ≡ get_or ys k d))
+in_append [] ys j d lt = inr (j, lt, refl)
+in_append (x ∷ xs) ys zero d lt = inl (omega arith, refl)
+in_append (x ∷ xs) ys (suc j) d lt = elim (in_append xs ys j d (omega arith)) [
+  | inl (l, e) ↦ inl (omega arith, e)
+  | inr (k, l, e) ↦ inr (k, l, e)
+]
+
+pub differ_behind : (ns ms : List (List ℕ)) → Differ ns → Differ ms → ((q : List ℕ) → Contains ns q → Contains ms q → ⊥) → Differ (ns ++ ms)
+differ_behind [] ms hn hm apart i j d lt le e = hm i j d lt le e
+differ_behind (n ∷ ns) ms hn hm apart zero zero d lt le e = absurd (omega arith)
+differ_behind (n ∷ ns) ms hn hm apart zero (suc j) d lt le e = elim (in_append ns ms j d (omega arith)) [
+  | inl (l, same) ↦ hn 0 (suc j) d (omega arith) (omega arith) (e ∙ same)
+  | inr (k, l, same) ↦ apart n (0, omega arith, refl) (k, l, there k l same)
+]
+  where
+    there : (k : ℕ) → k < length ms → get_or (ns ++ ms) j d ≡ get_or ms k d → get_or ms k n ≡ n
+    there k l same = get_or_any ms k n d l ∙ sym same ∙ sym e
+differ_behind (n ∷ ns) ms hn hm apart (suc i) zero d lt le e = absurd (omega arith)
+differ_behind (n ∷ ns) ms hn hm apart (suc i) (suc j) d lt le e =
+    differ_behind ns ms (λ a b x l k. hn (suc a) (suc b) x (omega arith) (omega arith)) hm (λ q (k, l, f) other. apart q (suc k, omega arith, f) other) i j d (omega arith) (omega arith) e

@@ -1,5 +1,5 @@
 -- `receive`: what its lanes come to.
-use Rattle.std.proofs.Common.{◌≡◌, ℕ, zero, suc, ◌*◌, ◌<◌, Bool, true, List, [], ◌∷◌, ◌++◌, length, slice_get, refl, sym, ap, ap₂, ◌∙◌, subst, arith, inl, inr, ◌⊎◌, Option, Some, None, IfSome, Result, Ok, Err, Contains}
+use Rattle.std.proofs.Common.{◌≡◌, ℕ, zero, suc, ◌*◌, ◌<◌, Bool, true, false, List, [], ◌∷◌, ◌++◌, length, map, slice_get, refl, sym, ap, ap₂, ◌∙◌, subst, arith, inl, inr, ◌⊎◌, Option, Some, None, IfSome, Result, Ok, Err, Contains}
 use Rattle.std.specs.Prelude.{nat_le}
 use Rattle.std.specs.List.{list_all}
 use Rattle.std.proofs.lemmas.List.{length-map, take_all}
@@ -31,9 +31,9 @@ use Rattle.plan_inputs.proofs.SomeSource.{plan_limits}
 use Rattle.run_shell.specs.declared.stop.Stop.{Stop}
 use Rattle.run_shell.specs.declared.stop.Stop.TheVariants as stop
 use Rattle.run_shell.specs.declared.stop.Finished.{Finished}
-use Rattle.run_shell.specs.Outcome.{Outcome, HoldsPart, LeavesOthers}
+use Rattle.run_shell.specs.Outcome.{Output, Outcome, HoldsPart, LeavesOthers}
 use Rattle.run_shell.specs.Meaning.{IsMeaning}
-use Rattle.run_shell.specs.Stops.{IsOfStore}
+use Rattle.run_shell.specs.Stops.{IsOfStore, held_status}
 use Rattle.run_shell.specs.Reading.{IsWork}
 use Rattle.run_shell.specs.Writing.{Fills, Writes}
 use Rattle.run_shell.proofs.Moves.{if_both, if_told_by}
@@ -41,8 +41,8 @@ use Rattle.run_shell.proofs.Readings.{behind_ok}
 use Rattle.run_shell.proofs.Works.{is_meaning}
 use Rattle.run_shell.proofs.Writing.{none_writes, one_writes, part_leaves}
 use Rattle.receive_commands.specs.declared.receipt.Receipt.{Receipt}
-use Rattle.receive_commands.specs.Received.{output_names, received_outcome}
-use Rattle.receive_commands.specs.Receipts.{Beginning, IsStopped, given_of, names_of}
+use Rattle.receive_commands.specs.Received.{output_names, received_files, received_outcome, received_text}
+use Rattle.receive_commands.specs.Receipts.{Beginning, IsStopped, closed_outcome, given_of, names_of}
 use Rattle.receive_commands.specs.JoinPlan.{IsSettingOf, plan_names}
 use Rattle.receive_commands.specs.Receive.{AreLaneReports, IsLaneReport, IsReceived, PlanLanes, lane_lines, lanes_in, names_of_lanes, plan_lanes_in, receive_meaning, receive_work, with_lanes}
 use Rattle.receive_commands.specs.Feeding.{AllComeFrom, AllReceived, IsBroken}
@@ -174,7 +174,7 @@ setting_lists plan numbers setting same narrow is =
     let mine = lists_channels setting (channels_in_order numbers) most (record { listed = listed; longest = is.max_packet }) in
     record { lists = λ channel. mine.lists channel ∙ sym (ordered.lists channel) ∙ one.1.lists channel; takes = is.max_packet }
 
-module _ (plan : PlanValue) (b : Beginning) (is_setting : IsSettingOf plan b.setting) (typed : b.link_type ≡ plan.link_type) (named : b.prefix ≡ plan.out) where
+module _ (plan : PlanValue) (b : Beginning) (is_setting : IsSettingOf plan b.setting) (typed : b.link_type ≡ plan.link_type) (named : b.prefix ≡ plan.out) (none : b.ahead ≡ []) where
   abbrev lane_files : List (List ℕ)
   lane_files = names_of_lanes plan
 
@@ -185,10 +185,12 @@ module _ (plan : PlanValue) (b : Beginning) (is_setting : IsSettingOf plan b.set
   Leaves later = Told b.was later (LeavesOthers (λ files q. Contains (plan_names plan) q))
 
   names_are : names_of b ≡ plan_names plan
-  names_are = ap₂ output_names named is_setting.channels
+  names_are = ap (λ (os : List Output). map (λ (o : Output). o.name) os ++ output_names b.prefix b.setting.channels) none ∙ ap₂ output_names named is_setting.channels
 
-  outcome_is : (before : List ℕ) (events : List Event) → received_outcome b.setting b.link_type b.prefix before events ≡ received_outcome b.setting plan.link_type plan.out before events
-  outcome_is before events = ap₂ (λ (t : ℕ) (p : List ℕ). received_outcome b.setting t p before events) typed named
+  outcome_is : (before : List ℕ) (events : List Event) → closed_outcome b events false (before ++ received_text b.setting events) ≡ received_outcome b.setting plan.link_type plan.out before events
+  outcome_is before events =
+      ap (λ (os : List Output). record { status = held_status false; files = os ++ received_files b.setting b.link_type b.prefix events; text = before ++ received_text b.setting events }) none
+      ∙ ap₂ (λ (t : ℕ) (p : List ℕ). received_outcome b.setting t p before events) typed named
 
   -- something stopped it
   part_by : (lanes : List (List ℕ)) (o : Outcome) (why : Stop) (later : Option Files) (h : IsBroken b plan.settings lane_files why later) → IsReceived (record { plan = plan; lanes = lanes }) o
@@ -197,7 +199,7 @@ module _ (plan : PlanValue) (b : Beginning) (is_setting : IsSettingOf plan b.set
       let e : k.setting ≡ b.setting = plan_setting plan k.setting b.setting k.is_setting is_setting in
       let (rest, all) = first k.events (subst (λ (x : Setting). AreEvents plan.settings x lanes k.events) e k.are_events) in
       let stopped : IsStopped b k.events stop.OutOfMemory later = record { by_store = tt; came = h.came; rest = rest; all = all; part = h.part } in
-      (stopped_writes b k.events (lane_lines 0 k.reports) stop.OutOfMemory later stopped).fills.part o
+      (stopped_writes b k.events false (lane_lines 0 k.reports ++ received_text b.setting k.events) stop.OutOfMemory later stopped).fills.part o
       (k.is ∙ ap (λ (x : Setting). received_outcome x plan.link_type plan.out (lane_lines 0 k.reports) k.events) e ∙ sym (outcome_is (lane_lines 0 k.reports) k.events))
 
   store_by : (why : Stop) → IsOfStore (λ q. Contains (names_of b) q ⊎ Contains lane_files q) why → IsOfStore (Contains (plan_names plan ++ lane_files)) why
@@ -228,7 +230,7 @@ module _ (plan : PlanValue) (b : Beginning) (is_setting : IsSettingOf plan b.set
   module _ (r : State) (kept : Receipt) (now : Option Files) (h : AllReceived b plan.settings lane_files r kept now) (reports : List LaneReport) (count : length reports ≡ plan.settings.lanes)
       (each : (setting : Setting) (fed : List Fed) (given : List Event) (stands : Stands r plan.settings setting fed given) (lane : ℕ) (report : LaneReport) → slice_get reports lane ≡ Some report → IsReportOf plan.settings stands.rounds lane fed report) where
     abbrev the : Outcome
-    the = received_outcome b.setting b.link_type b.prefix (lane_lines 0 reports) h.given
+    the = closed_outcome b h.given false (lane_lines 0 reports ++ received_text b.setting h.given)
 
     is_received : (files : Files) (lanes : List (List ℕ)) → AllComeFrom lane_files h.fed files → lanes_in files lane_files ≡ Ok lanes → IsReceived (record { plan = plan; lanes = lanes }) the
     is_received files lanes from e =
@@ -255,7 +257,7 @@ module _ (plan : PlanValue) (b : Beginning) (is_setting : IsSettingOf plan b.set
         }
 
     -- all came, and was written or stopped
-    pub received_fills : (text : List ℕ) (result : Result Finished Stop) (later : Option Files) → text ≡ lane_lines 0 reports → Writes (λ o. o ≡ received_outcome b.setting b.link_type b.prefix text h.given) (names_of b) result b.was later → Comes result later
+    pub received_fills : (text : List ℕ) (result : Result Finished Stop) (later : Option Files) → text ≡ lane_lines 0 reports → Writes (λ o. o ≡ closed_outcome b h.given false (text ++ received_text b.setting h.given)) (names_of b) result b.was later → Comes result later
     received_fills text result later is writes =
         if_told_by b.was (λ files from lanes e.
         let of = IsReceived (record { plan = plan; lanes = lanes }) in
@@ -263,7 +265,7 @@ module _ (plan : PlanValue) (b : Beginning) (is_setting : IsSettingOf plan b.set
         subst (λ ns. Fills of (ns ++ lane_files) result b.was later) names_are
         (fills_more of (names_of b) lane_files result b.was later
         (one_writes of (names_of b) the made (λ p k. one_received (record { plan = plan; lanes = lanes }) p the k made) result b.was later
-        (subst (λ (t : List ℕ). Writes (λ o. o ≡ received_outcome b.setting b.link_type b.prefix t h.given) (names_of b) result b.was later) is writes)).fills)) h.from
+        (subst (λ (t : List ℕ). Writes (λ o. o ≡ closed_outcome b h.given false (t ++ received_text b.setting h.given)) (names_of b) result b.was later) is writes)).fills)) h.from
 
   pub written_leaves : (of : Outcome → Type 0) (result : Result Finished Stop) (later : Option Files) → Writes of (names_of b) result b.was later → Leaves later
   written_leaves of result later writes = subst (λ ns. Told b.was later (LeavesOthers (λ files q. Contains ns q))) names_are writes.others

@@ -1,5 +1,5 @@
 -- A receipt: outputs come, or are stopped.
-use Rattle.std.proofs.Common.{◌≡◌, ℕ, zero, suc, ◌+◌, ◌<◌, ◌==◌, ◌||◌, Bool, true, false, IsTrue, List, [], ◌∷◌, ◌++◌, length, length-append, get_or, set, map, refl, sym, ap, ◌∙◌, subst, append_assoc, append-nil, arith, Option, Err, Contains}
+use Rattle.std.proofs.Common.{◌≡◌, ℕ, zero, suc, ◌+◌, ◌<◌, ◌==◌, ◌||◌, Bool, true, false, IsTrue, List, [], ◌∷◌, ◌++◌, length, length-append, get_or, set, map, replicate, refl, sym, ap, ◌∙◌, subst, append_assoc, append-nil, arith, Option, Err, Contains}
 use Rattle.std.proofs.lemmas.Bool.{ne_eqb, eqb-false}
 use Rattle.std.proofs.lemmas.List.{length-map}
 use Rattle.lk_base.specs.declared.fault.DropWhy.{DropWhy}
@@ -13,7 +13,7 @@ use Rattle.pcap_files.specs.Written.{header_bytes, record_bytes}
 use Rattle.link_reports.specs.Drops.{drop_counts}
 use Rattle.run_shell.specs.declared.stop.Stop.{Stop}
 use Rattle.run_shell.specs.declared.stop.Stop.TheVariants as stop
-use Rattle.run_shell.specs.Outcome.{HoldsPart}
+use Rattle.run_shell.specs.Outcome.{Output, HoldsPart}
 use Rattle.run_shell.specs.Stops.{IsOfStore, StoreStops}
 use Rattle.run_shell.specs.Open.{Open}
 use Rattle.run_shell.specs.Outputs.{Differ, IsOpen, more, open_names, outs}
@@ -22,11 +22,11 @@ use Rattle.run_shell.proofs.Moves.{told_by}
 use Rattle.receive_commands.specs.declared.receipt.ChannelReceipt.{ChannelReceipt}
 use Rattle.receive_commands.specs.declared.receipt.Receipt.{Receipt}
 use Rattle.receive_commands.specs.Received.{capture_name, output_names, packets_on, spans_name}
-use Rattle.receive_commands.specs.Receipts.{Beginning, IsReceipt, IsStopped, capture_of, counts_of, given_of, names_of}
+use Rattle.receive_commands.specs.Receipts.{Beginning, IsReceipt, IsStopped, capture_of, counts_of, given_of, names_of, own_given}
 use Rattle.receive_commands.specs.Going.{numbers_of, with_packet}
-use Rattle.receive_commands.specs.Heads.{heads_in, IsHeadless}
-use Rattle.receive_commands.proofs.Captures.{all_same, map_same, more_at, next_capture, next_counts, no_drop, no_span, other_channel, same_capture, same_counts, set_at, spans_next}
-use Rattle.receive_commands.proofs.Heads.{heads_captures}
+use Rattle.receive_commands.specs.Firsts.{first_in, IsUnfilled}
+use Rattle.receive_commands.proofs.Captures.{all_same, map_same, more_at, more_behind, next_capture, next_counts, no_drop, no_span, other_channel, same_capture, same_counts, set_at, spans_next}
+use Rattle.receive_commands.proofs.Firsts.{all_first, count_made, names_made}
 
 -- ---- what a receipt says of its parts
 
@@ -44,13 +44,16 @@ module _ (b : Beginning) (outputs : List Event) (r : Receipt) (now : Option File
   pub channels_length : length r.channels.items ≡ length b.setting.channels
   channels_length = ap (λ (cs : List ChannelReceipt). length cs) is.channels ∙ length-map b.setting.channels (counts_of outputs)
 
-  pub outputs_length : length r.outputs ≡ length r.channels.items + 1
+  pub outputs_length : length r.outputs ≡ r.ahead + (length r.channels.items + 1)
   outputs_length =
       let opens : length (open_names r.outputs) ≡ length r.outputs = length-map r.outputs (λ (f : Open). f.name) in
       let names : length (open_names r.outputs) ≡ length (names_of b) = ap (λ (ns : List (List ℕ)). length ns) is.names in
-      let all : length (names_of b) ≡ length (map (capture_name b.prefix) b.setting.channels) + 1 = length-append (map (capture_name b.prefix) b.setting.channels) (spans_name b.prefix ∷ []) in
+      let both : length (names_of b) ≡ length (map (λ (o : Output). o.name) b.ahead) + length (output_names b.prefix b.setting.channels) = length-append (map (λ (o : Output). o.name) b.ahead) (output_names b.prefix b.setting.channels) in
+      let front : length (map (λ (o : Output). o.name) b.ahead) ≡ length b.ahead = length-map b.ahead (λ (o : Output). o.name) in
+      let all : length (output_names b.prefix b.setting.channels) ≡ length (map (capture_name b.prefix) b.setting.channels) + 1 = length-append (map (capture_name b.prefix) b.setting.channels) (spans_name b.prefix ∷ []) in
       let captures : length (map (capture_name b.prefix) b.setting.channels) ≡ length b.setting.channels = length-map b.setting.channels (capture_name b.prefix) in
       let channels = channels_length in
+      let ahead = is.ahead in
       omega arith
 
   -- a part of the captures stands
@@ -76,43 +79,54 @@ stopped_before b outputs rest all s now is h = record {
 
 -- ---- a receipt that is opened
 
-pub opened : (b : Beginning) (channels : List ℕ) (r : Receipt) (now : Option Files) → b.setting.channels ≡ channels → open_names r.outputs ≡ output_names b.prefix channels → Differ (output_names b.prefix channels)
-    → IsOpen r.outputs (heads_in (length channels) (header_bytes b.link_type) (output_names b.prefix channels)) b.was now → r.channels.items ≡ map (counts_of []) channels → r.spans ≡ [] → r.drops ≡ drop_counts [] → IsReceipt b [] r now
-opened b channels r now listed names differ heads counts spans drops = record {
-  names = names ∙ ap (output_names b.prefix) (sym listed);
+pub opened : (b : Beginning) (ns cs : List (List ℕ)) (channels : List ℕ) (r : Receipt) (now : Option Files) → b.ahead ≡ outs ns cs → length cs ≡ length ns → b.setting.channels ≡ channels → r.ahead ≡ length cs
+    → open_names r.outputs ≡ ns ++ output_names b.prefix channels → Differ (ns ++ output_names b.prefix channels)
+    → IsOpen r.outputs (first_in (cs ++ replicate (length channels) (header_bytes b.link_type)) (ns ++ output_names b.prefix channels)) b.was now → r.channels.items ≡ map (counts_of []) channels → r.spans ≡ [] → r.drops ≡ drop_counts [] → IsReceipt b [] r now
+opened b ns cs channels r now ahead many listed count names differ firsts counts spans drops = record {
+  ahead = count ∙ sym (count_made ns cs many) ∙ ap (λ (os : List Output). length os) (sym ahead);
+  names = names ∙ ap (λ ms. ns ++ output_names b.prefix ms) (sym listed) ∙ ap (λ ms. ms ++ output_names b.prefix b.setting.channels) (sym (names_made ns cs many) ∙ ap (map (λ (o : Output). o.name)) (sym ahead));
   differ = subst Differ (sym names) differ;
-  given = subst (λ cs. IsOpen r.outputs (map (capture_of b.link_type []) cs ++ [] ∷ []) b.was now) (sym listed) (subst (λ gs. IsOpen r.outputs gs b.was now) (heads_captures b.prefix b.link_type channels) heads);
+  given = subst (λ (os : List Output). IsOpen r.outputs (map (λ (o : Output). o.content) os ++ own_given b []) b.was now) (sym ahead)
+      (subst (λ ms. IsOpen r.outputs (map (λ (o : Output). o.content) (outs ns cs) ++ (map (capture_of b.link_type []) ms ++ [] ∷ [])) b.was now) (sym listed)
+      (subst (λ gs. IsOpen r.outputs gs b.was now) (all_first b.prefix b.link_type channels ns cs many) firsts));
   channels = counts ∙ ap (map (counts_of [])) (sym listed);
   spans = spans;
   drops = drops;
 }
 
-pub not_opened : (b : Beginning) (channels : List ℕ) (s : Stop) (now : Option Files) → b.setting.channels ≡ channels → IsHeadless (output_names b.prefix channels) (header_bytes b.link_type) (length channels) s b.was now → IsStopped b [] s now
-not_opened b channels s now listed h = record {
-  by_store = subst (λ cs. IsOfStore (Contains (output_names b.prefix cs)) s) (sym listed) h.by_store;
-  came = [];
-  rest = [];
-  all = refl;
-  part = subst (λ cs. Told b.was now (HoldsPart (outs (output_names b.prefix cs) (map (capture_of b.link_type []) cs ++ [] ∷ [])))) (sym listed)
-      (subst (λ gs. Told b.was now (HoldsPart (outs (output_names b.prefix channels) gs))) (heads_captures b.prefix b.link_type channels) h.part);
-}
+pub not_opened : (b : Beginning) (ns cs : List (List ℕ)) (channels : List ℕ) (s : Stop) (now : Option Files) → b.ahead ≡ outs ns cs → length cs ≡ length ns → b.setting.channels ≡ channels
+    → IsUnfilled (ns ++ output_names b.prefix channels) (cs ++ replicate (length channels) (header_bytes b.link_type)) s b.was now → IsStopped b [] s now
+not_opened b ns cs channels s now ahead many listed h =
+    let names : ns ++ output_names b.prefix channels ≡ names_of b =
+    ap (λ ms. ns ++ output_names b.prefix ms) (sym listed) ∙ ap (λ ms. ms ++ output_names b.prefix b.setting.channels) (sym (names_made ns cs many) ∙ ap (map (λ (o : Output). o.name)) (sym ahead)) in
+    let given : first_in (cs ++ replicate (length channels) (header_bytes b.link_type)) (ns ++ output_names b.prefix channels) ≡ given_of b [] =
+    all_first b.prefix b.link_type channels ns cs many ∙ ap (λ ms. map (λ (o : Output). o.content) (outs ns cs) ++ (map (capture_of b.link_type []) ms ++ [] ∷ [])) (sym listed)
+    ∙ ap (λ (os : List Output). map (λ (o : Output). o.content) os ++ own_given b []) (sym ahead) in
+    record {
+      by_store = subst (λ ms. IsOfStore (Contains ms) s) names h.by_store;
+      came = [];
+      rest = [];
+      all = refl;
+      part = subst (λ ms. Told b.was now (HoldsPart (outs ms (given_of b [])))) names (subst (λ gs. Told b.was now (HoldsPart (outs (ns ++ output_names b.prefix channels) gs))) given h.part);
+    }
 
 -- ---- one more output
 
 -- what is no packet of a listed channel changes no capture and no count
 quiet : (b : Beginning) (outputs : List Event) (e : Event) (r s : Receipt) (now : Option Files) → map (capture_of b.link_type outputs) b.setting.channels ≡ map (capture_of b.link_type (outputs ++ e ∷ [])) b.setting.channels → map (counts_of outputs) b.setting.channels ≡ map (counts_of (outputs ++ e ∷ [])) b.setting.channels
-    → s.outputs ≡ r.outputs → s.channels.items ≡ r.channels.items → s.spans ≡ shown_spans (outputs ++ e ∷ []) → s.drops ≡ drop_counts (outputs ++ e ∷ []) → IsReceipt b outputs r now → IsReceipt b (outputs ++ e ∷ []) s now
-quiet b outputs e r s now captures counts o c sp d is = record {
+    → s.ahead ≡ r.ahead → s.outputs ≡ r.outputs → s.channels.items ≡ r.channels.items → s.spans ≡ shown_spans (outputs ++ e ∷ []) → s.drops ≡ drop_counts (outputs ++ e ∷ []) → IsReceipt b outputs r now → IsReceipt b (outputs ++ e ∷ []) s now
+quiet b outputs e r s now captures counts same_ahead o c sp d is = record {
+  ahead = same_ahead ∙ is.ahead;
   names = ap open_names o ∙ is.names;
   differ = subst (λ (x : List Open). Differ (open_names x)) (sym o) is.differ;
-  given = subst (λ (x : List Open). IsOpen x (given_of b (outputs ++ e ∷ [])) b.was now) (sym o) (subst (λ gs. IsOpen r.outputs (gs ++ [] ∷ []) b.was now) captures is.given);
+  given = subst (λ (x : List Open). IsOpen x (given_of b (outputs ++ e ∷ [])) b.was now) (sym o) (subst (λ gs. IsOpen r.outputs (map (λ (o : Output). o.content) b.ahead ++ (gs ++ [] ∷ [])) b.was now) captures is.given);
   channels = c ∙ is.channels ∙ counts;
   spans = sp;
   drops = d;
 }
 
 other_came : (b : Beginning) (outputs : List Event) (e : Event) (r s : Receipt) (now : Option Files) → ((channel : ℕ) → packets_on channel (e ∷ []) ≡ [])
-    → s.outputs ≡ r.outputs → s.channels.items ≡ r.channels.items → s.spans ≡ shown_spans (outputs ++ e ∷ []) → s.drops ≡ drop_counts (outputs ++ e ∷ []) → IsReceipt b outputs r now → IsReceipt b (outputs ++ e ∷ []) s now
+    → s.ahead ≡ r.ahead → s.outputs ≡ r.outputs → s.channels.items ≡ r.channels.items → s.spans ≡ shown_spans (outputs ++ e ∷ []) → s.drops ≡ drop_counts (outputs ++ e ∷ []) → IsReceipt b outputs r now → IsReceipt b (outputs ++ e ∷ []) s now
 other_came b outputs e r s now none =
     quiet b outputs e r s now (map_same (capture_of b.link_type outputs) (capture_of b.link_type (outputs ++ e ∷ [])) b.setting.channels (λ c. same_capture b.link_type outputs e c (none c)))
     (map_same (counts_of outputs) (counts_of (outputs ++ e ∷ [])) b.setting.channels (λ c. same_counts outputs e c (none c)))
@@ -120,18 +134,18 @@ other_came b outputs e r s now none =
 pub flow_came : (b : Beginning) (outputs : List Event) (at : Pos) (word : ℕ) (r : Receipt) (now : Option Files) → IsReceipt b outputs r now → IsReceipt b (outputs ++ Flow at word ∷ []) r now
 flow_came b outputs at word r now is =
     let e = Flow at word in
-    other_came b outputs e r r now (λ c. refl) refl refl (is.spans ∙ sym (no_span outputs e refl)) (is.drops ∙ sym (no_drop outputs e (λ k. refl))) is
+    other_came b outputs e r r now (λ c. refl) refl refl refl (is.spans ∙ sym (no_span outputs e refl)) (is.drops ∙ sym (no_drop outputs e (λ k. refl))) is
 
-pub span_came : (b : Beginning) (outputs : List Event) (span : Span) (r s : Receipt) (now : Option Files) → s.outputs ≡ r.outputs → s.channels.items ≡ r.channels.items → s.spans ≡ r.spans ++ span ∷ [] → s.drops ≡ r.drops → IsReceipt b outputs r now → IsReceipt b (outputs ++ FaultSpan span ∷ []) s now
-span_came b outputs span r s now o c sp d is =
+pub span_came : (b : Beginning) (outputs : List Event) (span : Span) (r s : Receipt) (now : Option Files) → s.ahead ≡ r.ahead → s.outputs ≡ r.outputs → s.channels.items ≡ r.channels.items → s.spans ≡ r.spans ++ span ∷ [] → s.drops ≡ r.drops → IsReceipt b outputs r now → IsReceipt b (outputs ++ FaultSpan span ∷ []) s now
+span_came b outputs span r s now a o c sp d is =
     let e = FaultSpan span in
-    other_came b outputs e r s now (λ x. refl) o c (sp ∙ ap (λ ss. ss ++ span ∷ []) is.spans ∙ sym (spans_next outputs e)) (d ∙ is.drops ∙ sym (no_drop outputs e (λ k. refl))) is
+    other_came b outputs e r s now (λ x. refl) a o c (sp ∙ ap (λ ss. ss ++ span ∷ []) is.spans ∙ sym (spans_next outputs e)) (d ∙ is.drops ∙ sym (no_drop outputs e (λ k. refl))) is
 
-pub drop_came : (b : Beginning) (outputs : List Event) (channel : ℕ) (why : DropWhy) (r s : Receipt) (now : Option Files) → s.outputs ≡ r.outputs → s.channels.items ≡ r.channels.items → s.spans ≡ r.spans
+pub drop_came : (b : Beginning) (outputs : List Event) (channel : ℕ) (why : DropWhy) (r s : Receipt) (now : Option Files) → s.ahead ≡ r.ahead → s.outputs ≡ r.outputs → s.channels.items ≡ r.channels.items → s.spans ≡ r.spans
     → ((outs : List Event) (c : ℕ) → r.drops ≡ drop_counts outs → s.drops ≡ drop_counts (outs ++ Dropped c why ∷ [])) → IsReceipt b outputs r now → IsReceipt b (outputs ++ Dropped channel why ∷ []) s now
-drop_came b outputs channel why r s now o c sp d is =
+drop_came b outputs channel why r s now a o c sp d is =
     let e = Dropped channel why in
-    other_came b outputs e r s now (λ x. refl) o c (sp ∙ is.spans ∙ sym (no_span outputs e refl)) (d outputs channel is.drops) is
+    other_came b outputs e r s now (λ x. refl) a o c (sp ∙ is.spans ∙ sym (no_span outputs e refl)) (d outputs channel is.drops) is
 
 -- a packet on a channel that is not listed
 or_parts : (x y : Bool) → x || y ≡ false → (x ≡ false) × (y ≡ false)
@@ -150,7 +164,7 @@ unlisted_came b outputs channel p r now absent is =
     quiet b outputs e r r now
     (all_same (capture_of b.link_type outputs) (capture_of b.link_type (outputs ++ e ∷ [])) channel (λ other ne. same_capture b.link_type outputs e other (other_channel channel other p ne)) b.setting.channels apart)
     (all_same (counts_of outputs) (counts_of (outputs ++ e ∷ [])) channel (λ other ne. same_counts outputs e other (other_channel channel other p ne)) b.setting.channels apart)
-    refl refl (is.spans ∙ sym (no_span outputs e refl)) (is.drops ∙ sym (no_drop outputs e (λ k. refl))) is
+    refl refl refl (is.spans ∙ sym (no_span outputs e refl)) (is.drops ∙ sym (no_drop outputs e (λ k. refl))) is
 
 -- a packet on the channel at this place
 module _ (b : Beginning) (outputs : List Event) (r : Receipt) (now later : Option Files) (is : IsReceipt b outputs r now) (place : ℕ) (lt : place < length r.channels.items) (p : Packet) where
@@ -166,11 +180,18 @@ module _ (b : Beginning) (outputs : List Event) (r : Receipt) (now later : Optio
   within : place < length b.setting.channels
   within = let e = channels_length b outputs r now is in omega arith
 
-  given_next : more (given_of b outputs) place (record_bytes p.bytes) ≡ given_of b (outputs ++ next ∷ [])
-  given_next =
+  own_next : more (own_given b outputs) place (record_bytes p.bytes) ≡ own_given b (outputs ++ next ∷ [])
+  own_next =
       more_at (capture_of b.link_type outputs) (capture_of b.link_type (outputs ++ next ∷ [])) channel (record_bytes p.bytes) ([] ∷ [])
       (λ other ne. same_capture b.link_type outputs next other (other_channel channel other p ne)) (next_capture b.link_type outputs channel p)
       b.setting.channels place b.setting.in_order within listed
+
+  given_next : (output : ℕ) → output ≡ r.ahead + place → more (given_of b outputs) output (record_bytes p.bytes) ≡ given_of b (outputs ++ next ∷ [])
+  given_next output at =
+      ap (λ n. more (given_of b outputs) n (record_bytes p.bytes)) at
+      ∙ ap (λ n. more (given_of b outputs) (n + place) (record_bytes p.bytes)) (is.ahead ∙ sym (length-map b.ahead (λ (o : Output). o.content)))
+      ∙ more_behind (map (λ (o : Output). o.content) b.ahead) (own_given b outputs) place (record_bytes p.bytes)
+      ∙ ap (λ gs. map (λ (o : Output). o.content) b.ahead ++ gs) own_next
 
   -- the counts at the place
   counts_at : (d : ChannelReceipt) → get_or r.channels.items place d ≡ counts_of outputs channel
@@ -181,12 +202,13 @@ module _ (b : Beginning) (outputs : List Event) (r : Receipt) (now later : Optio
       at (c ∷ cs) zero le = refl
       at (c ∷ cs) (suc k) le = at cs k (omega arith)
 
-  pub packet_came : (s : Receipt) (d old new : ChannelReceipt) → old ≡ get_or r.channels.items place d → new ≡ with_packet (length p.bytes) old → s.channels.items ≡ set r.channels.items place new → s.spans ≡ r.spans → s.drops ≡ r.drops → open_names s.outputs ≡ open_names r.outputs
-      → IsOpen s.outputs (more (given_of b outputs) place (record_bytes p.bytes)) b.was later → IsReceipt b (outputs ++ next ∷ []) s later
-  packet_came s d old new there counted c sp dr names open_now = record {
+  pub packet_came : (output : ℕ) → output ≡ r.ahead + place → (s : Receipt) (d old new : ChannelReceipt) → old ≡ get_or r.channels.items place d → new ≡ with_packet (length p.bytes) old → s.channels.items ≡ set r.channels.items place new → s.spans ≡ r.spans → s.drops ≡ r.drops → s.ahead ≡ r.ahead → open_names s.outputs ≡ open_names r.outputs
+      → IsOpen s.outputs (more (given_of b outputs) output (record_bytes p.bytes)) b.was later → IsReceipt b (outputs ++ next ∷ []) s later
+  packet_came output at s d old new there counted c sp dr ahead names open_now = record {
+    ahead = ahead ∙ is.ahead;
     names = names ∙ is.names;
     differ = subst Differ (sym names) is.differ;
-    given = subst (λ gs. IsOpen s.outputs gs b.was later) given_next open_now;
+    given = subst (λ gs. IsOpen s.outputs gs b.was later) (given_next output at) open_now;
     channels = c ∙ ap (λ (cs : List ChannelReceipt). set cs place new) is.channels
         ∙ set_at (counts_of outputs) (counts_of (outputs ++ next ∷ [])) channel (λ other ne. same_counts outputs next other (other_channel channel other p ne)) b.setting.channels place new b.setting.in_order within listed
         (counted ∙ ap (with_packet (length p.bytes)) (there ∙ counts_at d) ∙ next_counts outputs channel p);
@@ -194,11 +216,11 @@ module _ (b : Beginning) (outputs : List Event) (r : Receipt) (now later : Optio
     drops = dr ∙ is.drops ∙ sym (no_drop outputs next (λ k. refl));
   }
 
-  pub packet_stopped : (T : Type 0) (s : Stop) → StoreStops {T = T} (Contains (open_names r.outputs)) (Err s) → Told b.was later (HoldsPart (outs (open_names r.outputs) (more (given_of b outputs) place (record_bytes p.bytes)))) → IsStopped b (outputs ++ next ∷ []) s later
-  packet_stopped T s store h = record {
+  pub packet_stopped : (output : ℕ) → output ≡ r.ahead + place → (T : Type 0) (s : Stop) → StoreStops {T = T} (Contains (open_names r.outputs)) (Err s) → Told b.was later (HoldsPart (outs (open_names r.outputs) (more (given_of b outputs) output (record_bytes p.bytes)))) → IsStopped b (outputs ++ next ∷ []) s later
+  packet_stopped output at T s store h = record {
     by_store = subst (λ ns. StoreStops {T = T} (Contains ns) (Err s)) is.names store;
     came = outputs ++ next ∷ [];
     rest = [];
     all = sym (append-nil (outputs ++ next ∷ []));
-    part = subst (λ gs. Told b.was later (HoldsPart (outs (names_of b) gs))) given_next (subst (λ ns. Told b.was later (HoldsPart (outs ns (more (given_of b outputs) place (record_bytes p.bytes))))) is.names h);
+    part = subst (λ gs. Told b.was later (HoldsPart (outs (names_of b) gs))) (given_next output at) (subst (λ ns. Told b.was later (HoldsPart (outs ns (more (given_of b outputs) output (record_bytes p.bytes))))) is.names h);
   }

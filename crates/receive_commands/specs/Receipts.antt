@@ -1,5 +1,5 @@
 -- What came so far, and what was given to the outputs that it grows into.
-use Rattle.std.specs.Prelude.{ℕ, ◌≡◌, List, [], ◌∷◌, ◌++◌, length, map, sum_by, Option, Result, Ok, Err, Contains}
+use Rattle.std.specs.Prelude.{ℕ, ◌≡◌, Bool, List, [], ◌∷◌, ◌++◌, length, map, sum_by, Option, Result, Ok, Err, Contains}
 use Rattle.lk_outside.specs.Files.{Files, Told}
 use Rattle.receive_model.specs.declared.span.Span.{Span}
 use Rattle.receive_model.specs.Lists.{last_of}
@@ -8,31 +8,41 @@ use Rattle.fault_spans.specs.SpanLists.{MayFollow}
 use Rattle.pcap_files.specs.Written.{capture_bytes}
 use Rattle.link_reports.specs.Drops.{drop_counts}
 use Rattle.run_shell.specs.declared.stop.Stop.{Stop}
-use Rattle.run_shell.specs.Outcome.{HoldsPart}
-use Rattle.run_shell.specs.Stops.{IsOfStore}
+use Rattle.run_shell.specs.Outcome.{Output, Outcome, HoldsPart}
+use Rattle.run_shell.specs.Stops.{IsOfStore, held_status}
 use Rattle.run_shell.specs.Outputs.{Differ, IsOpen, open_names, outs}
 use Rattle.receive_commands.specs.declared.receipt.ChannelReceipt.{ChannelReceipt}
 use Rattle.receive_commands.specs.declared.receipt.Receipt.{Receipt}
-use Rattle.receive_commands.specs.Received.{output_names, packets_on}
+use Rattle.receive_commands.specs.Received.{output_names, packets_on, received_files}
 
--- what a receipt begins with: its channels, the link type of its captures, what the names begin with, and the files before
--- the outputs were created
+-- what a receipt begins with: the outputs that stand ahead of its own, its channels, the link type of its captures, what the
+-- names begin with, and the files before the outputs were created
 pub record Beginning : Type 0 where
+  pub ahead : List Output
   pub setting : Setting
   pub link_type : ℕ
   pub prefix : List ℕ
   pub was : Option Files
 
+-- the names of all outputs
 abbrev pub names_of : Beginning → List (List ℕ)
-names_of b = output_names b.prefix b.setting.channels
+names_of b = map (λ (o : Output). o.name) b.ahead ++ output_names b.prefix b.setting.channels
 
 -- the capture of a channel, after these outputs
 abbrev pub capture_of : ℕ → List Event → ℕ → List ℕ
 capture_of link_type outputs channel = capture_bytes link_type (packets_on channel outputs)
 
 -- the captures by number, and nothing yet of the span table
+abbrev pub own_given : Beginning → List Event → List (List ℕ)
+own_given b outputs = map (capture_of b.link_type outputs) b.setting.channels ++ [] ∷ []
+
+-- the outputs ahead, whole, and behind them those of the receipt
 abbrev pub given_of : Beginning → List Event → List (List ℕ)
-given_of b outputs = map (capture_of b.link_type outputs) b.setting.channels ++ [] ∷ []
+given_of b outputs = map (λ (o : Output). o.content) b.ahead ++ own_given b outputs
+
+-- what these outputs come to, where nothing more comes, with this text
+abbrev pub closed_outcome : Beginning → List Event → Bool → List ℕ → Outcome
+closed_outcome b outputs held text = record { status = held_status held; files = b.ahead ++ received_files b.setting b.link_type b.prefix outputs; text = text }
 
 -- how many packets and bytes came for a channel
 abbrev pub counts_of : List Event → ℕ → ChannelReceipt
@@ -40,6 +50,7 @@ counts_of outputs channel = record { channel = channel; packets = length (packet
 
 -- these outputs came, and no others
 pub record IsReceipt (b : Beginning) (outputs : List Event) (r : Receipt) (now : Option Files) : Type 0 where
+  pub ahead : r.ahead ≡ length b.ahead
   pub names : open_names r.outputs ≡ names_of b
   pub differ : Differ (open_names r.outputs)
   -- the captures were given the packets of their channels

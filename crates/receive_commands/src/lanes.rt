@@ -24,13 +24,18 @@ use run_shell::Stop;
 use rx_end::Receiver;
 use std::alloc::Global;
 
-// A piece of a lane comes; where it is empty the lane is over. The lane has room for it.
-fn feed_piece(receiver: &mut Receiver, offsets: &mut [Option<u64>], next: OpenLane, piece: &[u8])
+/// A piece of a lane comes; where it is empty the lane is over. The lane has room for it.
+pub fn feed_piece(
+    receiver: &mut Receiver,
+    offsets: &mut [Option<u64>],
+    next: OpenLane,
+    piece: &[u8],
+)
     requires unfinished { is_open next.lane receiver.old.lanes ≡ true }
     requires counted { count_at next.lane receiver.old.lanes ≡ next.offset }
     requires room { room_at next.lane receiver.old.lanes ≡ 4096 }
     requires small { length piece.now ≤ 4096 }
-    requires within { next.offset + length piece.now ≤ lane_limit }
+    requires within { next.offset + length piece.now < 2 ^ 57 }
     requires place { next.lane < length offsets.old }
     ensures stands { (s : Settings) (setting : Setting) (fed : List Fed) (given : List Event) →
         Stands receiver.old s setting fed given → Stands receiver.new s setting (fed_next next.lane piece.now fed) given }

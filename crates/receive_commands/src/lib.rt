@@ -2,6 +2,8 @@
 #![tactic(auto)]
 
 mod channels;
+mod held;
+mod held_lanes;
 mod join_plan;
 mod join_words;
 mod lane_events;
@@ -19,6 +21,7 @@ mod tests;
 mod words;
 mod words_file;
 
+pub use held::{HeldReceipt, receive_held};
 pub use join_plan::JoinPlan;
 pub use join_words::JoinWords;
 pub use law::{output_names, words_law};

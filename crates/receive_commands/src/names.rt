@@ -1,5 +1,5 @@
 //! The names of the outputs.
-ghost use Rattle.std.specs.Prelude.{◌≡◌, map, IfOk, string_bytes};
+ghost use Rattle.std.specs.Prelude.{◌≡◌, ◌++◌, map, IfOk, string_bytes};
 ghost use Rattle.receive_commands.specs.Received.{capture_name, spans_name, output_names};
 
 use std::alloc::{AllocError, Global};
@@ -16,15 +16,16 @@ fn spans_name(alloc: Global, prefix: &str) -> Result<String, AllocError>
     format!(in alloc; "{prefix}.spans.csv")
 }
 
-/// The names of the captures of these channels, and then that of the span table.
+/// The names of the outputs that stand ahead, then those of the captures of these channels, and then that of the span table.
 pub fn output_names(
     alloc: Global,
+    ahead: Vec<String>,
     prefix: &str,
     channels: &[u16],
 ) -> Result<Vec<String>, AllocError>
-    ensures { IfOk result (λ names. map string_bytes names.items ≡ output_names prefix.now channels.now) }
+    ensures { IfOk result (λ names. map string_bytes names.items ≡ map string_bytes ahead.items ++ output_names prefix.now channels.now) }
 {
-    let mut names = Vec::new(alloc);
+    let mut names = ahead;
     for channel in channels {
         names.push(capture_name(alloc, prefix, *channel)?)?;
     }

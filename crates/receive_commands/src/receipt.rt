@@ -1,5 +1,6 @@
 //! What came: captures that grow, counts, fault spans and drops.
-ghost use Rattle.std.specs.Prelude.{◌≡◌, ◌<◌, ◌≤◌, ◌+◌, ◌-◌, ◌^◌, ◌++◌, ◌∷◌, [], IsTrue, ℕ, List, length, map, nat_lt, slice_index, get_or, replicate, Option, IfOk, IfSome, OnOk, OnErr};
+ghost use Rattle.std.specs.Prelude.{◌≡◌, ◌<◌, ◌≤◌, ◌+◌, ◌-◌, ◌^◌, ◌++◌, ◌∷◌, [], IsTrue, ℕ, List, length, map, nat_lt, slice_index, get_or, replicate, string_bytes, false, Option, IfOk, IfSome, OnOk, OnErr, Vec};
+ghost use Rattle.std.specs.declared.alloc.Global.{Global};
 ghost use Rattle.std.specs.List.{list_all, flat_map};
 ghost use Rattle.lk_base.specs.declared.position.Pos.{Pos};
 ghost use Rattle.lk_base.specs.Limits.{longest_packet};
@@ -12,10 +13,11 @@ ghost use Rattle.pcap_files.specs.Written.{header_bytes, record_bytes};
 ghost use Rattle.link_reports.specs.Lines.{got_line, spans_line, dropped_line};
 ghost use Rattle.link_reports.specs.Table.{span_table};
 ghost use Rattle.run_shell.specs.Stops.{StopCount};
+ghost use Rattle.run_shell.specs.Outputs.{Differ, outs};
 ghost use Rattle.run_shell.specs.Writing.{Writes};
 ghost use Rattle.receive_commands.specs.declared.receipt.ChannelReceipt.{ChannelReceipt};
-ghost use Rattle.receive_commands.specs.Received.{received_outcome};
-ghost use Rattle.receive_commands.specs.Receipts.{Beginning, names_of, IsReceipt, IsStopped, Receives, Opens};
+ghost use Rattle.receive_commands.specs.Received.{output_names, received_text};
+ghost use Rattle.receive_commands.specs.Receipts.{Beginning, closed_outcome, names_of, IsReceipt, IsStopped, Receives, Opens};
 ghost use Rattle.receive_commands.specs.Going.{numbers_of};
 
 use crate::channels::{channel_lines, nothing_yet, one_more, place_of};
@@ -44,7 +46,9 @@ pub struct ChannelReceipt {
 /// it takes packets, and the span table is made of the spans when nothing more comes.
 #[derive(Drop)]
 pub struct Receipt {
-    /// The captures, in order of number, and behind them the span table.
+    /// How many outputs stand ahead of the captures.
+    pub ahead: u16,
+    /// The outputs ahead, the captures, in order of number, and behind them the span table.
     pub outputs: Outputs,
     /// What came for each channel, in order of number.
     pub channels: Vec<ChannelReceipt>,
@@ -110,11 +114,43 @@ impl Receipt {
         requires in_order { IsTrue (is_rising channels.now) }
         ensures cause { StopCount result (S.faults store.old) (S.faults store.new) }
         ensures opens { (setting : Setting) → setting.channels ≡ channels.now →
-            Opens (record { setting = setting; link_type = link_type; prefix = prefix.now; was = S.files store.old }) result (S.files store.new) }
+            Opens (record { ahead = []; setting = setting; link_type = link_type; prefix = prefix.now; was = S.files store.old }) result (S.files store.new) }
+    {
+        Receipt::open_behind(
+            alloc,
+            store,
+            Vec::new(alloc),
+            &[],
+            prefix,
+            channels,
+            link_type,
+        )
+    }
+
+    /// The same behind other outputs, of these names and contents, which are created first and given all that they hold. There
+    /// are as many contents as names, at most 64, and no two of all names are one.
+    pub fn open_behind<S: Store>(
+        alloc: Global,
+        store: &mut S,
+        ahead: Vec<String>,
+        contents: &[Vec<u8>],
+        prefix: &str,
+        channels: &[u16],
+        link_type: u32,
+    ) -> Result<Receipt, Stop>
+        requires count { S.faults store.old < 2 ^ 60 }
+        requires in_order { IsTrue (is_rising channels.now) }
+        requires few { length ahead.items ≤ 64 }
+        requires contents { length contents.now ≡ length ahead.items }
+        requires differ { Differ (map string_bytes ahead.items ++ output_names prefix.now channels.now) }
+        ensures cause { StopCount result (S.faults store.old) (S.faults store.new) }
+        ensures opens { (setting : Setting) → setting.channels ≡ channels.now →
+            Opens (record { ahead = outs (map string_bytes ahead.items) (map (λ (v : Vec ℕ Global). v.items) contents.now); setting = setting; link_type = link_type; prefix = prefix.now; was = S.files store.old }) result (S.files store.new) }
     {
         let counts = nothing_yet(alloc, channels)?;
-        let outputs = create_captures(alloc, store, prefix, channels, link_type)?;
+        let outputs = create_captures(alloc, store, ahead, contents, prefix, channels, link_type)?;
         Ok(Receipt {
+            ahead: contents.len() as u16,
             outputs,
             channels: counts,
             spans: SpanList::make(alloc),
@@ -161,7 +197,8 @@ impl Receipt {
     {
         let record = record_of(alloc, packet)?;
         let counts = one_more(self.channels[place], packet.len() as u64)?;
-        self.outputs.put(alloc, store, place, &record)?;
+        let output = usize::from(self.ahead) + place;
+        self.outputs.put(alloc, store, output, &record)?;
         self.channels[place] = counts;
         Ok(())
     }
@@ -188,8 +225,36 @@ impl Receipt {
         Ok(())
     }
 
-    /// Nothing more comes: the span table is given its bytes, and all outputs are filled. The lines of what came stand behind
-    /// the text `before`.
+    /// The lines of what came, behind the text `before`.
+    pub fn lines(&self, alloc: Global, before: Vec<u8>) -> Result<Vec<u8>, OutOfMemory>
+        ensures { IfOk result (λ text. (b : Beginning) (outputs : List Event) (now : Option Files) → IsReceipt b outputs self.now now →
+            text.items ≡ before.items ++ received_text b.setting outputs) }
+    {
+        text_of(alloc, before, &self.channels, &self.spans, &self.drops)
+    }
+
+    /// Nothing more comes: the span table is given its bytes, and all outputs are filled. The text is the command's.
+    pub fn close<S: Store>(
+        &mut self,
+        alloc: Global,
+        store: &mut S,
+        text: Vec<u8>,
+        held: bool,
+    ) -> Result<Finished, Stop>
+        requires count { S.faults store.old < 2 ^ 60 }
+        requires receipt { (b : Beginning) × (outputs : List Event) × IsReceipt b outputs self.old (S.files store.old) }
+        ensures cause { StopCount result (S.faults store.old) (S.faults store.new) }
+        ensures writes { (b : Beginning) (outputs : List Event) → IsReceipt b outputs self.old (S.files store.old) →
+            Writes (λ o. o ≡ closed_outcome b outputs held text.items) (names_of b) result b.was (S.files store.new) }
+    {
+        let table = table_of(alloc, &self.spans)?;
+        let output = usize::from(self.ahead) + self.channels.len();
+        self.outputs.put(alloc, store, output, &table)?;
+        self.outputs.finish(alloc, store)?;
+        Ok(Finished { held, text })
+    }
+
+    /// Nothing more comes, and the text is that of what came, behind `before`.
     pub fn finish<S: Store>(
         &mut self,
         alloc: Global,
@@ -200,13 +265,9 @@ impl Receipt {
         requires receipt { (b : Beginning) × (outputs : List Event) × IsReceipt b outputs self.old (S.files store.old) }
         ensures cause { StopCount result (S.faults store.old) (S.faults store.new) }
         ensures writes { (b : Beginning) (outputs : List Event) → IsReceipt b outputs self.old (S.files store.old) →
-            Writes (λ o. o ≡ received_outcome b.setting b.link_type b.prefix before.items outputs) (names_of b) result b.was (S.files store.new) }
+            Writes (λ o. o ≡ closed_outcome b outputs false (before.items ++ received_text b.setting outputs)) (names_of b) result b.was (S.files store.new) }
     {
-        let text = text_of(alloc, before, &self.channels, &self.spans, &self.drops)?;
-        let table = table_of(alloc, &self.spans)?;
-        let place = self.channels.len();
-        self.outputs.put(alloc, store, place, &table)?;
-        self.outputs.finish(alloc, store)?;
-        Ok(Finished { held: false, text })
+        let text = self.lines(alloc, before)?;
+        self.close(alloc, store, text, false)
     }
 }

@@ -1,17 +1,16 @@
 -- `burst` of a capture is lawful: its packets have one stream, of which all is sent; and how its reading ends.
 use Rattle.std.proofs.Common.{◌≡◌, ℕ, zero, suc, ◌<◌, List, [], ◌∷◌, map, refl, sym, ◌∙◌, subst, arith, All, Option, IfSome, Result, Ok, Err, Vec, Bor, Global}
 use Rattle.std.proofs.lemmas.List.Elements.{All-map}
-use Rattle.lk_base.specs.declared.word.Word.{Word}
 use Rattle.lk_base.specs.Limits.{longest_packet, capture_limit}
-use Rattle.stream_model.specs.BurstStream.{IsPacket, IsBurstStream, IsHeld}
+use Rattle.stream_model.specs.BurstStream.{IsPacket}
 use Rattle.stream_model.proofs.Free.{free_is_not_held}
 use Rattle.stream_model.proofs.SomeStream.{of_fitting}
 use Rattle.words_files.specs.WordsFile.{words_file}
 use Rattle.pcap_files.specs.Capture.{capture_of}
-use Rattle.lk_outside.specs.Files.{Files, AreBytes}
+use Rattle.lk_outside.specs.Files.{Files}
 use Rattle.run_shell.specs.declared.stop.Stop.{Stop}
 use Rattle.run_shell.specs.Meaning.{IsMeaning}
-use Rattle.run_shell.specs.Outcome.{Output, Outcome}
+use Rattle.run_shell.specs.Outcome.{Outcome}
 use Rattle.run_shell.specs.Stops.{Comes}
 use Rattle.run_shell.specs.Reading.{IsWork, Reads, bytes_in, vec_items}
 use Rattle.run_shell.proofs.Moves.{if_told}

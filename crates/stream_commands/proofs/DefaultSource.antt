@@ -3,8 +3,6 @@ use Rattle.std.proofs.Common.{◌≡◌, ℕ, List, [], ◌∷◌, refl, ap, ◌
 use Rattle.lk_base.specs.Link.{Settings}
 use Rattle.lk_base.specs.declared.shape.Shape.{Shape}
 use Rattle.stream_model.specs.BurstStream.{Source}
-use Rattle.stream_model.specs.declared.rows.FlowRow.{FlowRow}
-use Rattle.stream_model.specs.declared.rows.LocalRow.{LocalRow}
 use Rattle.tx_end.specs.Sources.{packets_by, source_by}
 use Rattle.tx_end.specs.declared.packet.Packet.{Packet}
 use Rattle.tx_end.proofs.Shapes.{same_shape}

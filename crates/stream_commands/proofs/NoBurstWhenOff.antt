@@ -1,11 +1,11 @@
 -- No burst starts on a channel that is off; and without flow rows nothing is held.
-use Rattle.std.proofs.Common.{◌≡◌, ◌∙◌, ℕ, List, [], length, take, subst, IsTrue, arith}
+use Rattle.std.proofs.Common.{◌≡◌, ◌∙◌, ℕ, List, length, take, subst, IsTrue, arith}
 use Rattle.std.proofs.lemmas.Option.{slice_get_within}
 use Rattle.std.proofs.lemmas.List.{length-take-le}
 use Rattle.lk_base.specs.Fields.{channel_field}
 use Rattle.lk_base.specs.declared.word.Word.{Word}
 use Rattle.lk_base.specs.declared.word.Word.TheVariants.{Control}
-use Rattle.stream_model.specs.BurstStream.{Source, IsAt}
+use Rattle.stream_model.specs.BurstStream.{IsAt}
 use Rattle.stream_model.specs.Calendar.{is_on}
 use Rattle.stream_model.specs.declared.rows.FlowRow.{FlowRow}
 use Rattle.stream_model.proofs.Free.{free_is_not_held}

@@ -1,7 +1,6 @@
 -- What stands of a stream's files while they are filled.
-use Rattle.std.proofs.Common.{◌≡◌, ℕ, zero, suc, ◌<◌, ◌≤◌, ◌+◌, ◌-◌, List, [], ◌∷◌, ◌++◌, length, map, take, drop, refl, sym, ap, ◌∙◌, subst, arith, Option, Some, None, Result, Ok, Err, Contains, append-nil, append_assoc}
-use Rattle.std.specs.Prelude.{set, get_or}
-use Rattle.std.specs.List.{flat_map, range_with_len}
+use Rattle.std.proofs.Common.{◌≡◌, ℕ, ◌≤◌, ◌-◌, List, [], ◌∷◌, ◌++◌, length, map, take, drop, refl, sym, ap, ◌∙◌, subst, arith, Option, Result, Ok, Err, Contains, append-nil, append_assoc}
+use Rattle.std.specs.Prelude.{set, get_or, is_some}
 use Rattle.std.proofs.lemmas.List.{take-append-drop, length-map}
 use Rattle.std.proofs.Math.Seq.{take-add}
 use Rattle.lk_base.specs.declared.word.Word.{Word}
@@ -14,7 +13,7 @@ use Rattle.run_shell.specs.declared.stop.Finished.{Finished}
 use Rattle.run_shell.specs.Outcome.{Output, Outcome, Holds, HoldsPart}
 use Rattle.run_shell.specs.Stops.{StoreStops, held_status}
 use Rattle.run_shell.specs.Open.{Open}
-use Rattle.run_shell.specs.Outputs.{outs, blank, Prefixes, open_names, IsOpen, Grown, Closed}
+use Rattle.run_shell.specs.Outputs.{outs, blank, Prefixes, open_names, IsOpen, Grown}
 use Rattle.run_shell.specs.Writing.{Writes, Begin}
 use Rattle.tx_end.proofs.Shapes.{whole_groups}
 use Rattle.run_shell.proofs.Moves.{told_by}
@@ -23,10 +22,12 @@ use Rattle.run_shell.proofs.Writing.{stop_writes, none_writes, open_writes, done
 use Rattle.stream_commands.specs.declared.form.StreamForm.{StreamForm}
 use Rattle.stream_commands.specs.declared.form.StreamForm.TheVariants as form
 use Rattle.stream_commands.specs.declared.stream.PayloadStream.{PayloadStream}
-use Rattle.stream_commands.specs.Stream.{IsOfStream, HasStream}
+use Rattle.stream_commands.specs.Stream.{HasStream}
 use Rattle.stream_commands.specs.Form.{made_by, names_by, ContentsOf, Suits}
 use Rattle.stream_commands.specs.Fill.{count_by, AreWhole, Filled}
-use Rattle.stream_commands.specs.Text.{IsStreamOf}
+use Rattle.stream_commands.specs.Payload.{IsStreamOf}
+use Rattle.stream_commands.specs.Text.{held_text}
+use Rattle.stream_commands.proofs.Counted.{status_by, text_by}
 use Rattle.stream_commands.proofs.OneOutcome.{stream_is}
 use Rattle.stream_commands.proofs.LaneContents.{one_contents}
 use Rattle.stream_commands.proofs.OutputNames.{names_count}
@@ -182,8 +183,15 @@ module _ (f : StreamForm) (prefix : List ℕ) (source : Source) where
   not_closed T ns w s contents x y is stream are store h =
       not_filled T ns w s x y is stream store (contents, (λ others of. subst (Prefixes contents) (one_of_form f w contents others are of) (same_prefixes contents)), h)
 
-  pub all_filled : (ns : List (List ℕ)) (s : PayloadStream) (contents : List (List ℕ)) (done : Finished) (x y : Option Files) → ns ≡ names → IsStreamOf source s → ContentsOf f s.words.items contents → done.held ≡ s.held → done.text.items ≡ s.text.items → Told x y (Holds (outs ns contents)) → Writes Of names (Ok done) x y
+  pub all_filled : (ns : List (List ℕ)) (s : PayloadStream) (contents : List (List ℕ)) (done : Finished) (x y : Option Files) → ns ≡ names → IsStreamOf source s → ContentsOf f s.words.items contents → done.held ≡ is_some s.held → done.text.items ≡ s.lines.items ++ held_text s.held → Told x y (Holds (outs ns contents)) → Writes Of names (Ok done) x y
   all_filled ns s contents done x y is stream are held text h =
-      done_writes Of names done contents (record { status = held_status s.held; files = outs names contents; text = s.text.items }) x y
-      (s.words.items, record { stream = stream.stream; status = stream.status; files = are_files f prefix s.words.items contents are; text = stream.text })
-      (ap held_status held) text refl (subst (λ ms. Told x y (Holds (outs ms contents))) is h)
+      done_writes Of names done contents (record { status = held_status (is_some s.held); files = outs names contents; text = done.text.items }) x y (
+        s.words.items,
+        record {
+          stream = stream.stream;
+          status = status_by source s.words.items s.held stream.held stream.free;
+          files = are_files f prefix s.words.items contents are;
+          text = text_by source s.words.items s.held s.lines.items done.text.items stream.held stream.free stream.lines text;
+        },
+      )
+      (ap held_status held) refl refl (subst (λ ms. Told x y (Holds (outs ms contents))) is h)

@@ -3,7 +3,6 @@ use Rattle.std.proofs.Common.{◌≡◌, ◌⊎◌, ℕ, List, refl, sym, ◌∙
 use Rattle.lk_base.specs.declared.word.Word.{Word}
 use Rattle.lk_base.specs.Link.{Settings, group_of}
 use Rattle.stream_model.specs.BurstStream.{Source, IsBurstStream, IsHeld}
-use Rattle.words_files.specs.WordsFile.{words_file}
 use Rattle.lk_outside.specs.Files.{Files, AreBytes}
 use Rattle.run_shell.specs.declared.status.Status.TheVariants.{Done, Held}
 use Rattle.run_shell.specs.declared.stop.Stop.{Stop}
@@ -20,8 +19,8 @@ use Rattle.plan_inputs.proofs.PlanStream.{planned_stream}
 use Rattle.stream_commands.specs.declared.form.StreamForm.{StreamForm}
 use Rattle.stream_commands.specs.declared.form.StreamForm.TheVariants as form
 use Rattle.stream_commands.specs.Stream.{IsOfStream, HasStream}
-use Rattle.stream_commands.specs.Outputs.{words_name, IsWordsFile, AreLaneOutputs}
-use Rattle.stream_commands.specs.Plan.{IsOfPlan, HasPlanStream, IsPlanHeld, burst_plan_work, burst_plan_meaning, send_plan_work, send_plan_meaning}
+use Rattle.stream_commands.specs.Outputs.{IsWordsFile, AreLaneOutputs}
+use Rattle.stream_commands.specs.Plan.{HasPlanStream, IsPlanHeld, burst_plan_work, burst_plan_meaning, send_plan_work, send_plan_meaning}
 use Rattle.stream_commands.specs.Form.{made_by, names_by, Suits, IsFormOf}
 use Rattle.stream_commands.proofs.OneOutcome.{one_outcome, status_cases}
 use Rattle.stream_commands.proofs.SomeOutcome.{some_outcome}

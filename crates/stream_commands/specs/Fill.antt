@@ -1,5 +1,5 @@
 -- Outputs that are filled with a stream.
-use Rattle.std.specs.Prelude.{◌≡◌, ℕ, ◌%◌, List, [], ◌∷◌, ◌++◌, length, map, take, drop, Option, Result, Ok, Err}
+use Rattle.std.specs.Prelude.{◌≡◌, ℕ, ◌%◌, List, length, Option, Result, Ok, Err}
 use Rattle.lk_base.specs.declared.word.Word.{Word}
 use Rattle.lk_base.specs.Link.{group_of}
 use Rattle.lk_outside.specs.Files.{Files, Told}

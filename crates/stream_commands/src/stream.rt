@@ -1,10 +1,10 @@
 //! The stream of a source, with its text.
 ghost use Rattle.std.specs.Prelude.{IfOk};
 ghost use Rattle.stream_commands.specs.Source.{source_of, IsKept};
-ghost use Rattle.stream_commands.specs.Text.{IsStreamOf};
+ghost use Rattle.stream_commands.specs.Payload.{IsStreamOf};
 
 use crate::source::StreamSource;
-use crate::text::stream_text;
+use crate::text::stream_lines;
 use lk_base::{OutOfMemory, Word};
 use std::alloc::Global;
 use tx_end::{Made, count_sent, words_of};
@@ -14,13 +14,13 @@ use tx_end::{Made, count_sent, words_of};
 pub struct PayloadStream {
     /// Its words.
     pub words: Vec<Word>,
-    /// Whether bytes are left at its finish.
-    pub held: bool,
-    /// The text that the command prints.
-    pub text: Vec<u8>,
+    /// The least listed channel that has bytes left at its finish, if there is one.
+    pub held: Option<u16>,
+    /// The lines of its channels and of its slots.
+    pub lines: Vec<u8>,
 }
 
-/// The stream of a source, whether it is held, and its text.
+/// The stream of a source, the channel that holds it, and its lines.
 pub fn stream_of(alloc: Global, source: &StreamSource) -> Result<PayloadStream, OutOfMemory>
     requires { IsKept source.now }
     ensures { IfOk result (IsStreamOf (source_of source.now)) }
@@ -35,7 +35,6 @@ pub fn stream_of(alloc: Global, source: &StreamSource) -> Result<PayloadStream, 
         source.local,
     )?;
     let counts = count_sent(alloc, source.shape, source.channels, source.packets, &words)?;
-    let text = stream_text(alloc, &counts, words.len() as u64, held)?;
-    let held = held.is_some();
-    Ok(PayloadStream { words, held, text })
+    let lines = stream_lines(alloc, &counts, words.len() as u64)?;
+    Ok(PayloadStream { words, held, lines })
 }

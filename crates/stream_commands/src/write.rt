@@ -16,6 +16,7 @@ use crate::form::StreamForm;
 use crate::names::output_names;
 use crate::source::StreamSource;
 use crate::stream::{PayloadStream, stream_of};
+use crate::text::ended_by;
 use lk_base::{Link, OutOfMemory, Word};
 use lk_outside::Store;
 use run_shell::{Finished, Outputs, Stop};
@@ -132,8 +133,12 @@ pub fn write_stream<S: Store>(
 {
     let names = output_names(alloc, form, prefix)?;
     let mut outputs = Outputs::create(alloc, store, names)?;
-    let PayloadStream { words, held, text } = stream_of(alloc, source)?;
+    let PayloadStream { words, held, lines } = stream_of(alloc, source)?;
+    let text = ended_by(alloc, lines, held)?;
     fill(alloc, store, &mut outputs, form, words)?;
     outputs.finish(alloc, store)?;
-    Ok(Finished { held, text })
+    Ok(Finished {
+        held: held.is_some(),
+        text,
+    })
 }

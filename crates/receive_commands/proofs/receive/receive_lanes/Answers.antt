@@ -22,8 +22,8 @@ returns-in_err-channels-clause-fills g c =
     let p = err_from_is_err_and r.result r.ensures.1 in
     let plan = c.args.read.now.plan in
     let value = plan_value plan in
-    let b : Beginning = record { setting = the_setting value; link_type = plan.link_type; prefix = value.out; was = g.S.Store.files c.args.store.now } in
-    rw (p.1, p.2) (none_fills value b (is_the_setting value) refl refl _ tt)
+    let b : Beginning = record { ahead = []; setting = the_setting value; link_type = plan.link_type; prefix = value.out; was = g.S.Store.files c.args.store.now } in
+    rw (p.1, p.2) (none_fills value b (is_the_setting value) refl refl refl _ tt)
 
 pub returns-in_err-receiver-clause-fills : goal.returns-in_err-receiver-clause-fills
 returns-in_err-receiver-clause-fills g c =
@@ -31,8 +31,8 @@ returns-in_err-receiver-clause-fills g c =
     let p = err_from_is_err_and r.result r.ensures.1 in
     let plan = c.args.read.now.plan in
     let value = plan_value plan in
-    let b : Beginning = record { setting = the_setting value; link_type = plan.link_type; prefix = value.out; was = g.S.Store.files c.args.store.now } in
-    rw (p.1, p.2) (none_fills value b (is_the_setting value) refl refl _ tt)
+    let b : Beginning = record { ahead = []; setting = the_setting value; link_type = plan.link_type; prefix = value.out; was = g.S.Store.files c.args.store.now } in
+    rw (p.1, p.2) (none_fills value b (is_the_setting value) refl refl refl _ tt)
 
 pub returns-in_err-offsets-clause-fills : goal.returns-in_err-offsets-clause-fills
 returns-in_err-offsets-clause-fills g c =
@@ -40,20 +40,20 @@ returns-in_err-offsets-clause-fills g c =
     let p = err_from_is_err_and r.result r.ensures.1 in
     let plan = c.args.read.now.plan in
     let value = plan_value plan in
-    let b : Beginning = record { setting = the_setting value; link_type = plan.link_type; prefix = value.out; was = g.S.Store.files c.args.store.now } in
-    rw (p.1, p.2) (none_fills value b (is_the_setting value) refl refl _ tt)
+    let b : Beginning = record { ahead = []; setting = the_setting value; link_type = plan.link_type; prefix = value.out; was = g.S.Store.files c.args.store.now } in
+    rw (p.1, p.2) (none_fills value b (is_the_setting value) refl refl refl _ tt)
 
 pub returns-in_err-receipt-clause-fills : goal.returns-in_err-receipt-clause-fills
 returns-in_err-receipt-clause-fills g c =
     let plan = c.args.read.now.plan in
     let value = plan_value plan in
     let prefixed = c.as_str.ensures.value in
-    let b : Beginning = record { setting = the_setting value; link_type = plan.link_type; prefix = c.as_str.result.now; was = g.S.Store.files c.args.store.now } in
+    let b : Beginning = record { ahead = []; setting = the_setting value; link_type = plan.link_type; prefix = c.as_str.result.now; was = g.S.Store.files c.args.store.now } in
     let order = plan_order plan c.deref.result.now (c.deref.ensures.value ∙ c.in_ok-channels.ensures ∙ ap (λ cs. channels_in_order (numbers_of cs)) c.as_slice.ensures.value) in
     let r = c.from_residual-in_err-receipt in
     let p = err_from_is_err_and r.result r.ensures.1 in
     let from = nothing_there value.out plan.link.lanes (names_of_lanes value) (g.S.Store.files c.args.store.now) refl c.requires.there in
-    rw (p.1, p.2) (broken_fills value b (is_the_setting value) refl prefixed c.in_err-receipt.field-0.0 _
+    rw (p.1, p.2) (broken_fills value b (is_the_setting value) refl prefixed refl c.in_err-receipt.field-0.0 _
     (open_broken b value.settings (names_of_lanes value) (nothing_fed plan.link.lanes) c.in_err-receipt.field-0.0 _ from (c.in_err-receipt.ensures.opens (the_setting value) (sym order))))
 
 pub returns-in_err-receipt-clause-others : goal.returns-in_err-receipt-clause-others
@@ -61,12 +61,12 @@ returns-in_err-receipt-clause-others g c =
     let plan = c.args.read.now.plan in
     let value = plan_value plan in
     let prefixed = c.as_str.ensures.value in
-    let b : Beginning = record { setting = the_setting value; link_type = plan.link_type; prefix = c.as_str.result.now; was = g.S.Store.files c.args.store.now } in
+    let b : Beginning = record { ahead = []; setting = the_setting value; link_type = plan.link_type; prefix = c.as_str.result.now; was = g.S.Store.files c.args.store.now } in
     let order = plan_order plan c.deref.result.now (c.deref.ensures.value ∙ c.in_ok-channels.ensures ∙ ap (λ cs. channels_in_order (numbers_of cs)) c.as_slice.ensures.value) in
     let r = c.from_residual-in_err-receipt in
     let p = err_from_is_err_and r.result r.ensures.1 in
     let from = nothing_there value.out plan.link.lanes (names_of_lanes value) (g.S.Store.files c.args.store.now) refl c.requires.there in
-    (broken_leaves value b (is_the_setting value) refl prefixed c.in_err-receipt.field-0.0 _
+    (broken_leaves value b (is_the_setting value) refl prefixed refl c.in_err-receipt.field-0.0 _
     (open_broken b value.settings (names_of_lanes value) (nothing_fed plan.link.lanes) c.in_err-receipt.field-0.0 _ from (c.in_err-receipt.ensures.opens (the_setting value) (sym order))))
 
 pub take_lanes-requires-clause-few : goal.take_lanes-requires-clause-few
@@ -91,7 +91,7 @@ take_lanes-requires-clause-apart g c q among output =
     let plan = c.args.read.now.plan in
     let value = plan_value plan in
     let prefixed = c.as_str.ensures.value in
-    let b : Beginning = record { setting = the_setting value; link_type = plan.link_type; prefix = c.as_str.result.now; was = g.S.Store.files c.args.store.now } in
+    let b : Beginning = record { ahead = []; setting = the_setting value; link_type = plan.link_type; prefix = c.as_str.result.now; was = g.S.Store.files c.args.store.now } in
     let order = plan_order plan c.deref.result.now (c.deref.ensures.value ∙ c.in_ok-channels.ensures ∙ ap (λ cs. channels_in_order (numbers_of cs)) c.as_slice.ensures.value) in
     let named : map string_bytes c.as_slice-names.result.now ≡ names_of_lanes value = ap (map string_bytes) c.as_slice-names.ensures.value ∙ c.requires.names in
     let stands = begin_stands plan c.in_ok-receiver.receiver (λ setting is. c.in_ok-receiver.ensures setting is) in
@@ -104,7 +104,7 @@ take_lanes-requires-clause-taking g c =
     let plan = c.args.read.now.plan in
     let value = plan_value plan in
     let prefixed = c.as_str.ensures.value in
-    let b : Beginning = record { setting = the_setting value; link_type = plan.link_type; prefix = c.as_str.result.now; was = g.S.Store.files c.args.store.now } in
+    let b : Beginning = record { ahead = []; setting = the_setting value; link_type = plan.link_type; prefix = c.as_str.result.now; was = g.S.Store.files c.args.store.now } in
     let order = plan_order plan c.deref.result.now (c.deref.ensures.value ∙ c.in_ok-channels.ensures ∙ ap (λ cs. channels_in_order (numbers_of cs)) c.as_slice.ensures.value) in
     let named : map string_bytes c.as_slice-names.result.now ≡ names_of_lanes value = ap (map string_bytes) c.as_slice-names.ensures.value ∙ c.requires.names in
     let count : length c.as_slice-names.result.now ≡ plan.link.lanes = names_count string_bytes c.as_slice-names.result.now value.out plan.link.lanes named in
@@ -121,7 +121,7 @@ returns-in_err-take_lanes-clause-fills g c =
     let plan = c.args.read.now.plan in
     let value = plan_value plan in
     let prefixed = c.as_str.ensures.value in
-    let b : Beginning = record { setting = the_setting value; link_type = plan.link_type; prefix = c.as_str.result.now; was = g.S.Store.files c.args.store.now } in
+    let b : Beginning = record { ahead = []; setting = the_setting value; link_type = plan.link_type; prefix = c.as_str.result.now; was = g.S.Store.files c.args.store.now } in
     let order = plan_order plan c.deref.result.now (c.deref.ensures.value ∙ c.in_ok-channels.ensures ∙ ap (λ cs. channels_in_order (numbers_of cs)) c.as_slice.ensures.value) in
     let named : map string_bytes c.as_slice-names.result.now ≡ names_of_lanes value = ap (map string_bytes) c.as_slice-names.ensures.value ∙ c.requires.names in
     let count : length c.as_slice-names.result.now ≡ plan.link.lanes = names_count string_bytes c.as_slice-names.result.now value.out plan.link.lanes named in
@@ -133,7 +133,7 @@ returns-in_err-take_lanes-clause-fills g c =
     let from = nothing_there value.out plan.link.lanes (map string_bytes c.as_slice-names.result.now) (g.S.Store.files c.args.store.now) named c.requires.there in
     let r = c.from_residual-in_err-take_lanes in
     let p = err_from_is_err_and r.result r.ensures.1 in
-    rw (p.1, p.2) (broken_fills value b (is_the_setting value) refl prefixed c.in_err-take_lanes.field-0.0 _
+    rw (p.1, p.2) (broken_fills value b (is_the_setting value) refl prefixed refl c.in_err-take_lanes.field-0.0 _
     (subst (λ ns. IsBroken b value.settings ns c.in_err-take_lanes.field-0.0 (g.S.Store.files c.take_lanes.new.store)) named
     (c.in_err-take_lanes.ensures.receives b value.settings (nothing_fed plan.link.lanes) [] taking offsets from)))
 
@@ -142,7 +142,7 @@ returns-in_err-take_lanes-clause-others g c =
     let plan = c.args.read.now.plan in
     let value = plan_value plan in
     let prefixed = c.as_str.ensures.value in
-    let b : Beginning = record { setting = the_setting value; link_type = plan.link_type; prefix = c.as_str.result.now; was = g.S.Store.files c.args.store.now } in
+    let b : Beginning = record { ahead = []; setting = the_setting value; link_type = plan.link_type; prefix = c.as_str.result.now; was = g.S.Store.files c.args.store.now } in
     let order = plan_order plan c.deref.result.now (c.deref.ensures.value ∙ c.in_ok-channels.ensures ∙ ap (λ cs. channels_in_order (numbers_of cs)) c.as_slice.ensures.value) in
     let named : map string_bytes c.as_slice-names.result.now ≡ names_of_lanes value = ap (map string_bytes) c.as_slice-names.ensures.value ∙ c.requires.names in
     let count : length c.as_slice-names.result.now ≡ plan.link.lanes = names_count string_bytes c.as_slice-names.result.now value.out plan.link.lanes named in
@@ -154,7 +154,7 @@ returns-in_err-take_lanes-clause-others g c =
     let from = nothing_there value.out plan.link.lanes (map string_bytes c.as_slice-names.result.now) (g.S.Store.files c.args.store.now) named c.requires.there in
     let r = c.from_residual-in_err-take_lanes in
     let p = err_from_is_err_and r.result r.ensures.1 in
-    (broken_leaves value b (is_the_setting value) refl prefixed c.in_err-take_lanes.field-0.0 _
+    (broken_leaves value b (is_the_setting value) refl prefixed refl c.in_err-take_lanes.field-0.0 _
     (subst (λ ns. IsBroken b value.settings ns c.in_err-take_lanes.field-0.0 (g.S.Store.files c.take_lanes.new.store)) named
     (c.in_err-take_lanes.ensures.receives b value.settings (nothing_fed plan.link.lanes) [] taking offsets from)))
 
@@ -163,7 +163,7 @@ lane_lines-requires g c =
     let plan = c.args.read.now.plan in
     let value = plan_value plan in
     let prefixed = c.as_str.ensures.value in
-    let b : Beginning = record { setting = the_setting value; link_type = plan.link_type; prefix = c.as_str.result.now; was = g.S.Store.files c.args.store.now } in
+    let b : Beginning = record { ahead = []; setting = the_setting value; link_type = plan.link_type; prefix = c.as_str.result.now; was = g.S.Store.files c.args.store.now } in
     let order = plan_order plan c.deref.result.now (c.deref.ensures.value ∙ c.in_ok-channels.ensures ∙ ap (λ cs. channels_in_order (numbers_of cs)) c.as_slice.ensures.value) in
     let named : map string_bytes c.as_slice-names.result.now ≡ names_of_lanes value = ap (map string_bytes) c.as_slice-names.ensures.value ∙ c.requires.names in
     let count : length c.as_slice-names.result.now ≡ plan.link.lanes = names_count string_bytes c.as_slice-names.result.now value.out plan.link.lanes named in
@@ -185,7 +185,7 @@ returns-in_err-text-clause-fills g c =
     let plan = c.args.read.now.plan in
     let value = plan_value plan in
     let prefixed = c.as_str.ensures.value in
-    let b : Beginning = record { setting = the_setting value; link_type = plan.link_type; prefix = c.as_str.result.now; was = g.S.Store.files c.args.store.now } in
+    let b : Beginning = record { ahead = []; setting = the_setting value; link_type = plan.link_type; prefix = c.as_str.result.now; was = g.S.Store.files c.args.store.now } in
     let order = plan_order plan c.deref.result.now (c.deref.ensures.value ∙ c.in_ok-channels.ensures ∙ ap (λ cs. channels_in_order (numbers_of cs)) c.as_slice.ensures.value) in
     let named : map string_bytes c.as_slice-names.result.now ≡ names_of_lanes value = ap (map string_bytes) c.as_slice-names.ensures.value ∙ c.requires.names in
     let count : length c.as_slice-names.result.now ≡ plan.link.lanes = names_count string_bytes c.as_slice-names.result.now value.out plan.link.lanes named in
@@ -200,7 +200,7 @@ returns-in_err-text-clause-fills g c =
     (c.in_ok-take_lanes.ensures.receives b value.settings (nothing_fed plan.link.lanes) [] taking offsets from) in
     let r = c.from_residual-in_err-text in
     let p = err_from_is_err_and r.result r.ensures.1 in
-    rw (p.1, p.2) (broken_fills value b (is_the_setting value) refl prefixed _ _
+    rw (p.1, p.2) (broken_fills value b (is_the_setting value) refl prefixed refl _ _
     (memory_broken b value.settings (names_of_lanes value) c.take_lanes.new.receiver c.take_lanes.new.receipt _ all))
 
 pub returns-in_err-text-clause-others : goal.returns-in_err-text-clause-others
@@ -208,7 +208,7 @@ returns-in_err-text-clause-others g c =
     let plan = c.args.read.now.plan in
     let value = plan_value plan in
     let prefixed = c.as_str.ensures.value in
-    let b : Beginning = record { setting = the_setting value; link_type = plan.link_type; prefix = c.as_str.result.now; was = g.S.Store.files c.args.store.now } in
+    let b : Beginning = record { ahead = []; setting = the_setting value; link_type = plan.link_type; prefix = c.as_str.result.now; was = g.S.Store.files c.args.store.now } in
     let order = plan_order plan c.deref.result.now (c.deref.ensures.value ∙ c.in_ok-channels.ensures ∙ ap (λ cs. channels_in_order (numbers_of cs)) c.as_slice.ensures.value) in
     let named : map string_bytes c.as_slice-names.result.now ≡ names_of_lanes value = ap (map string_bytes) c.as_slice-names.ensures.value ∙ c.requires.names in
     let count : length c.as_slice-names.result.now ≡ plan.link.lanes = names_count string_bytes c.as_slice-names.result.now value.out plan.link.lanes named in
@@ -223,7 +223,7 @@ returns-in_err-text-clause-others g c =
     (c.in_ok-take_lanes.ensures.receives b value.settings (nothing_fed plan.link.lanes) [] taking offsets from) in
     let r = c.from_residual-in_err-text in
     let p = err_from_is_err_and r.result r.ensures.1 in
-    (broken_leaves value b (is_the_setting value) refl prefixed _ _
+    (broken_leaves value b (is_the_setting value) refl prefixed refl _ _
     (memory_broken b value.settings (names_of_lanes value) c.take_lanes.new.receiver c.take_lanes.new.receipt _ all))
 
 pub finish-requires-clause-receipt : goal.finish-requires-clause-receipt
@@ -231,7 +231,7 @@ finish-requires-clause-receipt g c =
     let plan = c.args.read.now.plan in
     let value = plan_value plan in
     let prefixed = c.as_str.ensures.value in
-    let b : Beginning = record { setting = the_setting value; link_type = plan.link_type; prefix = c.as_str.result.now; was = g.S.Store.files c.args.store.now } in
+    let b : Beginning = record { ahead = []; setting = the_setting value; link_type = plan.link_type; prefix = c.as_str.result.now; was = g.S.Store.files c.args.store.now } in
     let order = plan_order plan c.deref.result.now (c.deref.ensures.value ∙ c.in_ok-channels.ensures ∙ ap (λ cs. channels_in_order (numbers_of cs)) c.as_slice.ensures.value) in
     let named : map string_bytes c.as_slice-names.result.now ≡ names_of_lanes value = ap (map string_bytes) c.as_slice-names.ensures.value ∙ c.requires.names in
     let count : length c.as_slice-names.result.now ≡ plan.link.lanes = names_count string_bytes c.as_slice-names.result.now value.out plan.link.lanes named in
@@ -251,7 +251,7 @@ returns-clause-others g c =
     let plan = c.args.read.now.plan in
     let value = plan_value plan in
     let prefixed = c.as_str.ensures.value in
-    let b : Beginning = record { setting = the_setting value; link_type = plan.link_type; prefix = c.as_str.result.now; was = g.S.Store.files c.args.store.now } in
+    let b : Beginning = record { ahead = []; setting = the_setting value; link_type = plan.link_type; prefix = c.as_str.result.now; was = g.S.Store.files c.args.store.now } in
     let order = plan_order plan c.deref.result.now (c.deref.ensures.value ∙ c.in_ok-channels.ensures ∙ ap (λ cs. channels_in_order (numbers_of cs)) c.as_slice.ensures.value) in
     let named : map string_bytes c.as_slice-names.result.now ≡ names_of_lanes value = ap (map string_bytes) c.as_slice-names.ensures.value ∙ c.requires.names in
     let count : length c.as_slice-names.result.now ≡ plan.link.lanes = names_count string_bytes c.as_slice-names.result.now value.out plan.link.lanes named in
@@ -264,14 +264,14 @@ returns-clause-others g c =
     let all : AllReceived b value.settings (names_of_lanes value) c.take_lanes.new.receiver c.take_lanes.new.receipt (g.S.Store.files c.take_lanes.new.store) =
     subst (λ ns. AllReceived b value.settings ns c.take_lanes.new.receiver c.take_lanes.new.receipt (g.S.Store.files c.take_lanes.new.store)) named
     (c.in_ok-take_lanes.ensures.receives b value.settings (nothing_fed plan.link.lanes) [] taking offsets from) in
-    written_leaves value b (is_the_setting value) refl prefixed _ c.finish.result _ (c.finish.ensures.writes b all.given all.drained.taking.receipt)
+    written_leaves value b (is_the_setting value) refl prefixed refl _ c.finish.result _ (c.finish.ensures.writes b all.given all.drained.taking.receipt)
 
 pub returns-clause-fills : goal.returns-clause-fills
 returns-clause-fills g c =
     let plan = c.args.read.now.plan in
     let value = plan_value plan in
     let prefixed = c.as_str.ensures.value in
-    let b : Beginning = record { setting = the_setting value; link_type = plan.link_type; prefix = c.as_str.result.now; was = g.S.Store.files c.args.store.now } in
+    let b : Beginning = record { ahead = []; setting = the_setting value; link_type = plan.link_type; prefix = c.as_str.result.now; was = g.S.Store.files c.args.store.now } in
     let order = plan_order plan c.deref.result.now (c.deref.ensures.value ∙ c.in_ok-channels.ensures ∙ ap (λ cs. channels_in_order (numbers_of cs)) c.as_slice.ensures.value) in
     let named : map string_bytes c.as_slice-names.result.now ≡ names_of_lanes value = ap (map string_bytes) c.as_slice-names.ensures.value ∙ c.requires.names in
     let count : length c.as_slice-names.result.now ≡ plan.link.lanes = names_count string_bytes c.as_slice-names.result.now value.out plan.link.lanes named in
@@ -285,6 +285,6 @@ returns-clause-fills g c =
     subst (λ ns. AllReceived b value.settings ns c.take_lanes.new.receiver c.take_lanes.new.receipt (g.S.Store.files c.take_lanes.new.store)) named
     (c.in_ok-take_lanes.ensures.receives b value.settings (nothing_fed plan.link.lanes) [] taking offsets from) in
     let (reports, counted, text, each) = c.in_ok-text.ensures in
-    received_fills value b (is_the_setting value) refl prefixed c.take_lanes.new.receiver c.take_lanes.new.receipt _ all reports (counted ∙ c.lanes.ensures)
+    received_fills value b (is_the_setting value) refl prefixed refl c.take_lanes.new.receiver c.take_lanes.new.receipt _ all reports (counted ∙ c.lanes.ensures)
     (λ setting fed given stands lane report e. each value.settings setting fed given stands lane report e)
     c.in_ok-text.text.items c.finish.result _ text (c.finish.ensures.writes b all.given all.drained.taking.receipt)

@@ -1,4 +1,4 @@
-use Rattle.std.proofs.Common.{◌∙◌, ap, refl, List, ℕ}
+use Rattle.std.proofs.Common.{◌∙◌, ap, refl}
 use Rattle.tx_end.specs.Sources.{packets_by}
 use Rattle.stream_commands.proofs.DefaultSource.{writes_default}
 use Rattle.stream_commands.proofs.capture.burst_packets.Goals as goal

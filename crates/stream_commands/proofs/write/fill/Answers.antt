@@ -8,7 +8,7 @@ use Rattle.lk_base.specs.declared.word.Word.{Word}
 use Rattle.stream_commands.specs.declared.form.StreamForm.{StreamForm}
 use Rattle.stream_commands.specs.declared.form.StreamForm.TheVariants as form
 use Rattle.stream_commands.specs.Fill.{count_by, Filled}
-use Rattle.stream_commands.proofs.PartsOfStreams.{blank_alike, none_of, none_filled, all_given}
+use Rattle.stream_commands.proofs.PartsOfStreams.{blank_alike, none_filled, all_given}
 use Rattle.stream_commands.proofs.write.fill.Goals as goal
 
 pub put_words-requires-clause-open : goal.put_words-requires-clause-open

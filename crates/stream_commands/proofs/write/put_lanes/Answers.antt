@@ -1,11 +1,11 @@
-use Rattle.std.proofs.Common.{◌≡◌, ◌∙◌, ◌++◌, ◌+◌, sym, ap, subst, arith, rules, List, ℕ, [], ◌∷◌, length, map, append_assoc, Contains, Err, Vec, Global, Option}
+use Rattle.std.proofs.Common.{◌≡◌, ◌∙◌, ◌++◌, sym, ap, subst, arith, rules, List, ℕ, [], ◌∷◌, map, append_assoc, Contains, Err, Vec, Global}
 use Rattle.std.proofs.lemmas.Result.{err_from_is_err_and}
 use Rattle.std.proofs.lemmas.List.{length-append}
-use Rattle.lk_outside.specs.Files.{Files, Told}
+use Rattle.lk_outside.specs.Files.{Told}
 use Rattle.run_shell.specs.Outcome.{HoldsPart}
 use Rattle.run_shell.specs.Stops.{StoreStops}
 use Rattle.run_shell.specs.Outputs.{outs, Prefixes, IsOpen, Grown}
-use Rattle.stream_commands.proofs.PartsOfStreams.{part_of_more, none_of, first_given, first_prefixes, lane_given}
+use Rattle.stream_commands.proofs.PartsOfStreams.{part_of_more, first_given, first_prefixes, lane_given}
 use Rattle.stream_commands.proofs.write.put_lanes.Goals as goal
 
 pub put-requires-clause-open : goal.put-requires-clause-open

@@ -1,4 +1,4 @@
-use Rattle.std.proofs.Common.{◌≡◌, ◌++◌, List, ℕ, length, Option, Vec, Global}
+use Rattle.std.proofs.Common.{◌≡◌, ◌++◌, ℕ, length, Option, Vec, Global}
 use Rattle.lk_outside.specs.Files.{Files}
 use Rattle.run_shell.specs.Outputs.{IsOpen, open_names}
 use Rattle.stream_commands.proofs.PartsOfStreams.{none_of, first_given}

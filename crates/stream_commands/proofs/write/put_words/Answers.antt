@@ -1,4 +1,4 @@
-use Rattle.std.proofs.Common.{◌≡◌, ◌∙◌, ◌≤◌, ◌++◌, ◌-◌, sym, ap, subst, arith, List, ℕ, [], ◌∷◌, take, drop, length, Contains, Err}
+use Rattle.std.proofs.Common.{◌∙◌, ◌≤◌, ◌++◌, ◌-◌, ap, subst, arith, List, ℕ, [], ◌∷◌, take, drop, Contains, Err}
 use Rattle.std.proofs.lemmas.Result.{err_from_is_err_and}
 use Rattle.words_files.specs.WordsFile.{words_file}
 use Rattle.lk_outside.specs.Files.{Told}

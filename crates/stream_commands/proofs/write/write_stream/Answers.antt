@@ -1,8 +1,8 @@
-use Rattle.std.proofs.Common.{◌≡◌, ◌∙◌, refl, sym, ap, subst, List, ℕ, length, map, string_bytes, Ok, Err}
+use Rattle.std.proofs.Common.{◌∙◌, sym, ap, subst, List, ℕ, length}
 use Rattle.std.proofs.lemmas.Result.{err_from_is_err_and}
 use Rattle.std.proofs.lemmas.List.{length-map}
 use Rattle.run_shell.specs.Open.{Open}
-use Rattle.run_shell.specs.Outputs.{IsOpen, blank, open_names}
+use Rattle.run_shell.specs.Outputs.{IsOpen, blank}
 use Rattle.stream_commands.specs.Source.{source_of}
 use Rattle.stream_commands.proofs.OutputNames.{names_count}
 use Rattle.stream_commands.proofs.PartsOfStreams.{whole_by, no_names, not_created, no_stream, not_filled, not_closed, all_filled}
@@ -22,6 +22,13 @@ returns-in_err-outputs-clause-writes g c =
 pub returns-in_err-words-clause-writes : goal.returns-in_err-words-clause-writes
 returns-in_err-words-clause-writes g c =
     let r = c.from_residual-in_err-words in
+    let p = err_from_is_err_and r.result r.ensures.1 in
+    let opened = subst (λ (ns : List (List ℕ)). IsOpen c.in_ok-outputs.outputs (blank ns) (g.S.Store.files c.args.store.now) (g.S.Store.files c.create.new.store)) c.in_ok-names.ensures.names c.in_ok-outputs.ensures.created in
+    rw (p.1, p.2) (no_stream c.args.form.now c.args.prefix.now (source_of c.args.source.now) c.in_ok-outputs.outputs _ _ (c.in_ok-outputs.ensures.names ∙ c.in_ok-names.ensures.names) opened)
+
+pub returns-in_err-text-clause-writes : goal.returns-in_err-text-clause-writes
+returns-in_err-text-clause-writes g c =
+    let r = c.from_residual-in_err-text in
     let p = err_from_is_err_and r.result r.ensures.1 in
     let opened = subst (λ (ns : List (List ℕ)). IsOpen c.in_ok-outputs.outputs (blank ns) (g.S.Store.files c.args.store.now) (g.S.Store.files c.create.new.store)) c.in_ok-names.ensures.names c.in_ok-outputs.ensures.created in
     rw (p.1, p.2) (no_stream c.args.form.now c.args.prefix.now (source_of c.args.source.now) c.in_ok-outputs.outputs _ _ (c.in_ok-outputs.ensures.names ∙ c.in_ok-names.ensures.names) opened)
@@ -55,4 +62,4 @@ returns-clause-writes g c =
     let opened = subst (λ (ns : List (List ℕ)). IsOpen c.in_ok-outputs.outputs (blank ns) (g.S.Store.files c.args.store.now) (g.S.Store.files c.create.new.store)) (sym c.in_ok-outputs.ensures.names) c.in_ok-outputs.ensures.created in
     let (contents, are, o) = c.in_ok-fill.ensures.filled _ opened in
     all_filled c.args.form.now c.args.prefix.now (source_of c.args.source.now) _ c.in_ok-words.field-0 contents _ _ _
-    (c.in_ok-fill.ensures.names ∙ c.in_ok-outputs.ensures.names ∙ c.in_ok-names.ensures.names) c.in_ok-words.ensures are refl refl (c.in_ok-finish.ensures.closed contents _ o)
+    (c.in_ok-fill.ensures.names ∙ c.in_ok-outputs.ensures.names ∙ c.in_ok-names.ensures.names) c.in_ok-words.ensures are c.is_some.ensures c.in_ok-text.ensures (c.in_ok-finish.ensures.closed contents _ o)

@@ -1,4 +1,4 @@
-use Rattle.std.proofs.Common.{◌≡◌, refl, subst, List, ℕ, IfSome, Ok, Err, [], ◌∷◌, string_bytes}
+use Rattle.std.proofs.Common.{subst, List, ℕ, IfSome, Err, [], ◌∷◌, string_bytes}
 use Rattle.std.proofs.lemmas.Result.{err_from_is_err_and}
 use Rattle.lk_outside.specs.Files.{Told}
 use Rattle.run_shell.specs.Outcome.{LeavesOthers}

@@ -2,7 +2,7 @@ use Rattle.std.proofs.Common.{◌≡◌, take}
 use Rattle.tx_end.specs.Sources.{packets_by}
 use Rattle.plan_inputs.specs.Values.{packet_values}
 use Rattle.stream_commands.specs.Source.{AreSized}
-use Rattle.stream_commands.proofs.plan.lent.Given as goal
+use Rattle.stream_commands.proofs.plan_source.lent.Given as goal
 
 -- the packets so far are lent
 abbrev pub invariant-loop-packet : goal.invariant-loop-packet
