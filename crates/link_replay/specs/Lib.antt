@@ -1,1 +1,7 @@
 pub mod Damages
+pub mod EndLaw
+pub mod Lanes
+pub mod Places
+pub mod Runs
+pub mod Standing
+pub mod Stretches
