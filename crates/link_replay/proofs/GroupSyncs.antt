@@ -11,7 +11,7 @@ use Rattle.deskew.specs.Stands.{AreInRoom, IsInRoom, IsInside, last_sync, last_t
 use Rattle.deskew.specs.Cursor.{head_of}
 use Rattle.epoch_model.specs.Groups.{AreNear}
 use Rattle.epoch_model.specs.SoFar.{LaneSoFar}
-use Rattle.link_replay.specs.EndLaw.{GroupsTested}
+use Rattle.link_replay.proofs.EndLaw.{GroupsTested}
 use Rattle.deskew.specs.Ticks.{lane_shown, lanes_shown, steps_in}
 use Rattle.deskew.proofs.Stepped.{shown_same}
 use Rattle.link_laws.specs.Accidents.{Sent, is_number, made}

@@ -6,6 +6,7 @@ mod AllBits
 mod AtEnd
 mod Bits
 mod EndGroups
+mod EndLaw
 mod EndOfLanes
 mod EndStretches
 mod GroupSyncs

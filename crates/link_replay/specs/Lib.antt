@@ -1,5 +1,4 @@
 pub mod Damages
-pub mod EndLaw
 pub mod Lanes
 pub mod Places
 pub mod Runs

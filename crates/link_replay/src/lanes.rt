@@ -18,10 +18,7 @@ pub fn fresh_lanes(alloc: Global, link: &Link, skews: &[u32]) -> Result<Vec<Lane
     let mut lanes = Vec::new(alloc);
     for skew in skews {
         let lane = Lane::make(alloc, link, *skew)?;
-        match lanes.push(lane) {
-            Ok(()) => {}
-            Err(_) => return Err(OutOfMemory),
-        }
+        lanes.push(lane)?;
     }
     Ok(lanes)
 }
