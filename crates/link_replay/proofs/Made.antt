@@ -1,5 +1,6 @@
 -- A replay of which no bit came.
 use Rattle.std.proofs.Common.{ℕ, suc, ◌≡◌, refl, sym, ap, ◌∙◌, ◌+◌, ◌%◌, List, [], ◌∷◌, length, All, get_or, None, arith}
+use Rattle.std.proofs.lemmas.List.{length-map}
 use Rattle.lk_base.specs.declared.word.Word.{Word}
 use Rattle.lk_base.specs.Link.{Settings, IsLink, group_of}
 use Rattle.deskew.specs.States.{State}
@@ -8,7 +9,6 @@ use Rattle.link_laws.specs.Accidents.{lane_0, made}
 use Rattle.link_replay.specs.Lanes.{AreInTime, IsFresh, Lane}
 use Rattle.link_replay.specs.Standing.{AllStandAt, Replays, sent_of, skews_of}
 use Rattle.link_replay.specs.Stretches.{Running, begun}
-use Rattle.link_replay.proofs.Stepping.{length-map}
 
 fresh-stand : (s : Settings) (made i : ℕ) (lanes : List Lane) (received : List (List ℕ)) → length received ≡ length lanes → All (IsFresh s) lanes → AllStandAt s made 0 [] i lanes received
 fresh-stand s made i [] [] e h = tt
@@ -25,7 +25,7 @@ pub made-replays : (s : Settings) (skew : ℕ) (lanes : List Lane) (d : State) (
     (words : List Word) (received : List (List ℕ)) → length received ≡ s.lanes → length words % group_of s ≡ 0 →
     Replays (record { settings = s; skew = skew; lanes = lanes; deskew = d; stretch = u; groups = 0; stretches = 0 }) words received 0
 made-replays s skew lanes d u skews b link e n k fresh st words received count whole =
-    let l = length-map (λ (v : Lane). v.skew) lanes in
+    let l = length-map lanes (λ (v : Lane). v.skew) in
     let m : length lanes ≡ s.lanes = (let f = ap length e in omega (arith, l, f, n)) in
     record {
       link = link;

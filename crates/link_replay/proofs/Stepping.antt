@@ -45,15 +45,6 @@ map-at f [] i d = refl
 map-at f (x ∷ xs) zero d = refl
 map-at f (x ∷ xs) (suc i) d = map-at f xs i d
 
-pub length-map : {A B : Type 0} (f : A → B) (xs : List A) → length (map f xs) ≡ length xs
-length-map f [] = refl
-length-map f (x ∷ xs) = ap suc (length-map f xs)
-
-pub length-set : {A : Type 0} (xs : List A) (i : ℕ) (x : A) → length (set xs i x) ≡ length xs
-length-set [] i x = refl
-length-set (y ∷ xs) zero x = refl
-length-set (y ∷ xs) (suc i) x = ap suc (length-set xs i x)
-
 pub more-at : (s : Settings) (made clock : ℕ) (lanes : List Lane) (received : List (List ℕ)) (now : List Lane) (given : List LaneStep) (i : ℕ) (d w : Lane) (e bytes : List ℕ) (x : LaneStep) →
     length given ≡ i → i < length lanes → length received ≡ length lanes → FirstStepped s made clock lanes received now given → bytes ≡ get_or received i e →
     Stepped s made clock (get_or now i d) bytes w x → FirstStepped s made clock lanes received (set now i w) (given ++ x ∷ [])
@@ -74,15 +65,6 @@ sum-more (v ∷ lanes) (suc i) d lt =
     let e : suc i + 1 ≡ suc (i + 1) = omega arith in
     let more = sum-more lanes i d (omega (arith, lt)) in
     ap (λ n. strange_sum (take n (v ∷ lanes))) e ∙ omega (arith, more)
-
-pub take-get : {A : Type 0} (xs : List A) (i : ℕ) (d : A) → i < length xs → take (i + 1) xs ≡ take i xs ++ get_or xs i d ∷ []
-take-get [] i d lt = absurd (omega (arith, lt))
-take-get (x ∷ xs) zero d lt = refl
-take-get (x ∷ xs) (suc i) d lt = (let e : suc i + 1 ≡ suc (i + 1) = omega arith in ap (λ n. take n (x ∷ xs)) e ∙ ap (λ ys. x ∷ ys) (take-get xs i d (omega (arith, lt))))
-
-pub map-push : {A B : Type 0} (f : A → B) (xs : List A) (y : A) → map f (xs ++ y ∷ []) ≡ map f xs ++ f y ∷ []
-map-push f [] y = refl
-map-push f (x ∷ xs) y = ap (λ ys. f x ∷ ys) (map-push f xs y)
 
 -- no part is more than the whole
 pub sum-front : (lanes : List Lane) (i : ℕ) → strange_sum (take i lanes) ≤ strange_sum lanes

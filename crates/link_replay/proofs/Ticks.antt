@@ -1,6 +1,6 @@
 -- A replay behind one bit of the clock more.
 use Rattle.std.proofs.Common.{ℕ, zero, suc, ◌≡◌, refl, sym, ap, ap₂, ◌∙◌, subst, ◌+◌, ◌-◌, ◌*◌, ◌<◌, List, [], ◌∷◌, ◌++◌, length, map, take, get_or, arith}
-use Rattle.std.proofs.lemmas.List.{length-append, map-append}
+use Rattle.std.proofs.lemmas.List.{length-append, length-map, map-append}
 use Rattle.lk_base.specs.Checksum.{bits_of_bytes}
 use Rattle.lk_base.specs.declared.word.Aligned.{Aligned}
 use Rattle.lk_base.specs.declared.word.Aligned.TheVariants.{Break, Group, Word}
@@ -21,7 +21,6 @@ use Rattle.reassembly.specs.SoFar.{open_words}
 use Rattle.link_replay.specs.Lanes.{AreInTime, FirstStepped, Lane, StandsAt}
 use Rattle.link_replay.specs.Stretches.{IsBehindWords, strange_among}
 use Rattle.link_replay.specs.Standing.{AllStandAt, AreAllPlaces, ArePlaces, Replay, Replays, sent_of, skews_of, strange_places, stretches_so_far, with_deskew, with_lanes}
-use Rattle.link_replay.proofs.Stepping.{length-map}
 
 -- ---- the lanes
 
@@ -134,7 +133,7 @@ tick_replays v now d tick words received clock m r e n h goes =
     let made_is = made (sent_of v words) in
     let first : FirstStepped s made_is clock v.lanes received now tick = subst (λ (k : ℕ). FirstStepped s k clock v.lanes received now tick) e h in
     let skews = skews_kept s made_is clock v.lanes received now tick first in
-    let count : length now ≡ s.lanes = sym (length-map (λ (w : Lane). w.skew) now) ∙ ap length skews ∙ length-map (λ (w : Lane). w.skew) v.lanes ∙ r.count in
+    let count : length now ≡ s.lanes = sym (length-map now (λ (w : Lane). w.skew)) ∙ ap length skews ∙ length-map v.lanes (λ (w : Lane). w.skew) ∙ r.count in
     let stand = lanes_stand s made_is clock r.ticks tick 0 v.lanes received now tick n (λ j lt. (let z : 0 + j ≡ j = omega arith in ap (λ k. get_or tick k steps.Ended) z)) r.lanes_are first in
     let ticks = r.ticks ++ tick ∷ [] in
     let are : AreTicks s ticks = are_ticks s made_is (clock + 1) ticks now received count stand in

@@ -19,3 +19,6 @@ mod stretch;
 pub use counting::accidents;
 pub use counts::Accidents;
 pub use damaging::damage;
+
+#[cfg(test)]
+mod tests;

@@ -1,9 +1,9 @@
 -- Behind all bits.
 use Rattle.std.proofs.Common.{◌∙◌, ◌≤◌, length, map, arith}
+use Rattle.std.proofs.lemmas.List.{length-map}
 use Rattle.std.proofs.Math.Nat.{mul-le-mul_right}
 use Rattle.lk_base.specs.Checksum.{bits_of_bytes}
 use Rattle.link_replay.proofs.EndGroups.{map-map}
-use Rattle.link_replay.proofs.Stepping.{length-map}
 use Rattle.link_replay.proofs.AllBits.{whole}
 use Rattle.link_replay.proofs.LaneBounds.{strange_low}
 use Rattle.link_replay.proofs.counting.accidents.Goals as goal
@@ -11,7 +11,7 @@ use Rattle.link_replay.proofs.counting.accidents.Goals as goal
 pub loop-clock-init : goal.loop-clock-init
 loop-clock-init c =
     let made = c.in_ok-replay.ensures.skews in
-    let count = length-map (λ b. b.items) c.args.received.now in
+    let count = length-map c.args.received.now (λ b. b.items) in
     record {
       stands = c.in_ok-replay.ensures.stands c.args.sent.now (map (λ b. b.items) c.args.received.now) (count ∙ c.requires.received) c.requires.whole;
       settled = made.2;

@@ -1,10 +1,10 @@
 -- One more lane took its bit.
 use Rattle.std.proofs.Common.{ℕ, ◌≡◌, sym, ap, ◌∙◌, subst, ◌<◌, ◌^◌, List, [], ◌∷◌, length, map, get_or, set, arith}
-use Rattle.std.proofs.lemmas.List.{length-append}
+use Rattle.std.proofs.lemmas.List.{length-append, length-map, length-set}
 use Rattle.deskew.specs.Steps.{all_low}
 use Rattle.lock_model.specs.declared.types.LaneStep.{LaneStep}
 use Rattle.link_replay.specs.Lanes.{FirstStepped}
-use Rattle.link_replay.proofs.Stepping.{few-at, length-map, length-set, low-more, map-at, more-at, time-at}
+use Rattle.link_replay.proofs.Stepping.{few-at, low-more, map-at, more-at, time-at}
 use Rattle.link_replay.proofs.lanes.step_all.Goals as goal
 
 pub step-requires-clause-few : goal.step-requires-clause-few
@@ -12,7 +12,7 @@ step-requires-clause-few c =
     let lists = map (λ b. b.items) c.args.received.now in
     let here : get_or lists c.loop-i.i c.index-received-i.result.items ≡ c.deref.result.now =
     map-at (λ b. b.items) c.args.received.now c.loop-i.i c.index-received-i.result ∙ ap (λ b. b.items) (sym c.index-received-i.is) ∙ sym c.deref.ensures.value in
-    let n = length-map (λ b. b.items) c.args.received.now in
+    let n = length-map c.args.received.now (λ b. b.items) in
     let lt = c.loop-i-test.true in
     let k = c.requires.count in
     let low = few-at lists c.loop-i.i c.index-received-i.result.items (omega (arith, n, lt, k)) c.requires.few in
@@ -29,7 +29,7 @@ loop-i-preserved c =
     let lists = map (λ b. b.items) c.args.received.now in
     let here : c.deref.result.now ≡ get_or lists c.loop-i.i c.index-received-i.result.items =
     c.deref.ensures.value ∙ ap (λ b. b.items) c.index-received-i.is ∙ sym (map-at (λ b. b.items) c.args.received.now c.loop-i.i c.index-received-i.result) in
-    let n = length-map (λ b. b.items) c.args.received.now in
+    let n = length-map c.args.received.now (λ b. b.items) in
     let k = c.requires.count in
     record {
       count = (let a = ap length c.push.ensures.items in let b = length-append c.loop-i.steps.items (c.step.result ∷ []) in let d = c.loop-i.invariant.count in omega (arith, a, b, d));

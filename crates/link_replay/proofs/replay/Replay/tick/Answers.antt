@@ -1,12 +1,11 @@
 -- The clock moves on, and the items that are known are taken.
 use Rattle.std.proofs.Common.{◌≡◌, sym, ap, ◌∙◌, ◌+◌, ◌++◌, ◌∷◌, [], List, arith, subst, length, map}
-use Rattle.std.proofs.lemmas.List.{with_items_is}
+use Rattle.std.proofs.lemmas.List.{length-map, with_items_is}
 use Rattle.std.specs.Vec.{with_items}
 use Rattle.deskew.specs.Stands.{Stands as DeskewStands}
 use Rattle.link_replay.specs.Lanes.{FirstStepped, Lane}
 use Rattle.link_replay.specs.Standing.{Replay, Replays, skews_of, with_deskew, with_lanes}
 use Rattle.link_replay.proofs.Items.{item_keeps, item_replays}
-use Rattle.link_replay.proofs.Stepping.{length-map}
 use Rattle.link_replay.proofs.Ticks.{each_received, same_replays, tick_replays}
 use Rattle.link_replay.proofs.Told.{few_given, tells_item}
 use Rattle.link_replay.proofs.replay.Replay.tick.Goals as goal
@@ -15,7 +14,7 @@ pub step_all-steps-requires-clause-count : goal.step_all-steps-requires-clause-c
 step_all-steps-requires-clause-count c =
     let received = map (λ b. b.items) c.args.received.now in
     let each = each_received _ _ _ _ 0 c.args.self.now.lanes received c.requires.stands.lanes_are in
-    let n = length-map (λ b. b.items) c.args.received.now in
+    let n = length-map c.args.received.now (λ b. b.items) in
     let value = ap length c.deref_mut.ensures.value in
     let view = ap (λ (x : Replay). length x.lanes) c.self.view_is in
     omega (arith, each, n, value, view)
