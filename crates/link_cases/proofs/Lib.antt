@@ -1,0 +1,2 @@
+pub mod ManyDrawn
+pub mod Counted
