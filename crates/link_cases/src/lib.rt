@@ -13,4 +13,4 @@ mod skewing;
 
 pub use drawing::Draws;
 pub use generating::{Generated, generate};
-pub use law::{cases_are_accepted, first_draws};
+pub use law::{cases_are_accepted, premises_are_met, worked_cases};
