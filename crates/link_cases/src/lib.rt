@@ -14,3 +14,6 @@ mod skewing;
 pub use drawing::Draws;
 pub use generating::{Generated, generate};
 pub use law::{cases_are_accepted, premises_are_met, worked_cases};
+
+#[cfg(test)]
+mod tests;
