@@ -1,0 +1,6 @@
+pub mod ReceivedLanes
+pub mod OneLink
+pub mod LinkWork
+pub mod LinkReadings
+pub mod Writing
+pub mod Delivers

@@ -1,0 +1,79 @@
+-- The files of received lanes: there is one list of them, and it is that of the lanes that were sent and damaged.
+use Rattle.std.proofs.Common.{◌≡◌, ℕ, zero, suc, ◌<◌, ◌≤◌, ◌+◌, ◌-◌, ◌*◌, ◌%◌, ◌^◌, Bool, true, false, All, List, [], ◌∷◌, ◌++◌, length, length-append, map, take, replicate, get_or, nat_lt, refl, sym, ap, ◌∙◌, subst, arith, Vec, Global}
+use Rattle.std.specs.List.{list_all, range_with_len, flat_map}
+use Rattle.std.proofs.lemmas.Bool.{and_parts, ltb-true}
+use Rattle.std.proofs.lemmas.List.{ext_get_or, length-replicate}
+use Rattle.std.proofs.lemmas.List.FromFn.{length-map-range_with_len, get_or-map-range_with_len}
+use Rattle.std.proofs.Math.Seq.{take-append_seam}
+use Rattle.lk_base.specs.Checksum.{bits_of, bits_of_bytes}
+use Rattle.lk_base.specs.Link.{Settings}
+use Rattle.lk_base.specs.declared.word.Word.{Word}
+use Rattle.lane_model.specs.Damage.{received_bits}
+use Rattle.lane_model.specs.LaneBits.{IsFileOf, bits_of_codes, lane_bits, stream_lane_bits}
+use Rattle.lane_model.proofs.FilesHold.{files_determined, length-flat_map_bits, only}
+use Rattle.link_plan.specs.Schedules.{ScheduleValue}
+use Rattle.link_replay.specs.Damages.{lane_damage, received_of}
+use Rattle.tx_end.specs.Lanes.{AreLaneFiles}
+use Rattle.link_commands.specs.Carrying.{AreDamaged}
+use Rattle.link_commands.specs.Linked.{AreReceivedFiles}
+
+abbrev pub bits_at : Settings → ScheduleValue → List Word → ℕ → List Bool
+bits_at s schedule stream i = received_bits (lane_damage schedule i) (stream_lane_bits s stream i)
+
+-- there is one list
+pub one_received : (s : Settings) (schedule : ScheduleValue) (stream : List Word) (a b : List (List ℕ)) → AreReceivedFiles s schedule stream a → AreReceivedFiles s schedule stream b → a ≡ b
+one_received s schedule stream a b h k =
+    let n = h.one_each in
+    ext_get_or [] a b (h.one_each ∙ sym k.one_each) (λ i lt. let below : i < s.lanes = omega arith in only (bits_at s schedule stream i) (get_or a i []) (get_or b i []) (h.each i below) (k.each i below))
+
+from_zero : (k : ℕ) → 0 + k ≡ k
+from_zero k = omega arith
+
+pub some_received : (s : Settings) (schedule : ScheduleValue) (stream : List Word) → (files : List (List ℕ)) × AreReceivedFiles s schedule stream files
+some_received s schedule stream =
+    let file : ℕ → List ℕ = λ lane. (files_determined.has (bits_at s schedule stream lane)).0 in (
+      map file (range_with_len 0 s.lanes),
+      record {
+        one_each = length-map-range_with_len file 0 s.lanes;
+        each = λ i lt. subst (λ (bytes : List ℕ). IsFileOf bytes (bits_at s schedule stream i)) (sym (get_or-map-range_with_len file 0 s.lanes i i [] lt (from_zero i))) (files_determined.has (bits_at s schedule stream i)).1;
+      },
+    )
+
+-- ---- the bits that were sent
+
+-- the codes of a lane have 67 bits each
+pub lane_codes : (s : Settings) (stream : List Word) (lane : ℕ) → (codes : ℕ) × (length (stream_lane_bits s stream lane) ≡ 67 * codes)
+unfolding lane_bits bits_of_codes
+lane_codes s stream lane = (_, length-flat_map_bits 67 _)
+
+whole_codes : (n codes padding : ℕ) → 8 * n ≡ 67 * codes + padding → padding < 8 → 8 * n - 8 * n % 67 ≡ 67 * codes
+whole_codes n codes padding e short = omega arith
+
+-- of the bits of the file of a lane those of its codes are the lane's
+pub sent_bits_are : (bytes : List ℕ) (bits : List Bool) (codes : ℕ) → length bits ≡ 67 * codes → IsFileOf bytes bits → take (8 * length bytes - 8 * length bytes % 67) (bits_of_bytes bytes) ≡ bits
+sent_bits_are bytes bits codes many file =
+    let all : length (bits_of_bytes bytes) ≡ 8 * length bytes = length-flat_map_bits 8 bytes in
+    let both : length (bits ++ replicate file.padding false) ≡ length bits + file.padding = length-append bits (replicate file.padding false) ∙ ap (λ n. length bits + n) (length-replicate file.padding false) in
+    let holds : length (bits_of_bytes bytes) ≡ length (bits ++ replicate file.padding false) = ap length file.holds in
+    let total : 8 * length bytes ≡ 67 * codes + file.padding = omega (arith, all, both, holds, many) in
+    let cut : 8 * length bytes - 8 * length bytes % 67 ≡ length bits = whole_codes (length bytes) codes file.padding total file.short ∙ sym many in
+    ap (λ n. take n (bits_of_bytes bytes)) cut ∙ ap (take (length bits)) file.holds ∙ take-append_seam bits (replicate file.padding false)
+
+pub damaged_received : (s : Settings) (schedule : ScheduleValue) (stream : List Word) (sent received : List (List ℕ)) → AreLaneFiles s stream sent → AreDamaged schedule sent received → AreReceivedFiles s schedule stream received
+damaged_received s schedule stream sent received lanes damaged =
+    let many = lanes.one_each in
+    record {
+      one_each = damaged.as_many ∙ lanes.one_each;
+      each = λ i lt.
+          let lane = get_or sent i [] in
+          let codes = lane_codes s stream i in
+          subst (λ (bits : List Bool). IsFileOf (get_or received i []) (received_bits (lane_damage schedule i) bits)) (sent_bits_are lane (stream_lane_bits s stream i) codes.0 codes.1 (lanes.each i lt))
+          (damaged.each i (omega arith));
+    }
+
+-- ---- lanes of few bytes
+
+pub all_few : (lanes : List (Vec ℕ Global)) → list_all (λ (v : Vec ℕ Global). nat_lt (length v.items) (2 ^ 50)) lanes ≡ true → All (λ (v : Vec ℕ Global). length v.items < 2 ^ 50) lanes
+all_few [] h k d lt = absurd (omega arith)
+all_few (v ∷ lanes) h zero d lt = ltb-true (length v.items) (2 ^ 50) (and_parts (nat_lt (length v.items) (2 ^ 50)) (list_all (λ (w : Vec ℕ Global). nat_lt (length w.items) (2 ^ 50)) lanes) h).0
+all_few (v ∷ lanes) h (suc k) d lt = all_few lanes (and_parts (nat_lt (length v.items) (2 ^ 50)) (list_all (λ (w : Vec ℕ Global). nat_lt (length w.items) (2 ^ 50)) lanes) h).1 k d (omega arith)

@@ -1,0 +1,8 @@
+-- cited by public clauses
+pub mod Inputs
+pub mod Linked
+pub mod Link
+pub mod Delivery
+pub mod Values
+-- needed by private functions and proofs alone
+pub mod Carrying
