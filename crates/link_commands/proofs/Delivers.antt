@@ -1,1 +1,261 @@
--- to come
+-- The delivery theorem: what the laws on lanes say of the files that a link writes.
+use Rattle.std.proofs.Common.{◌≡◌, ◌≢◌, ℕ, zero, suc, ◌+◌, ◌<◌, ◌≤◌, ◌^◌, ◌==◌, true, cond, All, Contains, find, filter, List, [], ◌∷◌, ◌++◌, length, map, get_or, refl, sym, ap, ◌∙◌, subst, arith, is_some, Some, None, Ok}
+use Rattle.std.specs.List.{range_with_len}
+use Rattle.std.specs.Fmt.{decimal}
+use Rattle.std.proofs.lemmas.Bool.{eq-eqb}
+use Rattle.std.proofs.lemmas.Fmt.{decimal_injective}
+use Rattle.std.proofs.lemmas.List.{append_cancel_left, append_cancel_right, ext_get_or, get_or-map, length-map}
+use Rattle.std.proofs.lemmas.List.FromFn.{get_or-map-range_with_len, length-map-range_with_len}
+use lib.Chars.{codes}
+use Rattle.lk_base.specs.Checksum.{bits_of_bytes}
+use Rattle.lk_base.specs.Link.{Settings}
+use Rattle.lk_base.specs.declared.word.Word.{Word}
+use Rattle.lk_outside.specs.Files.{Files, AreBytes}
+use Rattle.stream_model.specs.declared.rows.FlowRow.{FlowRow}
+use Rattle.lane_model.specs.Damage.{IsUndamaged, IsWithinDepth, LaneDamage, received_bits}
+use Rattle.lane_model.specs.LaneBits.{IsFileOf, stream_lane_bits}
+use Rattle.receive_model.specs.Events.{Event, delivered, shown_spans}
+use Rattle.receive_model.specs.Pieces.{Packet}
+use Rattle.receive_model.specs.Spans.{spans}
+use Rattle.receive_model.specs.Stretches.{items_of}
+use Rattle.receive_model.proofs.AllSpans.{spans_are_shown}
+use Rattle.receive_model.proofs.Cuts.{split}
+use Rattle.delivery_laws.specs.Law.{meets_none}
+use Rattle.delivery_laws.specs.LawOnWords.{EachIsPacket}
+use Rattle.epoch_model.proofs.Rises.{places_rise}
+use Rattle.link_laws.specs.Accidents.{Accidents, Sent, no_accidents}
+use Rattle.link_laws.specs.CleanLaw.{AreUndamaged, HasTwoSpans, IsClean}
+use Rattle.link_laws.specs.FileLaw.{AreUndamagedFiles}
+use Rattle.link_laws.specs.Received.{AreReceived}
+use Rattle.link_laws.proofs.Damage.{law_on_damage}
+use Rattle.link_laws.proofs.Files.{files_are_undamaged}
+use Rattle.link_laws.proofs.Lists.{all-kept}
+use Rattle.link_laws.proofs.NoAccidents.{no_accidents_there}
+use Rattle.link_laws.proofs.TwoSpans.{has_two_spans}
+use Rattle.link_plan.specs.Schedules.{ScheduleValue}
+use Rattle.link_plan.proofs.InOrder.{narrow_in_order}
+use Rattle.link_replay.specs.Damages.{lane_damage}
+use Rattle.link_reports.specs.Table.{span_table}
+use Rattle.pcap_files.specs.Written.{capture_bytes}
+use Rattle.plan_inputs.specs.Inputs.{numbers_in, planned_in, schedule_in}
+use Rattle.plan_inputs.proofs.PlanStream.{AreFit, inputs_packets, planned_parts}
+use Rattle.run_shell.specs.Outcome.{Outcome, Output, content_of}
+use Rattle.run_shell.specs.Outputs.{outs}
+use Rattle.run_shell.proofs.Fills.{name_cases, other, same}
+use Rattle.run_shell.proofs.Readings.{behind_ok}
+use Rattle.stream_commands.specs.Off.{NoBurstWhenOff}
+use Rattle.stream_commands.proofs.NoBurstWhenOff.{stream_never}
+use Rattle.receive_commands.specs.Received.{capture_file, capture_name, packets_on, received_files, spans_name}
+use Rattle.receive_commands.specs.Receive.{names_of_lanes}
+use Rattle.receive_commands.specs.WordsLaw.{bytes_of}
+use Rattle.receive_commands.proofs.HeldEnds.{small_of}
+use Rattle.receive_commands.proofs.LaneNames.{apart}
+use Rattle.receive_commands.proofs.NamesDiffer.{names_differ}
+use Rattle.link_commands.specs.Delivery.{AllUndamaged, CleanLinkDeliversAll, DeliversAll, DeliversUnmet, LinkDelivers, LinkNeverBurstsWhenOff, sent_on}
+use Rattle.link_commands.specs.Inputs.{LinkReading, linked_in, with_schedule}
+use Rattle.link_commands.specs.Linked.{IsLinkedBy, sent_over}
+
+-- ---- the plan that is read, and its packets
+
+read_plan : (files : Files) (name : List ℕ) (i : LinkReading) → linked_in files name ≡ Ok i → planned_in files name ≡ Ok i.reading
+unfolding linked_in
+read_plan files name i e =
+    let (reading, had, next) = behind_ok (planned_in files name) (with_schedule files) i e in
+    let (schedule, read, last) = behind_ok (schedule_in files reading.plan) (λ s. Ok (record { reading = reading; schedule = s })) i next in
+    let one : record { reading = reading; schedule = schedule } ≡ i = cc in
+    subst (λ (j : LinkReading). planned_in files name ≡ Ok j.reading) one had
+
+each_packet : (files : Files) (name : List ℕ) (i : LinkReading) (stream : List Word) (o : Outcome) → AreBytes files → linked_in files name ≡ Ok i → (h : IsLinkedBy i stream o) → EachIsPacket h.setting.max_packet h.source
+each_packet files name i stream o are e h =
+    let (had, read) = planned_parts files name i.reading (read_plan files name i e) in
+    let fit : AreFit i.reading.plan.settings.max_packet i.reading.inputs.packets = inputs_packets files i.reading.plan i.reading.inputs are read in
+    let taken : AreFit h.setting.max_packet i.reading.inputs.packets = subst (λ n. AreFit n i.reading.inputs.packets) (sym h.is_setting.max_packet) fit in
+    subst (AreFit h.setting.max_packet) (sym h.is_source.packets) taken
+
+-- ---- the content of a file
+
+-- a name that none of the first ones has is looked for behind them
+behind_outs : (names contents : List (List ℕ)) (rest : List Output) (q : List ℕ) → (Contains names q → ⊥) → content_of (outs names contents ++ rest) q ≡ content_of rest q
+behind_outs [] contents rest q none = refl
+behind_outs (n ∷ names) [] rest q none = refl
+behind_outs (n ∷ names) (c ∷ contents) rest q none =
+    ap (λ b. cond b (Some c) (content_of (outs names contents ++ rest) q)) (other n q (λ e. none (0, omega arith, e)))
+    ∙ behind_outs names contents rest q (λ (k, lt, e). none (suc k, omega arith, e))
+
+one_channel : (prefix : List ℕ) (a b : ℕ) → a ≤ 255 → b ≤ 255 → capture_name prefix a ≡ capture_name prefix b → a ≡ b
+one_channel prefix a b low small e =
+    let tail : codes "." ++ (decimal a ++ codes ".pcap") ≡ codes "." ++ (decimal b ++ codes ".pcap") = append_cancel_left prefix _ _ e in
+    let digits : decimal a ++ codes ".pcap" ≡ decimal b ++ codes ".pcap" = append_cancel_left (codes ".") _ _ tail in
+    let below_a : a < 2 ^ 64 = omega arith in
+    let below_b : b < 2 ^ 64 = omega arith in
+    decimal_injective a b below_a below_b (append_cancel_right (decimal a) (decimal b) (codes ".pcap") digits)
+
+module _ (link_type : ℕ) (prefix : List ℕ) (given : List Event) where
+  first_capture : (c channel : ℕ) (rest : List Output) → c ≡ channel → content_of (capture_file link_type prefix given c ∷ rest) (capture_name prefix channel) ≡ Some (capture_bytes link_type (packets_on channel given))
+  first_capture c channel rest e =
+      subst (λ n. content_of (capture_file link_type prefix given c ∷ rest) (capture_name prefix n) ≡ Some (capture_bytes link_type (packets_on n given))) e
+      (ap (λ b. cond b (Some (capture_bytes link_type (packets_on c given))) (content_of rest (capture_name prefix c))) (same (capture_name prefix c)))
+
+  found_capture : (cs : List ℕ) (channel : ℕ) (rest : List Output) → All (λ n. n ≤ 255) cs → channel ≤ 255 → Contains cs channel →
+      content_of (map (capture_file link_type prefix given) cs ++ rest) (capture_name prefix channel) ≡ Some (capture_bytes link_type (packets_on channel given))
+  found_capture [] channel rest all small (k, lt, e) = absurd (omega arith)
+  found_capture (c ∷ cs) channel rest all small (zero, lt, e) = first_capture c channel (map (capture_file link_type prefix given) cs ++ rest) e
+  found_capture (c ∷ cs) channel rest all small (suc k, lt, e) = name_cases (capture_name prefix c) (capture_name prefix channel)
+      (λ one. first_capture c channel (map (capture_file link_type prefix given) cs ++ rest) (one_channel prefix c channel (all 0 0 (omega arith)) small one))
+      (λ ne.
+      ap (λ b. cond b (Some (capture_bytes link_type (packets_on c given))) (content_of (map (capture_file link_type prefix given) cs ++ rest) (capture_name prefix channel))) (other (capture_name prefix c) (capture_name prefix channel) ne)
+      ∙ found_capture cs channel rest (λ j d within. all (suc j) d (omega arith)) small (k, omega arith, e))
+
+  found_table : (cs : List ℕ) (table : List ℕ) → All (λ n. n ≤ 255) cs →
+      content_of (map (capture_file link_type prefix given) cs ++ record { name = spans_name prefix; content = table } ∷ []) (spans_name prefix) ≡ Some table
+  found_table [] table all = ap (λ b. cond b (Some table) None) (same (spans_name prefix))
+  found_table (c ∷ cs) table all =
+      let narrow : All (λ n. n ≤ 255) (c ∷ []) = λ k d lt. only k d lt in
+      let ne : capture_name prefix c ≢ spans_name prefix = names_differ prefix (c ∷ []) refl (small_of (c ∷ []) narrow) 0 1 [] (omega arith) (omega arith) in
+      ap (λ b. cond b (Some (capture_bytes link_type (packets_on c given))) (content_of (map (capture_file link_type prefix given) cs ++ record { name = spans_name prefix; content = table } ∷ []) (spans_name prefix))) (other (capture_name prefix c) (spans_name prefix) ne)
+      ∙ found_table cs table (λ j d within. all (suc j) d (omega arith))
+    where
+      only : (k d : ℕ) → k < 1 → get_or (c ∷ []) k d ≤ 255
+      only zero d lt = all 0 0 (omega arith)
+      only (suc k) d lt = absurd (omega arith)
+
+-- ---- where no accident was counted
+
+listed_among : (cs : List ℕ) (channel : ℕ) → Contains cs channel → is_some (find (λ c. c == channel) cs) ≡ true
+listed_among [] channel (k, lt, e) = absurd (omega arith)
+listed_among (c ∷ cs) channel (zero, lt, e) = rw (eq-eqb c channel e) refl
+listed_among (c ∷ cs) channel (suc k, lt, e) = split (c == channel)
+    (λ t. rw t refl)
+    (λ t. rw t (listed_among cs channel (k, omega arith, e)))
+
+among_narrow : (cs : List ℕ) (channel : ℕ) → All (λ n. n ≤ 255) cs → Contains cs channel → channel ≤ 255
+among_narrow cs channel all (k, lt, e) = subst (λ n. n ≤ 255) e (all k channel lt)
+
+module _ (i : LinkReading) (stream : List Word) (o : Outcome) (h : IsLinkedBy i stream o) where
+  what_comes : AreReceived i.reading.plan.settings (map bits_of_bytes h.lanes) h.are_events.epochs
+  what_comes = record { lanes = h.are_events.received; bits = h.are_events.bits; are = h.are_events.are }
+
+  narrow : All (λ n. n ≤ 255) h.setting.channels
+  narrow = subst (λ cs. All (λ n. n ≤ 255) cs) (sym h.is_setting.channels) (narrow_in_order (numbers_in i.reading.plan))
+
+  table_there : content_of o.files (spans_name i.reading.plan.out) ≡ Some (span_table (spans (items_of h.are_events.epochs)))
+  table_there =
+      let plan = i.reading.plan in
+      let q : List ℕ = spans_name plan.out in
+      let rise = places_rise plan.settings plan.settings.deskew h.are_events.received h.are_events.epochs h.link.deskew_below_half h.are_events.are in
+      let shown : shown_spans h.events ≡ spans (items_of h.are_events.epochs) = ap shown_spans h.are_events.shown ∙ spans_are_shown h.setting h.are_events.epochs rise in
+      ap (λ fs. content_of fs q) h.files
+      ∙ behind_outs (names_of_lanes plan) h.lanes (received_files h.setting plan.link_type plan.out h.events) q (λ among. apart plan.out [] plan.settings.lanes h.link.lanes.1 q among (0, omega arith, refl))
+      ∙ found_table plan.link_type plan.out h.events h.setting.channels (span_table (shown_spans h.events)) narrow
+      ∙ ap (λ ss. Some (span_table ss)) shown
+
+  capture_there : (channel : ℕ) → Contains h.setting.channels channel → content_of o.files (capture_name i.reading.plan.out channel) ≡ Some (capture_bytes i.reading.plan.link_type (packets_on channel h.events))
+  capture_there channel has =
+      let plan = i.reading.plan in
+      let q : List ℕ = capture_name plan.out channel in
+      ap (λ fs. content_of fs q) h.files
+      ∙ behind_outs (names_of_lanes plan) h.lanes (received_files h.setting plan.link_type plan.out h.events) q (λ among. apart plan.out (channel ∷ []) plan.settings.lanes h.link.lanes.1 q among (0, omega arith, refl))
+      ∙ found_capture plan.link_type plan.out h.events h.setting.channels channel _ narrow (among_narrow h.setting.channels channel narrow has) has
+
+  unmet_come : (channel : ℕ) → EachIsPacket h.setting.max_packet h.source → Contains h.setting.channels channel → h.counts ≡ no_accidents →
+      delivered channel h.events ≡ filter (meets_none (items_of h.are_events.epochs)) (sent_on i stream o h channel)
+  unmet_come channel each has none =
+      ap (delivered channel) h.are_events.shown
+      ∙ law_on_damage h.source h.setting channel (sent_over i stream) (map bits_of_bytes h.lanes) h.are_events.epochs h.counts
+      h.link h.are_counts.count (listed_among h.setting.channels channel has) h.is_stream each what_comes h.are_counts (ap (λ (c : Accidents). c.stretches) none)
+
+pub delivers : LinkDelivers
+delivers files name i stream o are e h none = record {
+  epochs = h.are_events.epochs;
+  are = what_comes i stream o h;
+  table = table_there i stream o h;
+  captures = λ channel has.
+      capture_there i stream o h channel has
+      ∙ ap (λ (ps : List Packet). Some (capture_bytes i.reading.plan.link_type (bytes_of ps))) (unmet_come i stream o h channel (each_packet files name i stream o are e h) has none);
+}
+
+-- ---- where no bit was damaged
+
+-- what happens to so many lanes, from this number on
+abbrev damages_from : ScheduleValue → ℕ → ℕ → List LaneDamage
+damages_from schedule first count = map (lane_damage schedule) (range_with_len first count)
+
+abbrev skews_in : List LaneDamage → List ℕ
+skews_in damages = map (λ (d : LaneDamage). d.skew) damages
+
+quiet_lane : LaneDamage
+quiet_lane = record { skew = 0; flips = []; darks = [] }
+
+skews_are : (schedule : ScheduleValue) (lanes : ℕ) → length schedule.skews ≡ lanes → skews_in (damages_from schedule 0 lanes) ≡ schedule.skews
+skews_are schedule lanes e =
+    let damages : List LaneDamage = damages_from schedule 0 lanes in
+    let many : length damages ≡ lanes = length-map-range_with_len (lane_damage schedule) 0 lanes in
+    let long : length (skews_in damages) ≡ length damages = length-map damages (λ (d : LaneDamage). d.skew) in
+    ext_get_or 0 (skews_in damages) schedule.skews (long ∙ many ∙ sym e) (λ k lt.
+    let below : k < lanes = omega arith in
+    let within : k < length damages = omega arith in
+    get_or-map (λ (d : LaneDamage). d.skew) damages k quiet_lane 0 within
+    ∙ ap (λ (d : LaneDamage). d.skew) (get_or-map-range_with_len (lane_damage schedule) 0 lanes k k quiet_lane below (omega arith)))
+
+module _ (t : Sent) (schedule : ScheduleValue) where
+  -- this is a file of a lane of which no bit is damaged
+  abbrev IsWhole : ℕ → List ℕ → Type 0
+  IsWhole lane bytes = IsUndamaged (lane_damage schedule lane) (stream_lane_bits t.settings t.words lane) × IsFileOf bytes (received_bits (lane_damage schedule lane) (stream_lane_bits t.settings t.words lane))
+
+  whole_files : (first count : ℕ) (files : List (List ℕ)) → length files ≡ count →
+      ((lane k : ℕ) → lane ≡ first + k → k < count → IsWhole lane (get_or files k [])) → AreUndamagedFiles t first (damages_from schedule first count) files
+  whole_files first zero [] e h = tt
+  whole_files first zero (bytes ∷ files) e h = absurd (omega arith)
+  whole_files first (suc count) [] e h = absurd (omega arith)
+  whole_files first (suc count) (bytes ∷ files) e h =
+      let here : IsWhole first bytes = h first 0 (omega arith) (omega arith) in
+      (here.0, here.1, whole_files (first + 1) count files (omega arith) (λ lane k is lt. h lane (suc k) (omega arith) (omega arith)))
+
+module _ (i : LinkReading) (stream : List Word) (o : Outcome) (h : IsLinkedBy i stream o) where
+  undamaged_lanes : AllUndamaged i.reading.plan.settings i.schedule stream → AreUndamaged (sent_over i stream) 0 i.schedule.skews (map bits_of_bytes h.lanes)
+  undamaged_lanes all =
+      let s : Settings = i.reading.plan.settings in
+      let lane_files : AreUndamagedFiles (sent_over i stream) 0 (damages_from i.schedule 0 s.lanes) h.lanes =
+      whole_files (sent_over i stream) i.schedule 0 s.lanes h.lanes h.are_lanes.one_each
+      (λ lane k is lt.
+      let one : k ≡ lane = omega arith in
+      subst (λ n. IsWhole (sent_over i stream) i.schedule n (get_or h.lanes k [])) one (all k lt, h.are_lanes.each k lt)) in
+      subst (λ skews. AreUndamaged (sent_over i stream) 0 skews (map bits_of_bytes h.lanes)) (skews_are i.schedule s.lanes h.are_counts.skewed)
+      (files_are_undamaged (sent_over i stream) (damages_from i.schedule 0 s.lanes) h.lanes lane_files)
+
+  is_clean : AllUndamaged i.reading.plan.settings i.schedule stream → IsWithinDepth i.reading.plan.settings i.schedule.skews → IsClean h.source (sent_over i stream) (map bits_of_bytes h.lanes)
+  is_clean all within = record {
+    link = h.link;
+    stream = h.is_stream;
+    group = h.is_source.shape.group;
+    warmup = h.is_source.shape.warmup;
+    lanes = h.are_counts.skewed;
+    within = within;
+    undamaged = undamaged_lanes all;
+  }
+
+  delivers_all : IsClean h.source (sent_over i stream) (map bits_of_bytes h.lanes) → EachIsPacket h.setting.max_packet h.source → h.counts ≡ no_accidents → DeliversUnmet i stream o h → DeliversAll i stream o h
+  delivers_all clean each none unmet =
+      let two : HasTwoSpans h.source (sent_over i stream) unmet.epochs = has_two_spans h.source h.setting.max_packet (sent_over i stream) (map bits_of_bytes h.lanes) unmet.epochs clean each unmet.are in
+      record {
+        none = none;
+        unmet = unmet;
+        two = ap length two.are;
+        meet_none = two.unmet;
+        captures = λ channel has.
+            unmet.captures channel has
+            ∙ ap (λ (ps : List Packet). Some (capture_bytes i.reading.plan.link_type (bytes_of ps))) (all-kept (meets_none (items_of unmet.epochs)) (sent_on i stream o h channel) (two.unmet channel));
+      }
+
+pub clean_delivers : CleanLinkDeliversAll
+clean_delivers files name i stream o are e h all within =
+    let clean = is_clean i stream o h all within in
+    let none : h.counts ≡ no_accidents = no_accidents_there h.source (sent_over i stream) (map bits_of_bytes h.lanes) h.counts clean h.are_counts in
+    delivers_all i stream o h clean (each_packet files name i stream o are e h) none (delivers files name i stream o are e h none)
+
+-- ---- bursts
+
+pub never_when_off : LinkNeverBurstsWhenOff
+never_when_off i stream o h =
+    subst (λ (es : List ℕ). NoBurstWhenOff es i.reading.inputs.flow stream) h.is_source.entries
+    (subst (λ (rows : List FlowRow). NoBurstWhenOff h.source.entries rows stream) h.is_source.flow (stream_never h.source stream h.is_stream))

@@ -1,7 +1,7 @@
 -- The files of received lanes: there is one list of them, and it is that of the lanes that were sent and damaged.
-use Rattle.std.proofs.Common.{◌≡◌, ℕ, zero, suc, ◌<◌, ◌≤◌, ◌+◌, ◌-◌, ◌*◌, ◌%◌, ◌^◌, Bool, true, false, All, List, [], ◌∷◌, ◌++◌, length, length-append, map, take, replicate, get_or, nat_lt, refl, sym, ap, ◌∙◌, subst, arith, Vec, Global}
+use Rattle.std.proofs.Common.{◌≡◌, ℕ, zero, suc, ◌<◌, ◌≤◌, ◌+◌, ◌-◌, ◌*◌, ◌%◌, ◌^◌, inl, inr, Bool, true, false, All, List, [], ◌∷◌, ◌++◌, length, length-append, map, take, replicate, get_or, nat_lt, refl, sym, ap, ◌∙◌, subst, arith, Vec, Global}
 use Rattle.std.specs.List.{list_all, range_with_len, flat_map}
-use Rattle.std.proofs.lemmas.Bool.{and_parts, ltb-true}
+use Rattle.std.proofs.lemmas.Bool.{and_parts, cases_lt, ltb-true}
 use Rattle.std.proofs.lemmas.List.{ext_get_or, length-replicate}
 use Rattle.std.proofs.lemmas.List.FromFn.{length-map-range_with_len, get_or-map-range_with_len}
 use Rattle.std.proofs.Math.Seq.{take-append_seam}
@@ -73,7 +73,49 @@ damaged_received s schedule stream sent received lanes damaged =
 
 -- ---- lanes of few bytes
 
-pub all_few : (lanes : List (Vec ℕ Global)) → list_all (λ (v : Vec ℕ Global). nat_lt (length v.items) (2 ^ 50)) lanes ≡ true → All (λ (v : Vec ℕ Global). length v.items < 2 ^ 50) lanes
+abbrev pub is_few : Vec ℕ Global → Bool
+is_few v = nat_lt (length v.items) (2 ^ 50)
+
+pub all_few : (lanes : List (Vec ℕ Global)) → list_all is_few lanes ≡ true → All (λ (v : Vec ℕ Global). length v.items < 2 ^ 50) lanes
 all_few [] h k d lt = absurd (omega arith)
 all_few (v ∷ lanes) h zero d lt = ltb-true (length v.items) (2 ^ 50) (and_parts (nat_lt (length v.items) (2 ^ 50)) (list_all (λ (w : Vec ℕ Global). nat_lt (length w.items) (2 ^ 50)) lanes) h).0
 all_few (v ∷ lanes) h (suc k) d lt = all_few lanes (and_parts (nat_lt (length v.items) (2 ^ 50)) (list_all (λ (w : Vec ℕ Global). nat_lt (length w.items) (2 ^ 50)) lanes) h).1 k d (omega arith)
+
+-- ---- one lane more
+
+at_front : (xs : List (List ℕ)) (y : List ℕ) (i : ℕ) (d : List ℕ) → i < length xs → get_or (xs ++ y ∷ []) i d ≡ get_or xs i d
+at_front [] y i d lt = absurd (omega arith)
+at_front (x ∷ xs) y zero d lt = refl
+at_front (x ∷ xs) y (suc i) d lt = at_front xs y i d (omega arith)
+
+at_end : (xs : List (List ℕ)) (y : List ℕ) (n : ℕ) (d : List ℕ) → n ≡ length xs → get_or (xs ++ y ∷ []) n d ≡ y
+at_end [] y zero d e = refl
+at_end [] y (suc n) d e = absurd (omega arith)
+at_end (x ∷ xs) y zero d e = absurd (omega arith)
+at_end (x ∷ xs) y (suc n) d e = at_end xs y n d (omega arith)
+
+one_longer : (xs : List (List ℕ)) (y : List ℕ) → length (xs ++ y ∷ []) ≡ length xs + 1
+one_longer xs y = length-append xs (y ∷ [])
+
+abbrev pub IsDamagedLane : ScheduleValue → ℕ → List ℕ → List ℕ → Type 0
+IsDamagedLane schedule i sent received = IsFileOf received (received_of schedule i sent (8 * length sent - 8 * length sent % 67))
+
+pub damaged_more : (schedule : ScheduleValue) (sent received : List (List ℕ)) (lane new : List ℕ) (number : ℕ) → number ≡ length sent → AreDamaged schedule sent received → IsDamagedLane schedule number lane new → AreDamaged schedule (sent ++ lane ∷ []) (received ++ new ∷ [])
+damaged_more schedule sent received lane new number at are is = record {
+  as_many = one_longer received new ∙ ap (λ n. n + 1) are.as_many ∙ sym (one_longer sent lane);
+  each = λ i lt. elim (cases_lt i (length sent)) [
+    | inl below ↦ (
+        let many = are.as_many in
+        subst (λ (x : List ℕ). IsDamagedLane schedule i x (get_or (received ++ new ∷ []) i [])) (sym (at_front sent lane i [] below))
+        (subst (λ (x : List ℕ). IsDamagedLane schedule i (get_or sent i []) x) (sym (at_front received new i [] (omega arith))) (are.each i below)))
+    | inr over ↦ (
+        let long = one_longer sent lane in
+        let here : i ≡ length sent = omega arith in
+        let there : i ≡ length received = here ∙ sym are.as_many in
+        subst (λ (x : List ℕ). IsDamagedLane schedule i x (get_or (received ++ new ∷ []) i [])) (sym (at_end sent lane i [] here))
+        (subst (λ (x : List ℕ). IsDamagedLane schedule i lane x) (sym (at_end received new i [] there)) (subst (λ n. IsDamagedLane schedule n lane new) (at ∙ sym here) is)))
+  ];
+}
+
+pub none_damaged : (schedule : ScheduleValue) → AreDamaged schedule [] []
+none_damaged schedule = record { as_many = refl; each = λ i lt. absurd (omega arith) }

@@ -30,15 +30,16 @@ fn are_few(lanes: &[Vec<u8>]) -> bool
     lanes.iter().all(|lane| lane.len() < 1 << 50)
 }
 
-// Each lane as it is received. A lane is let go once it is.
+// Each of so many lanes as it is received. A lane is let go once it is.
 fn damage_all(
     alloc: Global,
     sent: Vec<Vec<u8>>,
     schedule: &Schedule,
+    lanes: u32,
 ) -> Result<Vec<Vec<u8>>, OutOfMemory>
     requires few { All (λ (v : Vec ℕ Global). length v.items < 2 ^ 50) sent.items }
     requires skews { length schedule.now.skews.items ≡ length sent.items }
-    requires lanes { length sent.items ≤ 64 }
+    requires lanes { length sent.items ≡ lanes }
     ensures { IfOk result (λ lanes. AreDamaged (schedule_value schedule.now) (map vec_bytes sent.items) (map vec_bytes lanes.items)) }
 {
     let mut received = Vec::new(alloc);
@@ -67,7 +68,7 @@ pub fn received_lanes(
     if !are_few(&sent) {
         return Err(OutOfMemory);
     }
-    let received = damage_all(alloc, sent, schedule)?;
+    let received = damage_all(alloc, sent, schedule, link.lanes())?;
     if !are_few(&received) {
         return Err(OutOfMemory);
     }

@@ -70,7 +70,7 @@ reports_are s rounds (lane ∷ fed) (report ∷ reports) len short each =
       reports_are s rounds fed reports (omega arith) short.1 (λ k r e. each (suc k) r e),
     )
 
-some_reports : (s : Settings) (lanes : List (List ℕ)) → (reports : List LaneReport) × AreLaneReports s lanes reports
+pub some_reports : (s : Settings) (lanes : List (List ℕ)) → (reports : List LaneReport) × AreLaneReports s lanes reports
 some_reports s [] = ([], tt)
 some_reports s (bytes ∷ lanes) =
     let (attempts, are) = attempts_exist s.metaframe (bits_of_bytes bytes) in
@@ -81,7 +81,7 @@ one_report : (s : Settings) (bytes : List ℕ) (r q : LaneReport) → IsLaneRepo
 one_report s bytes r q h k =
     h.is ∙ ap (report_of s (bits_of_bytes bytes)) (determined s.metaframe (bits_of_bytes bytes) h.attempts k.attempts h.are k.are) ∙ sym k.is
 
-same_reports : (s : Settings) (lanes : List (List ℕ)) (rs qs : List LaneReport) → AreLaneReports s lanes rs → AreLaneReports s lanes qs → rs ≡ qs
+pub same_reports : (s : Settings) (lanes : List (List ℕ)) (rs qs : List LaneReport) → AreLaneReports s lanes rs → AreLaneReports s lanes qs → rs ≡ qs
 same_reports s [] [] [] h k = refl
 same_reports s [] [] (q ∷ qs) h k = absurd k
 same_reports s [] (r ∷ rs) qs h k = absurd h

@@ -1,0 +1,47 @@
+use Rattle.std.proofs.Common.{◌≡◌, ◌∙◌, ◌<◌, ◌≤◌, ◌%◌, ◌^◌, ap, refl, sym, subst, arith, All, List, ℕ, length, map, Vec, Global}
+use Rattle.std.proofs.lemmas.List.Elements.{All-map}
+use Rattle.lk_base.specs.Checksum.{bits_of_bytes}
+use Rattle.lk_base.specs.Link.{group_of}
+use Rattle.lk_base.specs.declared.word.Word.{Word}
+use Rattle.link_laws.specs.Accidents.{AreAccidents}
+use Rattle.link_plan.specs.ScheduleViews.{schedule_value}
+use Rattle.receive_commands.specs.Held.{vec_bytes}
+use Rattle.stream_commands.specs.declared.form.StreamForm.TheVariants as form
+use Rattle.stream_commands.proofs.PartsOfStreams.{whole_by}
+use Rattle.link_commands.specs.Carrying.{counts_value}
+use Rattle.link_commands.specs.Linked.{AreReceivedFiles}
+use Rattle.link_commands.proofs.Writing.{bits_twice, few_enough}
+use Rattle.link_commands.proofs.carried.carry.Goals as goal
+
+pub received_lanes-requires-clause-whole : goal.received_lanes-requires-clause-whole
+received_lanes-requires-clause-whole c =
+    subst (λ (ws : List Word). length ws % group_of c.args.read.now.reading.plan.link ≡ 0) (sym c.deref.ensures.value)
+    (whole_by (form.Lanes c.args.read.now.reading.plan.link) c.in_ok-words.ensures.source c.in_ok-words.field-0.words.items c.in_ok-words.ensures.is_source.shape.group c.in_ok-words.ensures.is.stream)
+
+pub accidents-requires-clause-few : goal.accidents-requires-clause-few
+accidents-requires-clause-few c = few_enough c.deref-3.result.now c.in_ok-lanes.lanes.items c.deref-3.ensures.value c.in_ok-lanes.ensures.few
+
+pub accidents-requires-clause-whole : goal.accidents-requires-clause-whole
+accidents-requires-clause-whole c =
+    subst (λ (ws : List Word). length ws % group_of c.args.read.now.reading.plan.link ≡ 0) (sym c.deref-2.ensures.value)
+    (whole_by (form.Lanes c.args.read.now.reading.plan.link) c.in_ok-words.ensures.source c.in_ok-words.field-0.words.items c.in_ok-words.ensures.is_source.shape.group c.in_ok-words.ensures.is.stream)
+
+pub returns : goal.returns
+returns c =
+    let link = c.args.read.now.reading.plan.link in
+    let schedule = c.args.read.now.schedule in
+    let words = c.in_ok-words.field-0.words.items in
+    let stream = c.in_ok-words.ensures in
+    record {
+      source = stream.source;
+      is_source = stream.is_source;
+      stream = words;
+      is_stream = stream.is.stream;
+      held = stream.is.held;
+      free = stream.is.free;
+      lines = stream.is.lines;
+      lanes = subst (λ (ws : List Word). AreReceivedFiles link (schedule_value schedule) ws (map vec_bytes c.in_ok-lanes.lanes.items)) c.deref.ensures.value c.in_ok-lanes.ensures.are;
+      few = c.in_ok-lanes.ensures.few;
+      counts = bits_twice link c.as_slice.result.now schedule.skews.items c.deref-2.result.now words c.deref-3.result.now c.in_ok-lanes.lanes.items (counts_value c.in_ok-counts.counts)
+          c.as_slice.ensures.value c.deref-2.ensures.value c.deref-3.ensures.value c.in_ok-counts.ensures;
+    }
