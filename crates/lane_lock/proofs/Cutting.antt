@@ -49,7 +49,7 @@ cut_brings v u w byte place behind x b ew at e lt low is goes rest = λ s bits o
 -- ---- bits of a byte as numbers
 
 -- the shift of the window
-pub pushed_is : (window bits count : ℕ) → window < 2 ^ 67 → count ≤ 8 → bits < 2 ^ count → bit_and (bit_or (window * 2 ^ count % 2 ^ 128) bits) (2 ^ 67 - 1) ≡ (window * 2 ^ count + bits) % 2 ^ 67
+pub pushed_is : (window bits count : ℕ) → window < 2 ^ 67 → count ≤ 56 → bits < 2 ^ count → bit_and (bit_or (window * 2 ^ count % 2 ^ 128) bits) (2 ^ 67 - 1) ≡ (window * 2 ^ count + bits) % 2 ^ 67
 pushed_is window bits count low most few =
     let whole = shl_whole window 67 count 128 low (omega arith) in
     ap (λ (x : ℕ). bit_and (bit_or x bits) (2 ^ 67 - 1)) whole ∙ ap (λ (x : ℕ). bit_and x (2 ^ 67 - 1)) (or_shifted window count bits few) ∙ and_mask (window * 2 ^ count + bits) 67
