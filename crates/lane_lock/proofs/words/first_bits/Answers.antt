@@ -1,0 +1,6 @@
+-- So many bits are below their power of 2.
+use Rattle.lane_lock.proofs.Cutting.{first_below}
+use Rattle.lane_lock.proofs.words.first_bits.Goals as goal
+
+pub returns-clause-below : goal.returns-clause-below
+returns-clause-below c = first_below c.args.byte c.args.count c.ranges.byte.fits c.requires
