@@ -1,0 +1,22 @@
+//! Listings: the text of a words file or of a lane file, one line for each word, and its bytes again.
+#![tactic(auto)]
+
+mod code_guess;
+mod codes;
+mod cut;
+mod digits;
+mod error;
+mod guess;
+mod lane_list;
+mod lane_text;
+mod law;
+mod list;
+mod spell;
+mod texts;
+mod word;
+
+pub use error::{TextError, WordsAt};
+pub use lane_list::list_lane;
+pub use law::{examples, words_have_one_listing};
+pub use list::list_words;
+pub use texts::assemble;
