@@ -11,9 +11,12 @@ mod lane_list;
 mod lane_text;
 mod law;
 mod list;
+mod piece;
+mod rest;
 mod spell;
 mod texts;
 mod word;
+mod words_text;
 
 pub use error::{TextError, WordsAt};
 pub use lane_list::list_lane;
