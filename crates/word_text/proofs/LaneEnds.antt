@@ -107,7 +107,7 @@ spread count bits h k =
     let size : 67 ≡ count + (67 - count) = omega arith in
     ap (bits_of 67) same ∙ ap (λ (n : ℕ). bits_of n (bits * 2 ^ (67 - count) + 0)) size ∙ bits-joined count (67 - count) bits 0 (pow_pos (67 - count))
 
-fronts : (a b x y : List Bool) → length a ≡ length b → a ++ x ≡ b ++ y → a ≡ b
+pub fronts : (a b x y : List Bool) → length a ≡ length b → a ++ x ≡ b ++ y → a ≡ b
 fronts a b x y h e = sym (take-append_seam a x) ∙ ap (λ (n : ℕ). take n (a ++ x)) h ∙ ap (take (length b)) e ∙ take-append_seam b y
 
 -- as many whole bytes as there are bits that wait and last bits

@@ -20,6 +20,9 @@ mod words_text;
 
 pub use error::{TextError, WordsAt};
 pub use lane_list::list_lane;
-pub use law::{examples, words_have_one_listing};
+pub use law::{
+    assembling_undoes_listing, examples, listing_undoes_assembling, listings_are_determined,
+    refusals_are_determined,
+};
 pub use list::list_words;
 pub use texts::assemble;
