@@ -89,7 +89,7 @@ pub record LaneCut (text : List ℕ) (lines : List (List ℕ)) (rest : List Bool
   pub stuck : rest ≡ [] → (line more : List ℕ) → left ≡ ended line ++ more → IsCodeLineOfAny line ⊎ IsRestLine line → ⊥
   pub whole : text ≡ text_of (lane_head ∷ lines ++ rest_lines rest) ++ left
 
-any-lacks : (line : List ℕ) → IsCodeLineOfAny line → lacks 10 line ≡ true
+pub any-lacks : (line : List ℕ) → IsCodeLineOfAny line → lacks 10 line ≡ true
 any-lacks line (code, sized, is) = code-lacks code line is
 
 -- what stands behind the lines of codes
