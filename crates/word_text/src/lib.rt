@@ -22,7 +22,10 @@ pub use error::{TextError, WordsAt};
 pub use lane_list::list_lane;
 pub use law::{
     assembling_undoes_listing, examples, listing_undoes_assembling, listings_are_determined,
-    refusals_are_determined,
+    refusals_are_determined, worked_texts,
 };
 pub use list::list_words;
 pub use texts::assemble;
+
+#[cfg(test)]
+mod tests;
