@@ -7,8 +7,9 @@ use Rattle.stream_commands.specs.Plan.{burst_plan_meaning, send_plan_meaning}
 use Rattle.receive_commands.specs.JoinPlan.{join_plan_meaning}
 use Rattle.receive_commands.specs.JoinWords.{join_words_meaning}
 use Rattle.receive_commands.specs.Receive.{receive_meaning}
+use Rattle.link_commands.specs.Link.{link_meaning}
 use Rattle.interlaken.specs.declared.request.Request.{Request}
-use Rattle.interlaken.specs.declared.request.Request.TheVariants.{BurstCapture, BurstPlan, JoinWords, JoinPlan, SendPlan, Receive}
+use Rattle.interlaken.specs.declared.request.Request.TheVariants.{BurstCapture, BurstPlan, JoinWords, JoinPlan, SendPlan, Receive, Link}
 
 -- one line for each command
 abbrev pub meaning_of : Request → Meaning
@@ -18,6 +19,7 @@ meaning_of (JoinWords name) = join_words_meaning name
 meaning_of (JoinPlan name) = join_plan_meaning name
 meaning_of (SendPlan name) = send_plan_meaning name
 meaning_of (Receive name) = receive_meaning name
+meaning_of (Link name) = link_meaning name
 
 -- words that are not accepted have a meaning too: the line of the usage
 abbrev pub meaning_by : Option Request → Meaning

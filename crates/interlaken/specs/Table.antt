@@ -6,7 +6,7 @@ use Rattle.interlaken.specs.declared.table.Row.{Row}
 use Rattle.interlaken.specs.declared.table.Rule.{Rule}
 use Rattle.interlaken.specs.declared.table.Rule.TheVariants.{File, NumberAndPrefix}
 use Rattle.interlaken.specs.declared.table.Name.{Name}
-use Rattle.interlaken.specs.declared.table.Name.TheVariants.{Burst, Join, Send, Receive}
+use Rattle.interlaken.specs.declared.table.Name.TheVariants.{Burst, Join, Send, Receive, Link}
 
 pub record Kind : Type 0 where
   pub word : List ℕ
@@ -23,6 +23,7 @@ rows =
     record { word = codes "join"; command = Join; rule = File } ∷
     record { word = codes "send"; command = Send; rule = File } ∷
     record { word = codes "receive"; command = Receive; rule = File } ∷
+    record { word = codes "link"; command = Link; rule = File } ∷
     []
 
 -- the row of a word

@@ -6,6 +6,7 @@ ghost use Rattle.interlaken.specs.CommandLine.{words_of};
 use crate::arguments::{Arguments, arguments_of};
 use crate::command_line::{CommandLine, line_of, read_line};
 use crate::table::{Name, row_in, rows};
+use link_commands::LinkPlan;
 use lk_base::OutOfMemory;
 use lk_outside::Store;
 use receive_commands::{JoinPlan, JoinWords, Receive};
@@ -28,6 +29,8 @@ pub enum Request<'w> {
     SendPlan(SendPlan<'w>),
     /// The lane files of a plan become captures and a span table.
     Receive(Receive<'w>),
+    /// A plan is sent over the lanes of its link, and received.
+    Link(LinkPlan<'w>),
 }
 
 impl Command for Request<'_> {
@@ -43,6 +46,7 @@ impl Command for Request<'_> {
             Request::JoinPlan(join) => join.obey(alloc, store),
             Request::SendPlan(send) => send.obey(alloc, store),
             Request::Receive(receive) => receive.obey(alloc, store),
+            Request::Link(link) => link.obey(alloc, store),
         }
     }
 }
@@ -85,6 +89,7 @@ fn request_for<'w>(command: Name, arguments: &Arguments<'w>) -> Request<'w>
         Name::Join => join_of(arguments.file),
         Name::Send => Request::SendPlan(SendPlan::make(arguments.file)),
         Name::Receive => Request::Receive(Receive::make(arguments.file)),
+        Name::Link => Request::Link(LinkPlan::make(arguments.file)),
     }
 }
 

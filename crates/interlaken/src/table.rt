@@ -22,6 +22,8 @@ pub enum Name {
     Send,
     /// The lane files of a plan become captures and a span table.
     Receive,
+    /// A plan is sent over the lanes of its link, and received.
+    Link,
 }
 
 /// A command: its word, and the rule of its arguments.
@@ -55,6 +57,11 @@ static ROWS: &[Row] = &[
     Row {
         word: "receive",
         command: Name::Receive,
+        rule: Rule::File,
+    },
+    Row {
+        word: "link",
+        command: Name::Link,
         rule: Rule::File,
     },
 ];

@@ -95,7 +95,7 @@ loop-next-preserved g c =
       holding = λ b s first given at is from.
           let (fed, came, now) = c.loop-next.invariant.holding b s first given at is from in
           let (more, drained) = c.in_ok-take_events-2.ensures.drains b s (fed_next next.lane c.piece_of-piece.result.now fed) came
-              (fed_taking b s fed _ came _ _ _ _ _ refl now.drained.taking (c.feed_piece.ensures.stands s b.setting fed came now.drained.taking.stands)) in (
+          (fed_taking b s fed _ came _ _ _ _ _ refl now.drained.taking (c.feed_piece.ensures.stands s b.setting fed came now.drained.taking.stands)) in (
             fed_next next.lane c.piece_of-piece.result.now fed,
             more,
             piece_held b s (map vec_bytes c.args.lanes.now) fed came c.loop-next.receiver c.loop-next.offsets c.loop-next.receipt _ now next c.in-Some.ensures c.piece_of-piece.result.now piece _ _ _ _ more c.feed_piece.ensures.offsets drained,

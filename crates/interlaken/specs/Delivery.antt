@@ -1,0 +1,42 @@
+-- The delivery theorem, of a run of `link`.
+use Rattle.std.specs.Prelude.{◌≡◌, ℕ, List, Option, Some, Ok}
+use Rattle.lk_base.specs.declared.word.Word.{Word}
+use Rattle.lane_model.specs.Damage.{IsWithinDepth}
+use Rattle.link_laws.specs.Accidents.{no_accidents}
+use Rattle.lk_outside.specs.Files.{Files, AreBytes, Told}
+use Rattle.run_shell.specs.declared.status.Status.{Status}
+use Rattle.run_shell.specs.Outcome.{Outcome, IsAnswer, Holds}
+use Rattle.stream_commands.specs.Off.{NoBurstWhenOff}
+use Rattle.link_commands.specs.Inputs.{LinkReading, linked_in}
+use Rattle.link_commands.specs.Linked.{IsLinkedBy}
+use Rattle.link_commands.specs.Delivery.{AllUndamaged, DeliversAll, DeliversUnmet}
+use Rattle.interlaken.specs.declared.request.Request.TheVariants.{Link}
+use Rattle.interlaken.specs.Request.{request_of}
+use Rattle.interlaken.specs.Run.{OutcomeOf}
+
+-- the outcome that was answered, whose files stand, and the stream that was sent
+pub record IsLinkRun (words : List (List ℕ)) (files : Files) (i : LinkReading) (its_status : Status) (old new : Option Files) : Type 0 where
+  pub outcome : Outcome
+  pub is_outcome : OutcomeOf words files outcome
+  pub status : its_status ≡ outcome.status
+  pub stands : Told old new (Holds outcome.files)
+  pub stream : List Word
+  pub linked : IsLinkedBy i stream outcome
+
+-- what is said of a run of `link` with a valid plan, whose inputs and schedule are accepted, that came to an answer
+abbrev pub OfLinks : ((i : LinkReading) → (stream : List Word) → (o : Outcome) → IsLinkedBy i stream o → Type 0) → List (List ℕ) → Files → Status → Option Files → Option Files → Type 0
+OfLinks Says words files status old new = (name : List ℕ) (i : LinkReading) → request_of words ≡ Some (Link name) → AreBytes files → linked_in files name ≡ Ok i → IsAnswer status →
+    (run : IsLinkRun words files i status old new) × Says i run.stream run.outcome run.linked
+
+-- Where no accident was counted, the file of each listed channel is exactly the capture of the sent packets, in order, whose word
+-- positions meet no fault span that the received lane bits show.
+abbrev pub Delivers : List (List ℕ) → Files → Status → Option Files → Option Files → Type 0
+Delivers = OfLinks (λ i stream o h. h.counts ≡ no_accidents → DeliversUnmet i stream o h)
+
+-- With no bit damaged and the skews within the deskew depth, no accident was counted and no span meets a packet.
+abbrev pub DeliversClean : List (List ℕ) → Files → Status → Option Files → Option Files → Type 0
+DeliversClean = OfLinks (λ i stream o h. AllUndamaged i.reading.plan.settings i.schedule stream → IsWithinDepth i.reading.plan.settings i.schedule.skews → DeliversAll i stream o h)
+
+-- No burst starts on a channel whose last valid calendar entry is off.
+abbrev pub LinksWhenOn : List (List ℕ) → Files → Status → Option Files → Option Files → Type 0
+LinksWhenOn = OfLinks (λ i stream o h. NoBurstWhenOff i.reading.plan.entries i.reading.inputs.flow stream)
