@@ -1,5 +1,5 @@
-//! Feeds receivers with the lanes on the standard input, a line of hexadecimal digits for each, in 200 orders and cuts, and
-//! tells what they gave and whether all gave the same.
+//! Feeds receivers in 200 orders and cuts, and tells what they gave and whether all gave the same. The standard input has a plan
+//! in its first line and a lane in each further one, as hexadecimal digits.
 #![tactic(auto)]
 
 mod feeder;
@@ -16,23 +16,21 @@ use orders::{Order, one_order};
 use std::alloc::Global;
 use std::io;
 
-const PLAN: &[u8] = b"lanes,2\nmetaframe,32\nwarmup,4\nchannel,1\nchannel,2\nout,o\n";
-
 const ORDERS: u64 = 200;
 
-// The lanes, a line for each.
-fn lanes_in(rt: &HostRuntime) -> io::Result<Vec<Vec<u8>>> {
-    let mut lanes = Vec::new(rt.alloc());
+// The bytes of each line.
+fn lines_in(rt: &HostRuntime) -> io::Result<Vec<Vec<u8>>> {
+    let mut lines = Vec::new(rt.alloc());
     for line in rt.lines(rt.alloc()) {
         let bytes = bytes_of(rt.alloc(), line?.as_str())?;
-        lanes.push(bytes)?;
+        lines.push(bytes)?;
     }
-    Ok(lanes)
+    Ok(lines)
 }
 
-// The plan; none without memory.
-fn plan(alloc: Global) -> Option<Plan> {
-    match read_plan(alloc, PLAN) {
+// The plan that these bytes are; none where they are none, or without memory.
+fn plan(alloc: Global, bytes: &[u8]) -> Option<Plan> {
+    match read_plan(alloc, bytes) {
         Ok(plan) => Some(plan),
         Err(_) => None,
     }
@@ -49,21 +47,29 @@ fn all_orders(alloc: Global, plan: &Plan, lanes: &[Vec<u8>]) -> Result<Option<Or
     Ok(Some(first))
 }
 
-fn main(rt: HostRuntime) -> io::Result<()> {
-    let lanes = lanes_in(&rt)?;
-    let Some(plan) = plan(rt.alloc()) else {
-        return println!(rt; "no plan");
-    };
-    match ring::taken(rt.alloc(), &plan, lanes.as_slice()) {
+// Feeds these lanes, and prints what came.
+fn feed_all(rt: &HostRuntime, plan: &Plan, lanes: &[Vec<u8>]) -> io::Result<()> {
+    match ring::taken(rt.alloc(), plan, lanes) {
         Ok(taken) => println!(rt; "a ring of 4096 bytes takes {taken:?}")?,
         Err(_) => println!(rt; "no memory")?,
     }
-    match all_orders(rt.alloc(), &plan, lanes.as_slice()) {
+    match all_orders(rt.alloc(), plan, lanes) {
         Ok(Some(order)) => {
-            given::print(&rt, ORDERS, order.given.as_slice())?;
-            given::print_reports(&rt, order.reports.as_slice())
+            given::print(rt, ORDERS, order.given.as_slice())?;
+            given::print_reports(rt, order.reports.as_slice())
         }
         Ok(None) => println!(rt; "another order gave other events"),
         Err(_) => println!(rt; "no memory"),
+    }
+}
+
+fn main(rt: HostRuntime) -> io::Result<()> {
+    let lines = lines_in(&rt)?;
+    if lines.is_empty() {
+        return println!(rt; "no plan");
+    }
+    match plan(rt.alloc(), lines[0].as_slice()) {
+        Some(plan) => feed_all(&rt, &plan, &lines[1..]),
+        None => println!(rt; "no plan"),
     }
 }

@@ -10,7 +10,7 @@ use rx_end::{LaneReport, RxEvent};
 use std::alloc::Global;
 
 // No order has more turns, and no turn gives more events.
-const TURNS: u32 = 100_000;
+const TURNS: u32 = 1_000_000;
 
 // How a lane is cut in this order: into whole rings, into bytes, or into pieces of 1 to 400 bytes.
 fn cut(number: u64, random: &mut Random) -> usize {

@@ -1,0 +1,74 @@
+ghost use Rattle.std.specs.Prelude.{◌≡◌, IfOk};
+
+use crate::captures::capture_of;
+use interlaken::{Status, run};
+use lk_base::OutOfMemory;
+use lk_outside::{MemSink, MemStore};
+use std::alloc::{AllocError, Global};
+
+const PLAN: &[u8] =
+    b"lanes,1\nmetaframe,32\nwarmup,4\nchannel,1,a.pcap\nchannel,2,b.pcap\nout,o\n";
+
+/// A call of the store or of the sink.
+#[derive(Clone, Copy, Debug)]
+pub enum Call {
+    Read,
+    Create,
+    Append,
+    Write,
+}
+
+/// How a run ended, and what stands then.
+#[derive(Drop)]
+pub struct Ended {
+    pub status: Status,
+    pub store: MemStore,
+    pub out: MemSink,
+}
+
+// The plan and its two captures, and which call is to fail.
+fn store_of(alloc: Global, call: Call, number: u64) -> Result<MemStore, OutOfMemory>
+    ensures { IfOk result (λ store. store.faults ≡ 0) }
+{
+    let capture = capture_of(alloc, &[300, 40])?;
+    let mut store = MemStore::make(alloc);
+    store.put("p.plan", PLAN)?;
+    store.put("a.pcap", &capture)?;
+    store.put("b.pcap", &capture)?;
+    let failing = [number];
+    match call {
+        Call::Read => store.fail(&failing, &[], &[])?,
+        Call::Create => store.fail(&[], &failing, &[])?,
+        Call::Append => store.fail(&[], &[], &failing)?,
+        Call::Write => {}
+    }
+    Ok(store)
+}
+
+// The sink, and whether its write is to fail.
+fn sink_of(alloc: Global, call: Call, number: u64) -> Result<MemSink, OutOfMemory>
+    ensures { IfOk result (λ out. out.faults ≡ 0) }
+{
+    let mut out = MemSink::make(alloc);
+    if let Call::Write = call {
+        out.fail(&[number])?;
+    }
+    Ok(out)
+}
+
+fn words(alloc: Global) -> Result<Vec<String>, AllocError> {
+    let mut words = Vec::new(alloc);
+    for text in ["link", "p.plan"] {
+        words.push(String::from_str(alloc, text)?)?;
+    }
+    Ok(words)
+}
+
+/// The link of the plan, where the call of this kind and number fails.
+pub fn run_failing(alloc: Global, call: Call, number: u64) -> Result<Ended, OutOfMemory> {
+    let words = words(alloc)?;
+    let mut store = store_of(alloc, call, number)?;
+    let mut out = sink_of(alloc, call, number)?;
+    let status = run(alloc, &words, &mut store, &mut out);
+    Ok(Ended { status, store, out })
+}
