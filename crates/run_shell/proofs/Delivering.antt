@@ -1,5 +1,5 @@
 -- Outputs that are filled one after another with contents that were made before.
-use Rattle.std.proofs.Common.{◌≡◌, ℕ, zero, suc, ◌<◌, ◌≤◌, ◌+◌, arith, List, [], ◌∷◌, ◌++◌, length, map, get_or, refl, rules, sym, ap, ◌∙◌, subst, Option, Err, Ok, Contains}
+use Rattle.std.proofs.Common.{◌≡◌, ℕ, zero, suc, ◌<◌, ◌≤◌, ◌+◌, arith, List, [], ◌∷◌, ◌++◌, length, map, get_or, refl, rules, sym, ap, ◌∙◌, subst, Option, Result, Err, Ok, Contains}
 use Rattle.std.proofs.lemmas.List.{length-map}
 use Rattle.run_shell.specs.declared.stop.Stop.{Stop}
 use Rattle.run_shell.specs.declared.stop.Finished.{Finished}
@@ -7,10 +7,11 @@ use Rattle.lk_outside.specs.Files.{Files, Told}
 use Rattle.run_shell.specs.Outcome.{Outcome, Holds, HoldsPart}
 use Rattle.run_shell.specs.Stops.{StoreStops}
 use Rattle.run_shell.specs.Open.{Open}
-use Rattle.run_shell.specs.Outputs.{outs, blank, Prefixes, more, open_names}
+use Rattle.run_shell.specs.Outputs.{outs, blank, Prefixes, more, open_names, Closed, FilledAll}
 use Rattle.run_shell.specs.Writing.{Writes, Begin, delivered}
 use Rattle.run_shell.proofs.Creating.{named}
-use Rattle.run_shell.proofs.Fills.{blank_prefixes}
+use Rattle.run_shell.proofs.Fills.{blank_prefixes, part_more}
+use Rattle.run_shell.proofs.Moves.{told_by}
 use Rattle.run_shell.proofs.Writing.{stop_writes, done_writes}
 
 -- so many of the outputs were given their contents
@@ -104,3 +105,20 @@ module _ (names contents : List (List ℕ)) (each : length contents ≡ length n
 
   pub named_ends : (ns : List (List ℕ)) → ns ≡ names → (x y : Option Files) → Told x y (Holds (outs ns contents)) → Writes IsDelivered names (Ok f) x y
   named_ends ns is x y h = delivery_ends x y (subst (λ ms. Told x y (Holds (outs ms contents))) is h)
+
+-- ---- each to its end before the next
+
+module _ (names contents : List (List ℕ)) (each : length contents ≡ length names) where
+  -- so many of them were given their contents, and a part of that stands
+  pub part_filled : (k : ℕ) (ns : List (List ℕ)) → ns ≡ names → (x y : Option Files) → k ≤ length contents → Told x y (HoldsPart (outs ns (filled k names contents))) → Told x y (HoldsPart (outs names contents))
+  part_filled k ns is x y le h =
+      told_by x y (λ u v p. part_more names (filled k names contents) contents u v (filled_begins k names contents each le) p)
+      (subst (λ ms. Told x y (HoldsPart (outs ms (filled k names contents)))) is h)
+
+  pub none_filled : (x y : Option Files) → Told x y (HoldsPart (outs names (blank names))) → Told x y (HoldsPart (outs names contents))
+  none_filled x y h = part_filled 0 names refl x y (omega arith) (subst (λ gs. Told x y (HoldsPart (outs names gs))) (at_first names contents) h)
+
+  -- all of them were, and the rests were appended
+  pub closed_fills : (opens : List Open) (given : List (List ℕ)) (r : Result (Unit {0}) Stop) (x y : Option Files) → open_names opens ≡ names → given ≡ contents → Closed opens given r x y → Told x y (FilledAll names contents r)
+  closed_fills opens given (Ok t) x y is all h = subst (λ cs. Told x y (Holds (outs names cs))) all (subst (λ ns. Told x y (Holds (outs ns given))) is h)
+  closed_fills opens given (Err s) x y is all h = subst (λ cs. Told x y (HoldsPart (outs names cs))) all (subst (λ ns. Told x y (HoldsPart (outs ns given))) is h)

@@ -1,5 +1,5 @@
 -- An input that has no byte at its limit.
-use Rattle.std.proofs.Common.{◌≡◌, refl, ℕ, ◌<◌, ◌≤◌, true, List, length, nat_lt, arith, inl, inr, Option, Some, None, IfSome, IsSomeAnd, Result, Ok}
+use Rattle.std.proofs.Common.{◌≡◌, refl, ℕ, ◌<◌, ◌≤◌, true, List, length, nat_lt, arith, inl, inr, Option, Some, None, IfSome, IsSomeAnd, Ok}
 use Rattle.std.proofs.lemmas.Bool.{cases_Bool}
 use Rattle.std.proofs.lemmas.Bool.Decides.{nat_tests}
 use Rattle.lk_outside.specs.Files.{Files, file}

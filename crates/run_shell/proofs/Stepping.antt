@@ -3,8 +3,6 @@ use Rattle.std.proofs.Common.{◌≡◌, ◌≢◌, ℕ, zero, suc, ◌+◌, ◌
 use Rattle.std.specs.Option.{option_or}
 use Rattle.std.specs.Str.{bytes_eq}
 use Rattle.std.proofs.Math.Seq.{take-add}
-use Rattle.std.proofs.lemmas.Slice.Eq.{bytes_eq-Decides}
-use Rattle.std.proofs.lemmas.Bool.{false_from_ne_true}
 use Rattle.lk_outside.specs.Files.{file}
 use Rattle.run_shell.specs.Outcome.{Output, content_of, cut}
 use Rattle.run_shell.specs.Steps.{name_at, content_at, IsDistinct, CreateGoesOn, AppendGoesOn, OthersStay}

@@ -1,8 +1,9 @@
 //! Outputs whose contents are made before they are created.
-ghost use Rattle.std.specs.Prelude.{◌≡◌, ◌<◌, ◌^◌, map, length, string_bytes};
-ghost use Rattle.run_shell.specs.Stops.{StopCount};
+ghost use Rattle.std.specs.Prelude.{◌≡◌, ◌<◌, ◌^◌, map, length, Contains, string_bytes};
+ghost use Rattle.lk_outside.specs.Files.{Told};
+ghost use Rattle.run_shell.specs.Stops.{StopCount, StoreStops};
 ghost use Rattle.run_shell.specs.Reading.{vec_items};
-ghost use Rattle.run_shell.specs.Outputs.{Differ};
+ghost use Rattle.run_shell.specs.Outputs.{Differ, FilledAll};
 ghost use Rattle.run_shell.specs.Writing.{Writes, delivered};
 
 use crate::outputs::Outputs;
@@ -30,4 +31,28 @@ pub fn deliver<S: Store>(
     }
     outputs.finish(alloc, store)?;
     Ok(finished)
+}
+
+/// Creates the files of these names, which differ, and then appends these contents to them, one for each: each to its end, in
+/// pieces of 65,536 bytes and a rest, before the next. After an error some first of the files are there, each with a prefix of
+/// its content.
+pub fn deliver_in_turn<S: Store>(
+    alloc: Global,
+    store: &mut S,
+    names: Vec<String>,
+    contents: &[Vec<u8>],
+) -> Result<(), Stop>
+    requires count { S.faults store.old < 2 ^ 60 }
+    requires each { length (map vec_items contents.now) ≡ length (map string_bytes names.items) }
+    requires differ { Differ (map string_bytes names.items) }
+    ensures cause { StopCount result (S.faults store.old) (S.faults store.new) }
+    ensures stops { StoreStops (Contains (map string_bytes names.items)) result }
+    ensures delivered { Told (S.files store.old) (S.files store.new) (FilledAll (map string_bytes names.items) (map vec_items contents.now) result) }
+{
+    let mut outputs = Outputs::create(alloc, store, names)?;
+    for place in 0..contents.len() {
+        outputs.put(alloc, store, place, &contents[place])?;
+        outputs.settle(alloc, store, place)?;
+    }
+    outputs.finish(alloc, store)
 }

@@ -1,4 +1,4 @@
-use Rattle.std.proofs.Common.{◌≡◌, ◌<◌, subst, arith, length, IfSome, ℕ, Ok}
+use Rattle.std.proofs.Common.{◌≡◌, ◌<◌, subst, arith, length, IfSome, Ok}
 use Rattle.std.proofs.lemmas.Bool.Decides.{nat_tests}
 use Rattle.run_shell.specs.Reading.{ReadsPiece}
 use Rattle.run_shell.proofs.Pieces.{no_byte_past}
