@@ -9,6 +9,7 @@ use Rattle.lock_model.specs.declared.types.LaneReport.{LaneReport}
 use Rattle.link_plan.specs.declared.error.PlanError.TheVariants as refusal
 use Rattle.link_plan.specs.declared.error.Key.TheVariants as key
 use Rattle.pcap_files.specs.declared.error.PcapError.TheVariants as capture
+use Rattle.word_text.specs.declared.error.TextError.TheVariants as listing
 use Rattle.link_reports.specs.declared.faults.InputError.TheVariants as cause
 use Rattle.link_reports.specs.declared.faults.Fault.TheVariants as fault
 use Rattle.link_reports.specs.declared.replay.Missing.{Missing}
@@ -60,6 +61,8 @@ pub record WorkedTexts : Type 0 where
   pub slots : slots_line 12 ≡ line (codes "slots 12") []
   pub held : held_line 2 ≡ line (codes "held channel=2") []
   pub count : count_line (codes "samples") 7 ≡ line (codes "samples 7") []
+  pub lines : count_line (codes "lines") 13 ≡ line (codes "lines 13") []
+  pub bytes : count_line (codes "bytes") 108 ≡ line (codes "bytes 108") []
   pub steady_lane : lane_line 0 steady ≡ line (codes "lane 0 locks=1 first=6432 lost=0 unframed=0 bad=0 sync=0 state=0 diag=0") []
   pub darkened_lane : lane_line 3 darkened ≡ line (codes "lane 3 locks=2 first=6432 lost=1 unframed=3 bad=15 sync=4 state=5 diag=6") []
   pub silent_lane : lane_line 1 silent ≡ line (codes "lane 1 locks=0 first=- lost=0 unframed=2 bad=0 sync=0 state=0 diag=0") []
@@ -71,5 +74,8 @@ pub record WorkedTexts : Type 0 where
   pub missing_key : fault_line (fault.Plan (refusal.Missing key.Metaframe)) ≡ line (codes "plan refused: missing metaframe") []
   pub cut_capture : input_line (codes "a.pcap") (cause.Pcap (capture.Short 24)) ≡ line (codes "input refused: a.pcap: short at 24") []
   pub faulty_flow : input_line (codes "f") (cause.Rows (refusal.Number 2)) ≡ line (codes "input refused: f: row 2: number") []
+  pub no_head : input_line (codes "a.txt") (cause.Text listing.Head) ≡ line (codes "input refused: a.txt: head") []
+  pub wrong_line : input_line (codes "a.txt") (cause.Text (listing.Line 12)) ≡ line (codes "input refused: a.txt: line 12") []
+  pub no_whole_bytes : input_line (codes "a.txt") (cause.Text listing.Length) ≡ line (codes "input refused: a.txt: length") []
   pub store : store_line (codes "a.pcap.words") ≡ line (codes "store fault: a.pcap.words") []
   pub memory : fault_line fault.OutOfMemory ≡ line (codes "out of memory") []

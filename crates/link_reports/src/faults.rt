@@ -7,6 +7,7 @@ use lk_base::OutOfMemory;
 use pcap_files::PcapError;
 use std::alloc::{AllocError, Global};
 use std::fmt;
+use word_text::TextError;
 use words_files::WordsError;
 
 /// Why an input is refused.
@@ -22,6 +23,8 @@ pub enum InputError {
     Words(WordsError),
     /// The rows of the file are not accepted, with the first refusal among them.
     Rows(PlanError),
+    /// The file is no listing, with why its text is refused.
+    Text(TextError),
 }
 
 /// What stops a run, and is told in one line alone.
@@ -52,6 +55,7 @@ impl fmt::Display for InputError {
             InputError::Pcap(refusal) => write!(f, "{refusal}"),
             InputError::Words(refusal) => write!(f, "{refusal}"),
             InputError::Rows(refusal) => write!(f, "{refusal}"),
+            InputError::Text(refusal) => write!(f, "{refusal}"),
         }
     }
 }

@@ -21,8 +21,8 @@ mod words_text;
 pub use error::{TextError, WordsAt};
 pub use lane_list::list_lane;
 pub use law::{
-    assembling_undoes_listing, examples, listing_undoes_assembling, listings_are_determined,
-    refusals_are_determined, worked_texts,
+    assembling_undoes_listing, examples, files_have_listings, lengths_of_listings,
+    listing_undoes_assembling, listings_are_determined, refusals_are_determined, worked_texts,
 };
 pub use list::list_words;
 pub use texts::assemble;

@@ -1,5 +1,5 @@
 use Rattle.word_text.proofs.Causes.{refused-never, one-cause}
-use Rattle.word_text.proofs.SomeCause.{some-cause}
+use Rattle.word_text.proofs.Verdict.{verdict}
 use Rattle.word_text.proofs.law.refusals_are_determined.Goals as goal
 
 pub returns-clause-no_file : goal.returns-clause-no_file
@@ -8,5 +8,5 @@ returns-clause-no_file c = refused-never
 pub returns-clause-one_cause : goal.returns-clause-one_cause
 returns-clause-one_cause c = one-cause
 
-pub returns-clause-some_cause : goal.returns-clause-some_cause
-returns-clause-some_cause c = some-cause
+pub returns-clause-either : goal.returns-clause-either
+returns-clause-either c = verdict

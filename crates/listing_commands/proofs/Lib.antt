@@ -1,0 +1,4 @@
+pub mod Converting
+pub mod Conversions
+pub mod Undone
+pub mod Given

@@ -1,0 +1,5 @@
+pub mod Limits
+pub mod Conversion
+pub mod Listing
+pub mod Assembling
+pub mod Undoing
