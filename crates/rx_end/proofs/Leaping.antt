@@ -88,13 +88,14 @@ stands_leapt v ring later n bits s rounds fed column some there rest are goes st
       last = λ some_round. last_quiet column rounds n some long;
     }
 
-pub is_leapt : (v : Lane) (ring : List ℕ) (later : LaneState) (n bits : ℕ) → 0 < n → n ≤ length v.ring → ring ≡ drop n v.ring → bits_of (8 * n) bits ≡ bits_of_bytes (take n v.ring) →
-    Brings v.lock later (bits_of (8 * n) bits) (replicate (8 * n) steps.Nothing) →
-    IsLeapt n v (record { ring = ring; finished = v.finished; fed = v.fed; lock = later; steps = replicate 8 steps.Nothing })
-is_leapt v ring later n bits some there rest are goes = record {
+pub is_leapt : (v : Lane) (ring : List ℕ) (later : LaneState) (shown : List LaneStep) (n bits : ℕ) → shown ≡ replicate 8 steps.Nothing → 0 < n → n ≤ length v.ring → ring ≡ drop n v.ring →
+    bits_of (8 * n) bits ≡ bits_of_bytes (take n v.ring) → Brings v.lock later (bits_of (8 * n) bits) (replicate (8 * n) steps.Nothing) →
+    IsLeapt n v (record { ring = ring; finished = v.finished; fed = v.fed; lock = later; steps = shown })
+is_leapt v ring later shown n bits e some there rest are goes = record {
   there = there;
   ring = rest;
-  stands = λ s rounds fed column st. stands_leapt v ring later n bits s rounds fed column some there rest are goes st;
+  stands = λ s rounds fed column st. subst (λ (g : List LaneStep). LaneStands (record { ring = ring; finished = v.finished; fed = v.fed; lock = later; steps = g }) s (rounds + n) fed (column ++ replicate (8 * n) steps.Nothing)) (sym e)
+      (stands_leapt v ring later n bits s rounds fed column some there rest are goes st);
 }
 
 pub leapt_from : (v u w : Lane) (n : ℕ) → v ≡ u → IsLeapt n v w → IsLeapt n u w

@@ -3,8 +3,8 @@ use Rattle.std.specs.Prelude.{◌-◌, ◌<◌, List, ◌∷◌, ◌++◌, repli
 use Rattle.lock_model.specs.declared.types.LaneStep.{LaneStep}
 use Rattle.lock_model.specs.declared.types.LaneStep.TheVariants as steps
 use Rattle.lock_model.specs.Low.{is_low}
-use Rattle.rx_end.specs.declared.found.Found.{Found}
-use Rattle.rx_end.specs.declared.found.Found.TheVariants as founds
+use Rattle.lane_steps.specs.declared.found.Found.{Found}
+use Rattle.lane_steps.specs.declared.found.Found.TheVariants as founds
 
 -- one for each bit; a lane at its end has ended at each
 abbrev pub steps_found : Found → List LaneStep

@@ -3,9 +3,9 @@ use Rattle.std.proofs.Common.{ℕ, zero, suc, ◌≡◌, refl, ap, ◌+◌, ◌-
 use Rattle.std.proofs.lemmas.List.{get_or-replicate, length-append, length-replicate}
 use Rattle.lock_model.specs.declared.types.LaneStep.{LaneStep}
 use Rattle.lock_model.specs.declared.types.LaneStep.TheVariants as steps
-use Rattle.rx_end.specs.declared.found.Found.{Found}
-use Rattle.rx_end.specs.declared.found.Found.TheVariants as founds
-use Rattle.rx_end.specs.Founds.{IsWithin, steps_found}
+use Rattle.lane_steps.specs.declared.found.Found.{Found}
+use Rattle.lane_steps.specs.declared.found.Found.TheVariants as founds
+use Rattle.lane_steps.specs.Founds.{IsWithin, steps_found}
 
 -- a step among steps that show nothing
 pub there : (place n : ℕ) (x : LaneStep) → get_or (replicate place steps.Nothing ++ x ∷ replicate n steps.Nothing) place steps.Ended ≡ x

@@ -2,12 +2,12 @@ ghost use Rattle.std.specs.Prelude.{◌≡◌, ◌<◌, ◌≤◌, ◌+◌, ◌^
 ghost use Rattle.lane_lock.specs.Bytes.{steps_of_byte};
 ghost use Rattle.lock_model.specs.Low.{is_low};
 ghost use Rattle.lock_model.specs.declared.types.LaneStep.TheVariants as variants;
-ghost use Rattle.rx_end.specs.Founds.{IsWithin, steps_found};
+ghost use Rattle.lane_steps.specs.Founds.{IsWithin, steps_found};
 
 use lane_lock::Completed;
 use lock_model::LaneStep;
 
-/// What a round finds of a lane.
+/// What a lane shows next.
 #[derive(Clone, Copy, Debug, Drop, PartialEq, Eq)]
 pub enum Found {
     /// Its end.

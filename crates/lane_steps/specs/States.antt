@@ -1,0 +1,10 @@
+-- What is kept of a lane.
+use Rattle.std.specs.Prelude.{List}
+use Rattle.lock_model.specs.declared.types.LaneStep.{LaneStep}
+use Rattle.lane_lock.specs.Lane.{LaneState}
+
+pub record StepsState : Type 0 where
+  -- the locks of the bytes that came
+  pub lock : LaneState
+  -- the steps of the last byte, one for each of its bits
+  pub shown : List LaneStep
