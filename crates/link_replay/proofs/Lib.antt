@@ -3,6 +3,7 @@ pub mod Points
 pub mod Whole
 pub mod DarkSteps
 mod AllBits
+mod AllReaders
 mod AtEnd
 mod Bits
 mod EndGroups
@@ -15,9 +16,13 @@ mod LaneBounds
 mod LaneSteps
 mod Led
 mod Made
+mod Noting
 mod Numbers
+mod QuietTicks
 mod Reach
+mod ReaderSteps
 mod Results
+mod Rounds
 mod RunSteps
 mod SentGroups
 mod SentRuns

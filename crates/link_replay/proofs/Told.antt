@@ -71,7 +71,7 @@ last_group_of v d s ticks given at st =
     let g = at_group s (lanes_shown s.lanes ticks) (first_cursor s) given at c k.leads in
     record { starts = k.starts; each = k.each; inside = subst (λ (p : Phase). IsPlacedIn s (lanes_shown s.lanes ticks) p c) g.phase k.placed; head = g.head }
 
-pub tells_group : (v : Replay) (words : List SentWord) (received : List (List ℕ)) (clock name : ℕ) (r : Replays v words received clock) → clock < 2 ^ 60 → LastGroup v v.settings r.ticks name → TellsGroup v name
+pub tells_group : (v : Replay) (words : List SentWord) (received : List (List ℕ)) (clock name : ℕ) (r : Replays v words received clock) → clock ≤ 2 ^ 60 → LastGroup v v.settings r.ticks name → TellsGroup v name
 tells_group v words received clock name r few g =
     let s = v.settings in
     let some = r.link.lanes.0 in
@@ -89,7 +89,7 @@ tells_group v words received clock name r few g =
           (syncs_tell s (made (sent_of v words)) clock name 0 r.ticks v.lanes received g.starts r.link n (omega (arith, e, n)) r.lanes_are g.inside h) h r.head (omega (arith, n, some));
     }
 
-pub tells_item : (v : Replay) (words : List SentWord) (received : List (List ℕ)) (clock : ℕ) (d : DeskewState) (item : Aligned) (r : Replays v words received clock) → clock < 2 ^ 60 →
+pub tells_item : (v : Replay) (words : List SentWord) (received : List (List ℕ)) (clock : ℕ) (d : DeskewState) (item : Aligned) (r : Replays v words received clock) → clock ≤ 2 ^ 60 →
     DeskewStands d v.settings r.ticks (r.given ++ item ∷ []) → TellsItem (with_deskew d v) item
 tells_item v words received clock d (Group at) r few st =
     let t = tells_group v words received clock at.group r few (last_group_of v d v.settings r.ticks r.given at st) in

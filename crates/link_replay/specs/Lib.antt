@@ -1,6 +1,7 @@
 pub mod Damages
 pub mod Lanes
 pub mod Places
+pub mod Readers
 pub mod Runs
 pub mod Standing
 pub mod Stretches

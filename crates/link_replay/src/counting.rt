@@ -6,6 +6,7 @@ ghost use Rattle.link_replay.specs.Lanes.{AreFew};
 
 use crate::counts::Accidents;
 use crate::lanes::longest;
+use crate::readers::{leap, readers_of, take_all};
 use crate::replay::Replay;
 use lk_base::{Link, OutOfMemory, Word};
 use std::alloc::Global;
@@ -28,9 +29,15 @@ pub fn accidents(
         (record { locks = a.locks; groups = a.groups; stretches = a.stretches })) }
 {
     let mut replay = Replay::make(alloc, link, skews)?;
-    // Behind the last bit of the longest lane, all lanes are over.
-    for clock in 0..longest(received) + 1 {
-        replay.tick(sent, received, clock)?;
+    let mut lanes = readers_of(alloc, link, received)?;
+    // The last round finds all lanes at their end.
+    let rounds = longest(received) + 1;
+    let mut round = 0;
+    while round < rounds {
+        take_all(&mut lanes, round);
+        replay.round(sent, &lanes, round)?;
+        round += 1;
+        round += leap(&mut lanes, round);
     }
     Ok(Accidents {
         locks: replay.locks(),

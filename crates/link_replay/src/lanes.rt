@@ -1,49 +1,36 @@
 ghost use Rattle.std.specs.Prelude.{◌≡◌, ◌≤◌, ◌<◌, ◌+◌, ◌*◌, ◌^◌, ℕ, All, IfOk, length, map};
 ghost use Rattle.std.specs.List.{list_any, range_with_len};
-ghost use Rattle.deskew.specs.Steps.{all_low};
-ghost use Rattle.link_replay.specs.Lanes.{AreFew, AreInTime, FirstStepped, IsFirst, IsFresh, all_numbered, strange_sum};
+ghost use Rattle.link_replay.specs.Lanes.{AreFew, AreNoted, HaveFew, IsFirst, IsFresh, all_numbered, strange_sum};
+ghost use Rattle.link_replay.specs.Readers.{step_at};
 
 use crate::lane::Lane;
 use crate::places::number_at;
-use arrayvec::ArrayVec;
+use crate::reader::Reader;
 use lk_base::{Link, OutOfMemory};
-use lock_model::LaneStep;
 use std::alloc::Global;
 
 /// The lanes of a link, of which no bit came.
-pub fn fresh_lanes(alloc: Global, link: &Link, skews: &[u32]) -> Result<Vec<Lane>, OutOfMemory>
+pub fn fresh_lanes(alloc: Global, skews: &[u32]) -> Result<Vec<Lane>, OutOfMemory>
     ensures skews { IfOk result (λ lanes. map (λ v. v.skew) lanes.items ≡ skews.now) }
-    ensures fresh { IfOk result (λ lanes. All (IsFresh link.now) lanes.items) }
+    ensures fresh { IfOk result (λ lanes. All IsFresh lanes.items) }
 {
     let mut lanes = Vec::new(alloc);
     for skew in skews {
-        let lane = Lane::make(alloc, link, *skew)?;
-        lanes.push(lane)?;
+        lanes.push(Lane::make(*skew))?;
     }
     Ok(lanes)
 }
 
-/// Each lane takes its bit at this place, and tells its step. There are at most 64 lanes, and as many lists of bytes.
-pub fn step_all(
-    lanes: &mut [Lane],
-    link: &Link,
-    made: u64,
-    received: &[Vec<u8>],
-    clock: u64,
-) -> ArrayVec<LaneStep, 64>
+/// Each lane's step of bit k of the last byte comes: k is below 8. There are as many lanes that were received.
+pub fn note_all(lanes: &mut [Lane], link: &Link, made: u64, received: &[Reader], k: u32)
+    requires place { k < 8 }
     requires count { length received.now ≡ length lanes.old }
-    requires most { length lanes.old ≤ 64 }
-    requires few { AreFew (map (λ b. b.items) received.now) }
-    requires time { AreInTime clock lanes.old }
-    ensures count { length result.items ≡ length lanes.old }
-    ensures low { all_low result.items }
-    ensures stepped { FirstStepped link.now made clock lanes.old (map (λ b. b.items) received.now) lanes.new result.items }
+    requires few { HaveFew lanes.old }
+    ensures { AreNoted link.now.metaframe made (map (step_at k) received.now) lanes.old lanes.new }
 {
-    let mut steps = ArrayVec::new();
     for i in 0..lanes.len() {
-        steps.push(lanes[i].step(link, made, &received[i], clock));
+        lanes[i].note(link, made, received[i].step(k));
     }
-    steps
 }
 
 /// Whether each lane's Sync in the last group, which has this name, is the sender's Sync of this number, whose bit position in the
@@ -90,21 +77,21 @@ pub fn strange_locks(lanes: &[Lane]) -> u64
     count
 }
 
-/// How many bits the longest of these lanes has. Each has fewer than 2^57 bytes.
-pub fn longest(received: &[Vec<u8>]) -> u64
+/// How many bytes the longest of these lanes has. Each has fewer than 2^57.
+pub fn longest(received: &[Vec<u8>]) -> usize
     requires { AreFew (map (λ b. b.items) received.now) }
-    ensures most { All (λ bytes. 8 * length bytes ≤ result) (map (λ b. b.items) received.now) }
-    ensures few { result + 1 < 2 ^ 60 }
+    ensures most { All (λ bytes. length bytes ≤ result) (map (λ b. b.items) received.now) }
+    ensures few { result < 2 ^ 57 }
 {
     let mut bytes = 0;
     for lane in received {
-        bytes = greater(bytes, lane.len() as u64);
+        bytes = greater(bytes, lane.len());
     }
-    8 * bytes
+    bytes
 }
 
 // The greater of two numbers.
-fn greater(a: u64, b: u64) -> u64
+fn greater(a: usize, b: usize) -> usize
     ensures left { a ≤ result }
     ensures right { b ≤ result }
     ensures below { (n : ℕ) → a < n → b < n → result < n }

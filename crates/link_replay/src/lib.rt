@@ -12,6 +12,8 @@ mod lane;
 mod lanes;
 mod marks;
 mod places;
+mod reader;
+mod readers;
 mod replay;
 mod runs;
 mod stretch;

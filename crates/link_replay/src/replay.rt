@@ -1,12 +1,15 @@
-ghost use Rattle.std.specs.Prelude.{◌≡◌, ◌%◌, ◌<◌, ◌^◌, ◌+◌, true, List, ℕ, IfOk, OnOk, length, map};
+ghost use Rattle.std.specs.Prelude.{◌≡◌, ◌%◌, ◌<◌, ◌^◌, ◌+◌, ◌*◌, true, List, ℕ, IfOk, OnOk, length};
 ghost use Rattle.lk_base.specs.Link.{group_of};
 ghost use Rattle.lk_base.specs.declared.word.Word.{Word as SentWord};
-ghost use Rattle.link_replay.specs.Lanes.{AreFew, strange_sum};
+ghost use Rattle.link_replay.specs.Lanes.{strange_sum};
+ghost use Rattle.link_replay.specs.Readers.{AreShown, ShowByte, bytes_of};
 ghost use Rattle.link_replay.specs.Standing.{Replays, TakesItem, TakesWord, TellsGroup, TellsItem, skews_of, with_group};
 
 use crate::lane::Lane;
-use crate::lanes::{fresh_lanes, is_sent_group, step_all, strange_locks};
+use crate::lanes::{fresh_lanes, is_sent_group, note_all, strange_locks};
 use crate::places::made;
+use crate::reader::Reader;
+use crate::readers::{quiet_bits, show_steps};
 use crate::stretch::Stretch;
 use deskew::Deskew;
 use lk_base::{Aligned, Link, OutOfMemory, Pos, RxWord, Word};
@@ -42,7 +45,7 @@ impl Replay {
         ensures stands { IfOk result (λ v. (words : List SentWord) (received : List (List ℕ)) → length received ≡ link.now.lanes →
             length words % group_of link.now ≡ 0 → Replays v words received 0) }
     {
-        let lanes = fresh_lanes(alloc, link, skews)?;
+        let lanes = fresh_lanes(alloc, skews)?;
         let deskew = Deskew::make(alloc, link)?;
         Ok(Replay {
             link: *link,
@@ -101,26 +104,49 @@ impl Replay {
         }
     }
 
-    /// The bit of each lane at this place comes. Each lane has fewer than 2^57 bytes.
-    pub fn tick(
-        &mut self,
-        sent: &[Word],
-        received: &[Vec<u8>],
-        clock: u64,
-    ) -> Result<(), OutOfMemory>
-        requires stands { Replays self.old sent.now (map (λ b. b.items) received.now) clock }
+    // The bit of each lane at this place comes, one of the last byte that was taken.
+    fn tick(&mut self, sent: &[Word], lanes: &[Reader], clock: u64) -> Result<(), OutOfMemory>
+        requires stands { Replays self.old sent.now (bytes_of lanes.now) clock }
         requires settled { self.old.deskew.settled ≡ true }
-        requires few { AreFew (map (λ b. b.items) received.now) }
-        requires clock { clock + 1 < 2 ^ 60 }
-        ensures stands { OnOk result (Replays self.new sent.now (map (λ b. b.items) received.now) (clock + 1)) }
+        requires shown { AreShown self.old.settings clock (clock % 8) lanes.now }
+        requires clock { clock < 2 ^ 60 }
+        ensures stands { OnOk result (Replays self.new sent.now (bytes_of lanes.now) (clock + 1)) }
         ensures settled { OnOk result (self.new.deskew.settled ≡ true) }
         ensures same { OnOk result ((self.new.settings ≡ self.old.settings) × (skews_of self.new.lanes ≡ skews_of self.old.lanes)) }
     {
         let made = made(&self.link, sent);
-        let steps = step_all(&mut self.lanes, &self.link, made, received, clock);
-        self.deskew.tick(&steps);
+        let k = (clock % 8) as u32;
+        note_all(&mut self.lanes, &self.link, made, lanes, k);
+        show_steps(lanes, k, &mut self.deskew);
         while let Some(item) = self.deskew.next() {
             self.item(sent, item)?;
+        }
+        Ok(())
+    }
+
+    /// The eight bits of the byte of each lane at this place come, the last that was taken. A bit at which no lane shows anything
+    /// changes nothing.
+    pub fn round(
+        &mut self,
+        sent: &[Word],
+        lanes: &[Reader],
+        round: usize,
+    ) -> Result<(), OutOfMemory>
+        requires stands { Replays self.old sent.now (bytes_of lanes.now) (8 * round) }
+        requires settled { self.old.deskew.settled ≡ true }
+        requires shown { ShowByte self.old.settings round lanes.now }
+        requires few { round < 2 ^ 57 }
+        ensures stands { OnOk result (Replays self.new sent.now (bytes_of lanes.now) (8 * (round + 1))) }
+        ensures settled { OnOk result (self.new.deskew.settled ≡ true) }
+        ensures same { OnOk result ((self.new.settings ≡ self.old.settings) × (skews_of self.new.lanes ≡ skews_of self.old.lanes)) }
+    {
+        let mut k = 0;
+        while k < 8 {
+            k += quiet_bits(lanes, k);
+            if k < 8 {
+                self.tick(sent, lanes, 8 * round as u64 + k as u64)?;
+                k += 1;
+            }
         }
         Ok(())
     }
