@@ -47,13 +47,22 @@ module _ (c : Conversion) where
       by-limit true e k = absurd (never-refused content count TooLarge k)
       by-limit false e k = let within : length bytes ≤ c.limit = grind (arith, nat_tests) in converted bytes content count within k
 
-  is-made : (found : Option (List ℕ)) (bytes content : List ℕ) (count : ℕ) → found ≡ Some bytes → length bytes ≤ c.limit → c.Makes bytes content count → OutcomeAt found (made_outcome c.created c.counted content count)
+  pub is-made : (found : Option (List ℕ)) (bytes content : List ℕ) (count : ℕ) → found ≡ Some bytes → length bytes ≤ c.limit → c.Makes bytes content count → OutcomeAt found (made_outcome c.created c.counted content count)
   is-made found bytes content count is h made =
       subst (λ f. OutcomeAt f (made_outcome c.created c.counted content count)) (sym is) (by-limit (nat_lt c.limit (length bytes)) refl)
     where
       by-limit : (t : Bool) → nat_lt c.limit (length bytes) ≡ t → MatchResult (if t then Err (of_input c.name TooLarge) else Ok bytes) (λ b. Converts c b (made_outcome c.created c.counted content count)) (λ r. made_outcome c.created c.counted content count ≡ refused_outcome r)
       by-limit true e = absurd (grind (arith, nat_tests))
       by-limit false e = inl (content, count, made, refl)
+
+  -- bytes that are refused come to their refusal
+  pub is-refused : (found : Option (List ℕ)) (bytes : List ℕ) (why : InputError) → found ≡ Some bytes → length bytes ≤ c.limit → c.Refuses bytes why → OutcomeAt found (refused_outcome (of_input c.name why))
+  is-refused found bytes why is h refuses =
+      subst (λ f. OutcomeAt f (refused_outcome (of_input c.name why))) (sym is) (by-limit (nat_lt c.limit (length bytes)) refl)
+    where
+      by-limit : (t : Bool) → nat_lt c.limit (length bytes) ≡ t → MatchResult (if t then Err (of_input c.name TooLarge) else Ok bytes) (λ b. Converts c b (refused_outcome (of_input c.name why))) (λ r. refused_outcome (of_input c.name why) ≡ refused_outcome r)
+      by-limit true e = absurd (grind (arith, nat_tests))
+      by-limit false e = inr (why, refuses, refl)
 
 -- ---- the laws
 

@@ -3,3 +3,4 @@ pub mod Conversion
 pub mod Listing
 pub mod Assembling
 pub mod Undoing
+pub mod Worked

@@ -11,6 +11,6 @@ mod tests;
 
 pub use assemble_text::AssembleText;
 pub use conversion::Made;
-pub use law::{listings_undo_each_other, output_names};
+pub use law::{listings_undo_each_other, output_names, worked_files};
 pub use limits::{LISTED_LIMIT, TEXT_LIMIT};
 pub use list_file::ListFile;
