@@ -5,6 +5,7 @@ pub mod NoBurstWhenOff
 pub mod Counted
 pub mod OutputNames
 pub mod PartsOfStreams
+pub mod LanesSent
 pub mod DefaultSource
 pub mod CaptureWork
 pub mod PlanWork

@@ -1,7 +1,9 @@
 -- The stream of a plan and its inputs: what it comes to is lawful, and is what is made of its source.
 use Rattle.std.proofs.Common.{◌≡◌, ◌⊎◌, ℕ, List, refl, sym, ◌∙◌, ap, subst, Option, Result, Ok, Err}
 use Rattle.lk_base.specs.declared.word.Word.{Word}
-use Rattle.lk_base.specs.Link.{Settings, group_of}
+use Rattle.lk_base.specs.Link.{Settings}
+use Rattle.tx_end.specs.Whole.{IsShapeOf}
+use Rattle.plan_inputs.specs.Sources as Planned
 use Rattle.stream_model.specs.BurstStream.{Source, IsBurstStream, IsHeld}
 use Rattle.lk_outside.specs.Files.{Files, AreBytes}
 use Rattle.run_shell.specs.declared.status.Status.TheVariants.{Done, Held}
@@ -85,9 +87,10 @@ writes_alike P Q names r x y to back h = record { fills = by r h.fills; others =
     by (Ok f) k = record { outcome = k.outcome; is_outcome = to k.outcome k.is_outcome; status = k.status; text = k.text; files = k.files }
     by (Err s) k = record { by_store = k.by_store; part = λ o q. k.part o (back o q) }
 
-pub suits_by : (settings : Settings) (f : StreamForm) (source : Source) → IsFormOf settings f → source.shape.group ≡ group_of settings → Suits f source
-suits_by settings form.Words source is e = tt
-suits_by settings (form.Lanes link) source is e = e ∙ sym (ap group_of is)
+pub suits_by : (settings : Settings) (f : StreamForm) (source : Source) → IsFormOf settings f → Planned.IsShapeOf settings source.shape → Suits f source
+suits_by settings form.Words source is shape = tt
+suits_by settings (form.Lanes link) source is shape =
+    subst (λ (s : Settings). IsShapeOf s source.shape) (sym is) (record { burst_max = shape.burst_max; burst_short = shape.burst_short; group = shape.group; warmup = shape.warmup })
 
 -- what is written of the source of a plan and its inputs
 pub writes_plan : (f : StreamForm) (out prefix : List ℕ) (i : Reading) (source : Source) (r : Result Finished Stop) (x y : Option Files) → IsSourceOf i.plan i.inputs source → prefix ≡ out

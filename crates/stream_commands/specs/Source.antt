@@ -27,7 +27,7 @@ pub record IsKept (s : StreamSource) : Type 0 where
   pub among : All (Contains s.channels.now) s.entries.now
   pub listed : All (λ (p : Packet). Contains s.channels.now p.channel) s.packets.now
   pub sized : AreSized s.packets.now
-  pub bytes : sum_by (λ (p : ℕ × List ℕ). length p.1) (packets_by s.packets.now) < 2 ^ 40
+  pub bytes : sum_by (λ (p : ℕ × List ℕ). length p.1) (packets_by s.packets.now) < 2 ^ 32
   pub flow_in_order : IsNonDecreasing (map (λ (row : FlowRow). row.slot) s.flow.now)
   pub flow_low : All (λ (row : FlowRow). row.slot ≤ 16777215) s.flow.now
   pub local_in_order : IsNonDecreasing (map (λ (row : LocalRow). row.slot) s.local.now)

@@ -61,7 +61,7 @@ fn burst_packets<S: Store>(
 ) -> Result<Finished, Stop>
     requires count { S.faults store.old < 2 ^ 60 }
     requires sized { All (λ packet. (1 ≤ length packet.now) × (length packet.now ≤ 262144)) packets.now }
-    requires total { sum_by (λ packet. length packet.now) packets.now < 2 ^ 40 }
+    requires total { sum_by (λ packet. length packet.now) packets.now < 2 ^ 32 }
     ensures cause { StopCount result (S.faults store.old) (S.faults store.new) }
     ensures writes { Writes (HasStream (IsWordsFile name.now) (default_source (map (λ packet. packet.now) packets.now))) (words_name name.now ∷ []) result (S.files store.old) (S.files store.new) }
 {

@@ -3,6 +3,7 @@
 
 mod capture;
 mod form;
+mod lanes;
 mod law;
 mod names;
 mod plan;

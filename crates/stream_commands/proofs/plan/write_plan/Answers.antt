@@ -4,13 +4,16 @@ use Rattle.run_shell.specs.declared.stop.Stop.TheVariants as stop
 use Rattle.run_shell.proofs.Writing.{none_writes}
 use Rattle.plan_inputs.specs.Values.{reading_value}
 use Rattle.stream_commands.specs.Source.{source_of}
-use Rattle.stream_commands.proofs.PlanWork.{writes_plan}
+use Rattle.stream_commands.proofs.PlanWork.{suits_by, writes_plan}
 use Rattle.stream_commands.proofs.plan.write_plan.Goals as goal
 
 pub returns-in_err-parts-clause-writes : goal.returns-in_err-parts-clause-writes
 returns-in_err-parts-clause-writes g c =
     let p = err_from_is_err_and c.from_residual.result c.from_residual.ensures.1 in
     rw (p.1, p.2) (none_writes _ _ stop.OutOfMemory _ tt)
+
+pub write_stream-requires-clause-suits : goal.write_stream-requires-clause-suits
+write_stream-requires-clause-suits g c = suits_by c.args.reading.now.plan.link c.args.form.now (source_of c.source_from-source.result) c.requires.form c.source_from-source.ensures.is.shape
 
 pub returns-clause-writes : goal.returns-clause-writes
 returns-clause-writes g c =

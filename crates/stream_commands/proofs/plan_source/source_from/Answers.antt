@@ -32,13 +32,13 @@ returns-clause-kept c =
           (subst (λ (cs : List ℕ). All (Contains cs) p.entries.items) (sym order) (entries_in_order numbers p.entries.items p.narrow p.listed));
       listed = lent_on numbers c.args.channels.now c.args.packets.now (packet_values c.args.reading.now.inputs.packets.items) p.narrow order same c.requires.fit.on;
       sized = c.requires.sized;
-      bytes = subst (λ (ps : List (ℕ × List ℕ)). size_of ps < 2 ^ 40) (sym same) (small _ c.requires.fit.size);
+      bytes = subst (λ (ps : List (ℕ × List ℕ)). size_of ps < 2 ^ 32) (sym same) (small _ c.requires.fit.size);
       flow_in_order = slots_in_order (λ (r : FlowRow). r.slot) c.as_slice-2.result.now (subst (IsNonDecreasingBy (λ (r : FlowRow). r.slot)) (sym c.as_slice-2.ensures.value) c.requires.fit.flow);
       flow_low = subst (λ (rows : List FlowRow). All (λ (r : FlowRow). r.slot ≤ 16777215) rows) (sym c.as_slice-2.ensures.value) (low_slots c.args.reading.now.inputs.flow.items c.requires.fit.flow_low);
       local_in_order = slots_in_order (λ (r : LocalRow). r.slot) c.as_slice-3.result.now (subst (IsNonDecreasingBy (λ (r : LocalRow). r.slot)) (sym c.as_slice-3.ensures.value) c.requires.fit.local);
     }
   where
-    small : (n : ℕ) → n ≤ capture_limit → n < 2 ^ 40
+    small : (n : ℕ) → n ≤ capture_limit → n < 2 ^ 32
     small n h = omega arith
 
 pub returns-clause-is : goal.returns-clause-is
