@@ -5,6 +5,7 @@ pub mod DarkSteps
 mod AllBits
 mod AtEnd
 mod Bits
+mod Came
 mod EndGroups
 mod EndLaw
 mod EndOfLanes
@@ -20,6 +21,7 @@ mod Reach
 mod Results
 mod RunSteps
 mod SentGroups
+pub mod SentLow
 mod SentRuns
 mod Stepping
 mod StretchSteps

@@ -4,3 +4,4 @@ pub mod Places
 pub mod Runs
 pub mod Standing
 pub mod Stretches
+pub mod Missing
