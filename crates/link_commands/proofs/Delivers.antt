@@ -57,7 +57,7 @@ use Rattle.link_commands.specs.Linked.{IsLinkedBy, sent_over}
 
 -- ---- the plan that is read, and its packets
 
-read_plan : (files : Files) (name : List ℕ) (i : LinkReading) → linked_in files name ≡ Ok i → planned_in files name ≡ Ok i.reading
+pub read_plan : (files : Files) (name : List ℕ) (i : LinkReading) → linked_in files name ≡ Ok i → planned_in files name ≡ Ok i.reading
 unfolding linked_in
 read_plan files name i e =
     let (reading, had, next) = behind_ok (planned_in files name) (with_schedule files) i e in
@@ -65,7 +65,7 @@ read_plan files name i e =
     let one : record { reading = reading; schedule = schedule } ≡ i = cc in
     subst (λ (j : LinkReading). planned_in files name ≡ Ok j.reading) one had
 
-each_packet : (files : Files) (name : List ℕ) (i : LinkReading) (stream : List Word) (o : Outcome) → AreBytes files → linked_in files name ≡ Ok i → (h : IsLinkedBy i stream o) → EachIsPacket h.setting.max_packet h.source
+pub each_packet : (files : Files) (name : List ℕ) (i : LinkReading) (stream : List Word) (o : Outcome) → AreBytes files → linked_in files name ≡ Ok i → (h : IsLinkedBy i stream o) → EachIsPacket h.setting.max_packet h.source
 each_packet files name i stream o are e h =
     let (had, read) = planned_parts files name i.reading (read_plan files name i e) in
     let fit : AreFit i.reading.plan.settings.max_packet i.reading.inputs.packets = inputs_packets files i.reading.plan i.reading.inputs are read in
@@ -121,7 +121,7 @@ module _ (link_type : ℕ) (prefix : List ℕ) (given : List Event) where
 
 -- ---- where no accident was counted
 
-listed_among : (cs : List ℕ) (channel : ℕ) → Contains cs channel → is_some (find (λ c. c == channel) cs) ≡ true
+pub listed_among : (cs : List ℕ) (channel : ℕ) → Contains cs channel → is_some (find (λ c. c == channel) cs) ≡ true
 listed_among [] channel (k, lt, e) = absurd (omega arith)
 listed_among (c ∷ cs) channel (zero, lt, e) = rw (eq-eqb c channel e) refl
 listed_among (c ∷ cs) channel (suc k, lt, e) = split (c == channel)
@@ -132,7 +132,7 @@ among_narrow : (cs : List ℕ) (channel : ℕ) → All (λ n. n ≤ 255) cs → 
 among_narrow cs channel all (k, lt, e) = subst (λ n. n ≤ 255) e (all k channel lt)
 
 module _ (i : LinkReading) (stream : List Word) (o : Outcome) (h : IsLinkedBy i stream o) where
-  what_comes : AreReceived i.reading.plan.settings (map bits_of_bytes h.lanes) h.are_events.epochs
+  pub what_comes : AreReceived i.reading.plan.settings (map bits_of_bytes h.lanes) h.are_events.epochs
   what_comes = record { lanes = h.are_events.received; bits = h.are_events.bits; are = h.are_events.are }
 
   narrow : All (λ n. n ≤ 255) h.setting.channels

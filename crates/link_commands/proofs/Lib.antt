@@ -1,6 +1,9 @@
 pub mod ReceivedLanes
+pub mod FewSent
 pub mod OneLink
 pub mod LinkWork
 pub mod LinkReadings
 pub mod Writing
 pub mod Delivers
+pub mod Listed
+pub mod Tells

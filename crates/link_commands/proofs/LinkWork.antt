@@ -20,6 +20,7 @@ use Rattle.link_plan.specs.declared.error.PlanError.{PlanError}
 use Rattle.link_plan.specs.declared.schedule_row.ScheduleRow.{ScheduleRow}
 use Rattle.link_laws.proofs.Determined.{accidents_are_there}
 use Rattle.link_reports.specs.Lines.{held_line}
+use Rattle.tx_end.proofs.SomeList.{some_list}
 use Rattle.run_shell.specs.declared.status.Status.TheVariants.{Done, Held}
 use Rattle.run_shell.specs.Meaning.{IsMeaning}
 use Rattle.run_shell.specs.Outcome.{Outcome}
@@ -43,6 +44,7 @@ use Rattle.receive_commands.proofs.Receives.{is_the_setting, some_reports, the_s
 use Rattle.link_commands.specs.Inputs.{LinkReading, linked_in, with_schedule}
 use Rattle.link_commands.specs.Link.{link_meaning, link_work}
 use Rattle.link_commands.specs.Linked.{IsEndedBy, IsLinked, IsLinkedBy, link_text, sent_over}
+use Rattle.link_commands.specs.Missing.{missing_in, missing_lines}
 use Rattle.link_commands.proofs.OneLink.{one_linked}
 use Rattle.link_commands.proofs.ReceivedLanes.{some_received}
 
@@ -98,7 +100,8 @@ module _ (i : LinkReading) (link : IsLink i.reading.plan.settings) (skews : leng
       let whole : length w % group_of s ≡ 0 = whole_by (form.Lanes s) source w is.shape.group stream in
       let (counts, are_counts) = accidents_are_there (sent_over i w) (map bits_of_bytes lanes) (omega (arith, long)) (omega (arith, low)) skews count whole in
       let files = outs (names_of_lanes i.reading.plan) lanes ++ received_files setting i.reading.plan.link_type i.reading.plan.out events in
-      let lines = link_text source w reports setting events counts in
+      let (sent, are_sent) = some_list w in
+      let lines = link_text source w reports setting events counts (missing_lines sent (missing_in (sent_over i w) events sent)) in
       let made : (o : Outcome) → IsStatusOf source w o.status → o.files ≡ files → IsEndedBy source w lines o.text → IsLinkedBy i w o = λ o status same text. record {
         link = link;
         source = source;
@@ -114,6 +117,8 @@ module _ (i : LinkReading) (link : IsLink i.reading.plan.settings) (skews : leng
         are_reports = are_reports;
         counts = counts;
         are_counts = are_counts;
+        sent = sent;
+        are_sent = are_sent;
         status = status;
         files = same;
         text = text;

@@ -15,7 +15,9 @@ use Rattle.receiver_model.proofs.KnownEvents.{events_are_determined}
 use Rattle.link_laws.specs.Accidents.{Accidents, AreAccidents}
 use Rattle.link_laws.proofs.Determined.{accidents_determined}
 use Rattle.link_reports.specs.Lines.{held_line}
+use Rattle.tx_end.specs.declared.sent.Sent.{Sent}
 use Rattle.tx_end.specs.Sources.{IsHeldOn}
+use Rattle.tx_end.proofs.ListedSent.{one_list}
 use Rattle.run_shell.specs.declared.status.Status.{Status}
 use Rattle.run_shell.specs.Outcome.{Output, Outcome}
 use Rattle.run_shell.specs.Outputs.{outs}
@@ -29,6 +31,7 @@ use Rattle.receive_commands.proofs.Joins.{plan_setting}
 use Rattle.receive_commands.proofs.Receives.{same_reports}
 use Rattle.link_commands.specs.Inputs.{LinkReading}
 use Rattle.link_commands.specs.Linked.{AreReceivedFiles, IsEndedBy, IsLinked, IsLinkedBy, link_text, sent_over}
+use Rattle.link_commands.specs.Missing.{missing_in, missing_lines}
 use Rattle.link_commands.proofs.ReceivedLanes.{one_received}
 
 module _ (source : Source) (w : List Word) where
@@ -81,12 +84,23 @@ module _ (i : LinkReading) (w : List Word) (o p : Outcome) (h : IsLinkedBy i w o
   counts_are = accidents_determined (sent_over i w) (map bits_of_bytes k.lanes) h.counts k.counts h.link.deskew_below_half
       (subst (λ (ls : List (List ℕ)). AreAccidents (sent_over i w) (map bits_of_bytes ls) h.counts) lanes_are h.are_counts) k.are_counts
 
-  lines_are : link_text h.source w h.reports h.setting h.events h.counts ≡ link_text h.source w k.reports k.setting k.events k.counts
+  sent_are : h.sent ≡ k.sent
+  sent_are = one_list w h.sent k.sent h.are_sent k.are_sent
+
+  -- the lines of the missing packets
+  abbrev told : List Event → List Sent → List ℕ
+  told events sent = missing_lines sent (missing_in (sent_over i w) events sent)
+
+  told_are : told h.events h.sent ≡ told k.events k.sent
+  told_are = ap (λ (x : List Event). told x h.sent) events_are ∙ ap (told k.events) sent_are
+
+  lines_are : link_text h.source w h.reports h.setting h.events h.counts (told h.events h.sent) ≡ link_text h.source w k.reports k.setting k.events k.counts (told k.events k.sent)
   lines_are =
-      ap (λ (x : List LaneReport). link_text h.source w x h.setting h.events h.counts) reports_are
-      ∙ ap (λ (x : Setting). link_text h.source w k.reports x h.events h.counts) setting_is
-      ∙ ap (λ (x : List Event). link_text h.source w k.reports k.setting x h.counts) events_are
-      ∙ ap (λ (x : Accidents). link_text h.source w k.reports k.setting k.events x) counts_are
+      ap (λ (x : List LaneReport). link_text h.source w x h.setting h.events h.counts (told h.events h.sent)) reports_are
+      ∙ ap (λ (x : Setting). link_text h.source w k.reports x h.events h.counts (told h.events h.sent)) setting_is
+      ∙ ap (λ (x : List Event). link_text h.source w k.reports k.setting x h.counts (told h.events h.sent)) events_are
+      ∙ ap (λ (x : Accidents). link_text h.source w k.reports k.setting k.events x (told h.events h.sent)) counts_are
+      ∙ ap (link_text h.source w k.reports k.setting k.events k.counts) told_are
 
   one_by : o ≡ p
   one_by =
@@ -96,9 +110,9 @@ module _ (i : LinkReading) (w : List Word) (o p : Outcome) (h : IsLinkedBy i w o
       ∙ ap (λ (x : Setting). outs (names_of_lanes i.reading.plan) k.lanes ++ received_files x i.reading.plan.link_type i.reading.plan.out h.events) setting_is
       ∙ ap (λ (x : List Event). outs (names_of_lanes i.reading.plan) k.lanes ++ received_files k.setting i.reading.plan.link_type i.reading.plan.out x) events_are
       ∙ sym k.files)
-      (one_text h.source w (one_held_on h.source w) (link_text h.source w k.reports k.setting k.events k.counts) o.text p.text
+      (one_text h.source w (one_held_on h.source w) (link_text h.source w k.reports k.setting k.events k.counts (told k.events k.sent)) o.text p.text
       (subst (λ (ls : List ℕ). IsEndedBy h.source w ls o.text) lines_are h.text)
-      (subst (λ (x : Source). IsEndedBy x w (link_text x w k.reports k.setting k.events k.counts) p.text) source_is k.text))
+      (subst (λ (x : Source). IsEndedBy x w (link_text x w k.reports k.setting k.events k.counts (told k.events k.sent)) p.text) source_is k.text))
 
 pub one_linked : (i : LinkReading) (o p : Outcome) → IsLinked i o → IsLinked i p → o ≡ p
 one_linked i o p (w, h) (v, k) =

@@ -1,5 +1,5 @@
 -- What is carried over a link is what it comes to.
-use Rattle.std.proofs.Common.{◌≡◌, ◌⊎◌, inl, inr, ◌↔◌, ◌<◌, ◌^◌, ℕ, All, false, List, [], ◌∷◌, ◌++◌, length, map, refl, sym, ap, ◌∙◌, subst, arith, append_assoc, append-nil, Option, Some, None, Result, Ok, Err, Contains, Vec, Global}
+use Rattle.std.proofs.Common.{◌≡◌, ◌⊎◌, inl, inr, ◌↔◌, ◌<◌, ◌^◌, ℕ, All, false, List, [], ◌∷◌, ◌++◌, length, map, refl, sym, ap, ap₂, ◌∙◌, subst, arith, append_assoc, append-nil, Option, Some, None, Result, Ok, Err, Contains, Vec, Global}
 use Rattle.std.specs.Prelude.{is_some}
 use Rattle.std.proofs.lemmas.List.{length-map}
 use Rattle.std.proofs.lemmas.List.Elements.{All-map}
@@ -11,7 +11,10 @@ use Rattle.std.proofs.lemmas.List.FromFn.{length-map-range_with_len}
 use Rattle.stream_model.specs.BurstStream.{Source, IsBurstStream, IsHeld}
 use Rattle.stream_model.proofs.OneStream.{one_stream}
 use Rattle.receiver_model.specs.Given.{AreEvents}
-use Rattle.link_laws.specs.Accidents.{Accidents, AreAccidents}
+use Rattle.receive_model.specs.declared.span.Span.{Span}
+use Rattle.link_laws.specs.declared.found.Found.{Found}
+use Rattle.link_laws.specs.Accidents.{Accidents, AreAccidents, slot_place}
+use Rattle.link_laws.specs.Missing.{missing_of}
 use Rattle.link_plan.specs.Plan.{PlanValue}
 use Rattle.receive_model.specs.Events.{Event, Setting}
 use Rattle.run_shell.specs.declared.stop.Stop.{Stop}
@@ -40,7 +43,8 @@ use Rattle.link_commands.specs.declared.carried.Carried.{Carried}
 use Rattle.link_commands.specs.Carrying.{IsCarried, counts_value}
 use Rattle.link_commands.specs.Inputs.{LinkReading}
 use Rattle.link_commands.specs.Link.{link_names}
-use Rattle.link_commands.specs.Linked.{AreReceivedFiles, IsEndedBy, IsLinked, IsLinkedBy, count_line, link_text}
+use Rattle.link_commands.specs.Linked.{AreReceivedFiles, IsEndedBy, IsLinked, IsLinkedBy, count_line, link_text, sent_over}
+use Rattle.link_commands.specs.Missing.{missing_in, missing_lines}
 use Rattle.link_commands.proofs.OneLink.{one_linked}
 use Rattle.link_commands.proofs.ReceivedLanes.{one_received}
 
@@ -70,8 +74,8 @@ pub ends_by : (source : Source) (w : List Word) (held : Option ℕ) (lines text 
 ends_by source w None lines text on free e = inr (free.0 refl, e ∙ append-nil lines)
 ends_by source w (Some channel) lines text on free e = inl (channel, (on channel).0 refl, e)
 
-all_lines : (a b c d : List ℕ) → ((a ++ b) ++ c) ++ d ≡ a ++ (b ++ (c ++ d))
-all_lines a b c d = append_assoc (a ++ b) c d ∙ append_assoc a b (c ++ d)
+all_lines : (a b c d e : List ℕ) → (((a ++ b) ++ c) ++ d) ++ e ≡ a ++ (b ++ (c ++ (d ++ e)))
+all_lines a b c d e = append_assoc ((a ++ b) ++ c) d e ∙ append_assoc (a ++ b) c (d ++ e) ∙ append_assoc a b (c ++ (d ++ e))
 
 -- ---- what it comes to
 
@@ -82,9 +86,13 @@ module _ (i : LinkReading) (c : Carried) (is : IsCarried i c) (was : Option File
   abbrev b : Beginning
   b = held_beginning i.reading.plan setting lanes was
 
+  -- the lines of the missing packets
+  abbrev pub told : List Event → List ℕ
+  told events = missing_lines c.sent.items (missing_in (sent_over i is.stream) events c.sent.items)
+
   -- the text behind the lines of the lanes' reports
   abbrev pub text_of : List ℕ → List Event → List ℕ
-  text_of reports events = (((c.lines.items ++ reports) ++ received_text setting events) ++ count_line (counts_value c.counts)) ++ held_text c.held
+  text_of reports events = ((((c.lines.items ++ reports) ++ received_text setting events) ++ count_line (counts_value c.counts)) ++ told events) ++ held_text c.held
 
   names_are : names_of b ≡ link_names i.reading.plan
   names_are =
@@ -137,14 +145,24 @@ module _ (i : LinkReading) (c : Carried) (is : IsCarried i c) (was : Option File
       are_reports = came.are_reports;
       counts = counts_value c.counts;
       are_counts = is.counts;
+      sent = c.sent.items;
+      are_sent = is.are_sent;
       status = status_by is.source is.stream c.held is.held is.free;
       files = refl;
-      text = ends_by is.source is.stream c.held (link_text is.source is.stream came.reports setting came.events (counts_value c.counts)) (text_of lines came.events) is.held is.free
+      text = ends_by is.source is.stream c.held (link_text is.source is.stream came.reports setting came.events (counts_value c.counts) (told came.events)) (text_of lines came.events) is.held is.free
           (ap (λ (ls : List ℕ). ls ++ held_text c.held)
-          (ap (λ (ls : List ℕ). ((c.lines.items ++ ls) ++ received_text setting came.events) ++ count_line (counts_value c.counts)) came.lines
-          ∙ ap (λ (ls : List ℕ). ((ls ++ lane_lines 0 came.reports) ++ received_text setting came.events) ++ count_line (counts_value c.counts)) is.lines
-          ∙ all_lines (stream_text is.source is.stream) (lane_lines 0 came.reports) (received_text setting came.events) (count_line (counts_value c.counts))));
+          (ap (λ (ls : List ℕ). (((c.lines.items ++ ls) ++ received_text setting came.events) ++ count_line (counts_value c.counts)) ++ told came.events) came.lines
+          ∙ ap (λ (ls : List ℕ). (((ls ++ lane_lines 0 came.reports) ++ received_text setting came.events) ++ count_line (counts_value c.counts)) ++ told came.events) is.lines
+          ∙ all_lines (stream_text is.source is.stream) (lane_lines 0 came.reports) (received_text setting came.events) (count_line (counts_value c.counts)) (told came.events)));
     }
+
+    -- its text, where the lines of the reports and of the missing packets are lent
+    pub text_is : (lent missing : List ℕ) → lent ≡ lines → missing ≡ missing_lines c.sent.items (missing_of (slot_place (sent_over i is.stream)) receipt.found.items receipt.spans c.sent.items) →
+        ((((c.lines.items ++ lent) ++ received_text setting came.events) ++ count_line (counts_value c.counts)) ++ missing) ++ held_text c.held ≡ text_of lines came.events
+    text_is lent missing same is_missing =
+        ap (λ (ls : List ℕ). ((((c.lines.items ++ ls) ++ received_text setting came.events) ++ count_line (counts_value c.counts)) ++ missing) ++ held_text c.held) same
+        ∙ ap (λ (ls : List ℕ). ((((c.lines.items ++ lines) ++ received_text setting came.events) ++ count_line (counts_value c.counts)) ++ ls) ++ held_text c.held)
+        (is_missing ∙ ap₂ (λ (fs : List Found) (ss : List Span). missing_lines c.sent.items (missing_of (slot_place (sent_over i is.stream)) fs ss c.sent.items)) came.came.found came.came.spans)
 
     -- it was written, or stopped
     pub writes_link : (r : Result Finished Stop) (later : Option Files) (text : List ℕ) → text ≡ text_of lines came.events → Writes (λ o. o ≡ closed_outcome b came.events (is_some c.held) text) (names_of b) r was later → Writes (IsLinked i) (link_names i.reading.plan) r was later

@@ -12,7 +12,9 @@ use Rattle.link_laws.specs.Accidents.{Accidents, AreAccidents}
 use Rattle.link_plan.specs.Schedules.{ScheduleValue}
 use Rattle.link_replay.specs.Damages.{received_of}
 use Rattle.link_replay.specs.declared.counts.Accidents.{Accidents as Counted}
+use Rattle.link_replay.specs.Missing.{HasLowSlots}
 use Rattle.stream_commands.specs.Stream.{stream_text}
+use Rattle.tx_end.specs.Sent.{AreSent}
 use Rattle.receive_commands.specs.Held.{vec_bytes}
 use Rattle.link_commands.specs.declared.carried.Carried.{Carried}
 use Rattle.link_commands.specs.Inputs.{LinkReading}
@@ -27,7 +29,7 @@ pub record AreDamaged (schedule : ScheduleValue) (sent received : List (List ℕ
 abbrev pub counts_value : Counted → Accidents
 counts_value a = record { locks = a.locks; groups = a.groups; stretches = a.stretches }
 
--- the stream of a plan was carried: its lines and the channel that holds it, the received lanes, and the accidents
+-- the stream of a plan was carried: its lines and the channel that holds it, the received lanes, the accidents, and its packets
 pub record IsCarried (i : LinkReading) (c : Carried) : Type 0 where
   pub source : Source
   pub is_source : IsSourceOf i.reading.plan i.reading.inputs source
@@ -39,3 +41,6 @@ pub record IsCarried (i : LinkReading) (c : Carried) : Type 0 where
   pub lanes : AreReceivedFiles i.reading.plan.settings i.schedule stream (map vec_bytes c.lanes.items)
   pub few : All (λ (v : Vec ℕ Global). length v.items < 2 ^ 50) c.lanes.items
   pub counts : AreAccidents (sent_over i stream) (map bits_of_bytes (map vec_bytes c.lanes.items)) (counts_value c.counts)
+  pub are_sent : AreSent stream c.sent.items
+  pub few_sent : length c.sent.items < 2 ^ 32
+  pub low_slots : All HasLowSlots c.sent.items

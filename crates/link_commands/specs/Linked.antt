@@ -13,6 +13,8 @@ use Rattle.link_laws.specs.Accidents.{Sent, Accidents, AreAccidents}
 use Rattle.link_plan.specs.Schedules.{ScheduleValue}
 use Rattle.link_replay.specs.Damages.{lane_damage}
 use Rattle.link_reports.specs.Lines.{accidents_line, held_line}
+use Rattle.tx_end.specs.declared.sent.Sent.{Sent as Packet}
+use Rattle.tx_end.specs.Sent.{AreSent}
 use Rattle.tx_end.specs.Sources.{IsHeldOn}
 use Rattle.run_shell.specs.Outcome.{Outcome}
 use Rattle.run_shell.specs.Outputs.{outs}
@@ -22,6 +24,7 @@ use Rattle.receive_commands.specs.JoinPlan.{IsSettingOf}
 use Rattle.receive_commands.specs.Receive.{AreLaneReports, lane_lines, names_of_lanes}
 use Rattle.receive_commands.specs.Received.{received_files, received_text}
 use Rattle.link_commands.specs.Inputs.{LinkReading}
+use Rattle.link_commands.specs.Missing.{missing_in, missing_lines}
 
 -- these are the files of the received bits of the lanes that carry this stream, one for each lane, in order
 pub record AreReceivedFiles (s : Settings) (schedule : ScheduleValue) (stream : List Word) (files : List (List ℕ)) : Type 0 where
@@ -35,10 +38,10 @@ sent_over i stream = record { settings = i.reading.plan.settings; words = stream
 abbrev pub count_line : Accidents → List ℕ
 count_line counts = accidents_line counts.locks counts.groups counts.stretches
 
--- the lines of a link: those of the stream, of the lanes, of what was received, and of the accidents
-abbrev pub link_text : Source → List Word → List LaneReport → Setting → List Event → Accidents → List ℕ
-link_text source stream reports setting events counts =
-    stream_text source stream ++ (lane_lines 0 reports ++ (received_text setting events ++ count_line counts))
+-- the lines of a link: those of the stream, of the lanes, of what was received, of the accidents, and of the missing packets
+abbrev pub link_text : Source → List Word → List LaneReport → Setting → List Event → Accidents → List ℕ → List ℕ
+link_text source stream reports setting events counts missing =
+    stream_text source stream ++ (lane_lines 0 reports ++ (received_text setting events ++ (count_line counts ++ missing)))
 
 -- the last line of a stream that is held names the least listed channel that has bytes left at the finish
 abbrev pub IsEndedBy : Source → List Word → List ℕ → List ℕ → Type 0
@@ -47,7 +50,7 @@ IsEndedBy source stream lines text =
     ⊎ ((IsHeld source stream → ⊥) × (text ≡ lines))
 
 -- What they come to where this is their stream: the files of the received bits of its lanes; the captures and the span table of
--- what those bits show; and the text, with the accidents.
+-- what those bits show; and the text, with the accidents and the packets that did not come.
 pub record IsLinkedBy (i : LinkReading) (stream : List Word) (o : Outcome) : Type 0 where
   -- as of every plan that is accepted
   pub link : IsLink i.reading.plan.settings
@@ -64,9 +67,12 @@ pub record IsLinkedBy (i : LinkReading) (stream : List Word) (o : Outcome) : Typ
   pub are_reports : AreLaneReports i.reading.plan.settings lanes reports
   pub counts : Accidents
   pub are_counts : AreAccidents (sent_over i stream) (map bits_of_bytes lanes) counts
+  -- the packets that the stream sends, in the order of their SOP words
+  pub sent : List Packet
+  pub are_sent : AreSent stream sent
   pub status : IsStatusOf source stream o.status
   pub files : o.files ≡ outs (names_of_lanes i.reading.plan) lanes ++ received_files setting i.reading.plan.link_type i.reading.plan.out events
-  pub text : IsEndedBy source stream (link_text source stream reports setting events counts) o.text
+  pub text : IsEndedBy source stream (link_text source stream reports setting events counts (missing_lines sent (missing_in (sent_over i stream) events sent))) o.text
 
 -- such an outcome, of some stream
 abbrev pub IsLinked : LinkReading → Outcome → Type 0

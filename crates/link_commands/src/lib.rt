@@ -5,9 +5,10 @@ mod carried;
 mod lanes;
 mod law;
 mod link;
+mod missing;
 mod reading;
 mod text;
 
-pub use law::delivery_theorem;
+pub use law::{delivery_theorem, missing_packets};
 pub use link::LinkPlan;
 pub use reading::{LinkReading, read_link};

@@ -10,6 +10,7 @@ ghost use Rattle.link_commands.specs.Linked.{IsLinked};
 ghost use Rattle.link_commands.specs.Values.{link_value};
 
 use crate::carried::carry;
+use crate::missing::{first_skew, missing_text};
 use crate::reading::{LinkReading, read_link};
 use crate::text::link_text;
 use lk_outside::Store;
@@ -32,7 +33,9 @@ fn write_link<S: Store>(alloc: Global, store: &mut S, read: &LinkReading) -> Res
     let carried = carry(alloc, read)?;
     let held = receive_held(alloc, store, plan, names, &carried.lanes)?;
     let HeldReceipt { mut receipt, lines } = held;
-    let text = link_text(alloc, &carried, &lines, &receipt)?;
+    let skew = first_skew(&read.schedule);
+    let missing = missing_text(alloc, &plan.link, skew, &carried.sent, &receipt)?;
+    let text = link_text(alloc, &carried, &lines, &receipt, &missing)?;
     receipt.close(alloc, store, text, carried.held.is_some())
 }
 

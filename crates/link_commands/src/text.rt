@@ -25,16 +25,17 @@ fn joined(alloc: Global, first: &[u8], second: &[u8]) -> Result<Vec<u8>, OutOfMe
     Ok(text)
 }
 
-/// The lines of the stream, of the lanes' reports, of what came, of the accidents, and of the channel that holds the stream, if
-/// one does.
+/// The lines of the stream, of the lanes' reports, of what came, of the accidents, of the missing packets, and of the channel that
+/// holds the stream, if one does.
 pub fn link_text(
     alloc: Global,
     carried: &Carried,
     reports: &[u8],
     receipt: &Receipt,
+    missing: &[u8],
 ) -> Result<Vec<u8>, OutOfMemory>
     ensures { IfOk result (λ text. (b : Beginning) (events : List Event) (now : Option Files) → IsReceipt b events receipt.now now →
-        text.items ≡ (((carried.now.lines.items ++ reports.now) ++ received_text b.setting events) ++ count_line (counts_value carried.now.counts)) ++ held_text carried.now.held) }
+        text.items ≡ ((((carried.now.lines.items ++ reports.now) ++ received_text b.setting events) ++ count_line (counts_value carried.now.counts)) ++ missing.now) ++ held_text carried.now.held) }
 {
     let before = joined(alloc, &carried.lines, reports)?;
     let mut text = receipt.lines(alloc, before)?;
@@ -46,5 +47,6 @@ pub fn link_text(
         counts.groups,
         counts.stretches,
     )?;
+    text.extend_from_slice(missing)?;
     Ok(ended_by(alloc, text, carried.held)?)
 }

@@ -6,6 +6,7 @@ mod AllBits
 mod AllReaders
 mod AtEnd
 mod Bits
+mod Came
 mod EndGroups
 mod EndLaw
 mod EndOfLanes
@@ -25,6 +26,7 @@ mod Results
 mod Rounds
 mod RunSteps
 mod SentGroups
+pub mod SentLow
 mod SentRuns
 mod Stepping
 mod StretchSteps

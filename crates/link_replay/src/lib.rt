@@ -11,6 +11,7 @@ mod darks;
 mod lane;
 mod lanes;
 mod marks;
+mod missing;
 mod places;
 mod reader;
 mod readers;
@@ -21,6 +22,7 @@ mod stretch;
 pub use counting::accidents;
 pub use counts::Accidents;
 pub use damaging::damage;
+pub use missing::{MissingPacket, missing_of};
 
 #[cfg(test)]
 mod tests;

@@ -1,5 +1,5 @@
 -- A receipt: outputs come, or are stopped.
-use Rattle.std.proofs.Common.{◌≡◌, ℕ, zero, suc, ◌+◌, ◌<◌, ◌==◌, ◌||◌, Bool, true, false, IsTrue, List, [], ◌∷◌, ◌++◌, length, length-append, get_or, set, map, replicate, refl, sym, ap, ◌∙◌, subst, append_assoc, append-nil, arith, Option, Err, Contains}
+use Rattle.std.proofs.Common.{◌≡◌, ℕ, zero, suc, ◌+◌, ◌<◌, ◌==◌, ◌||◌, Bool, true, false, IsTrue, List, [], ◌∷◌, ◌++◌, length, length-append, get_or, set, map, replicate, refl, sym, ap, ◌∙◌, subst, append_assoc, append-nil, arith, Option, Err, Contains, cond, Vec, Global}
 use Rattle.std.proofs.lemmas.Bool.{ne_eqb, eqb-false}
 use Rattle.std.proofs.lemmas.List.{length-map}
 use Rattle.lk_base.specs.declared.fault.DropWhy.{DropWhy}
@@ -7,8 +7,11 @@ use Rattle.lk_base.specs.declared.position.Pos.{Pos}
 use Rattle.lk_outside.specs.Files.{Files, Told}
 use Rattle.receive_model.specs.declared.span.Span.{Span}
 use Rattle.receive_model.specs.Pieces.{Packet}
+use Rattle.receive_model.proofs.Ends.{filter_map-append}
 use Rattle.receive_model.specs.Events.{Event, Delivered, Dropped, FaultSpan, Flow, is_rising, shown_spans}
 use Rattle.reassembly.specs.Settings.{is_among}
+use Rattle.link_laws.specs.declared.found.Found.{Found}
+use Rattle.link_laws.specs.Missing.{found_in, found_packet}
 use Rattle.pcap_files.specs.Written.{header_bytes, record_bytes}
 use Rattle.link_reports.specs.Drops.{drop_counts}
 use Rattle.run_shell.specs.declared.stop.Stop.{Stop}
@@ -22,7 +25,7 @@ use Rattle.run_shell.proofs.Moves.{told_by}
 use Rattle.receive_commands.specs.declared.receipt.ChannelReceipt.{ChannelReceipt}
 use Rattle.receive_commands.specs.declared.receipt.Receipt.{Receipt}
 use Rattle.receive_commands.specs.Received.{capture_name, output_names, packets_on, spans_name}
-use Rattle.receive_commands.specs.Receipts.{Beginning, IsReceipt, IsStopped, capture_of, counts_of, given_of, names_of, own_given}
+use Rattle.receive_commands.specs.Receipts.{Beginning, IsListing, IsReceipt, IsStopped, listed_in, capture_of, counts_of, given_of, names_of, own_given}
 use Rattle.receive_commands.specs.Going.{numbers_of, with_packet}
 use Rattle.receive_commands.specs.Firsts.{first_in, IsUnfilled}
 use Rattle.receive_commands.proofs.Captures.{all_same, map_same, more_at, more_behind, next_capture, next_counts, no_drop, no_span, other_channel, same_capture, same_counts, set_at, spans_next}
@@ -34,7 +37,7 @@ numbers_counted : (outs : List Event) (channels : List ℕ) → numbers_of (map 
 numbers_counted outs [] = refl
 numbers_counted outs (c ∷ channels) = ap (λ ns. c ∷ ns) (numbers_counted outs channels)
 
-module _ (b : Beginning) (outputs : List Event) (r : Receipt) (now : Option Files) (is : IsReceipt b outputs r now) where
+module _ (b : Beginning) (outputs : List Event) {listed : List Found} (r : Receipt) (now : Option Files) (is : IsListing b outputs listed r now) where
   pub numbers_are : numbers_of r.channels.items ≡ b.setting.channels
   numbers_are = ap numbers_of is.channels ∙ numbers_counted outputs b.setting.channels
 
@@ -77,12 +80,55 @@ stopped_before b outputs rest all s now is h = record {
   part = h.part;
 }
 
+-- ---- the packets that are listed
+
+none_listed : (lists : Bool) → listed_in lists [] ≡ []
+none_listed true = refl
+none_listed false = refl
+
+-- with one more output
+pub listed_next : (lists : Bool) (outputs : List Event) (e : Event) → listed_in lists (outputs ++ e ∷ []) ≡ listed_in lists outputs ++ listed_in lists (e ∷ [])
+listed_next true outputs e = filter_map-append found_packet outputs (e ∷ [])
+listed_next false outputs e = refl
+
+not_listed : (lists : Bool) (outputs : List Event) (e : Event) → found_in (e ∷ []) ≡ [] → listed_in lists (outputs ++ e ∷ []) ≡ listed_in lists outputs
+not_listed true outputs e none = listed_next true outputs e ∙ ap (λ fs. found_in outputs ++ fs) none ∙ append-nil (found_in outputs)
+not_listed false outputs e none = refl
+
+abbrev pub with_found : Receipt → Vec Found Global → Receipt
+with_found r found = record { ahead = r.ahead; outputs = r.outputs; channels = r.channels; spans = r.spans; drops = r.drops; lists = r.lists; found = found }
+
+-- a packet that comes
+abbrev pub packet_event : Found → List ℕ → Event
+packet_event packet bytes = Delivered packet.channel (record { bytes = bytes; first = packet.first; last = packet.last })
+
+one_listed : (lists : Bool) (packet : Found) (bytes : List ℕ) → cond lists (packet ∷ []) [] ≡ listed_in lists (packet_event packet bytes ∷ [])
+one_listed true packet bytes = refl
+one_listed false packet bytes = refl
+
+-- it is listed, before its output comes
+pub listed_packet : (b : Beginning) (outputs : List Event) (packet : Found) (bytes : List ℕ) (r : Receipt) (found : Vec Found Global) (now : Option Files) → found.items ≡ r.found.items ++ cond r.lists (packet ∷ []) [] → IsReceipt b outputs r now
+    → IsListing b outputs (listed_in b.lists (outputs ++ packet_event packet bytes ∷ [])) (with_found r found) now
+listed_packet b outputs packet bytes r found now more is = record {
+  ahead = is.ahead;
+  names = is.names;
+  differ = is.differ;
+  given = is.given;
+  channels = is.channels;
+  spans = is.spans;
+  drops = is.drops;
+  lists = is.lists;
+  found =
+      more ∙ ap (λ fs. fs ++ cond r.lists (packet ∷ []) []) is.found ∙ ap (λ l. listed_in b.lists outputs ++ cond l (packet ∷ []) []) is.lists
+      ∙ ap (λ fs. listed_in b.lists outputs ++ fs) (one_listed b.lists packet bytes) ∙ sym (listed_next b.lists outputs (packet_event packet bytes));
+}
+
 -- ---- a receipt that is opened
 
 pub opened : (b : Beginning) (ns cs : List (List ℕ)) (channels : List ℕ) (r : Receipt) (now : Option Files) → b.ahead ≡ outs ns cs → length cs ≡ length ns → b.setting.channels ≡ channels → r.ahead ≡ length cs
     → open_names r.outputs ≡ ns ++ output_names b.prefix channels → Differ (ns ++ output_names b.prefix channels)
-    → IsOpen r.outputs (first_in (cs ++ replicate (length channels) (header_bytes b.link_type)) (ns ++ output_names b.prefix channels)) b.was now → r.channels.items ≡ map (counts_of []) channels → r.spans ≡ [] → r.drops ≡ drop_counts [] → IsReceipt b [] r now
-opened b ns cs channels r now ahead many listed count names differ firsts counts spans drops = record {
+    → IsOpen r.outputs (first_in (cs ++ replicate (length channels) (header_bytes b.link_type)) (ns ++ output_names b.prefix channels)) b.was now → r.channels.items ≡ map (counts_of []) channels → r.spans ≡ [] → r.drops ≡ drop_counts [] → r.lists ≡ b.lists → r.found.items ≡ [] → IsReceipt b [] r now
+opened b ns cs channels r now ahead many listed count names differ firsts counts spans drops lists found = record {
   ahead = count ∙ sym (count_made ns cs many) ∙ ap (λ (os : List Output). length os) (sym ahead);
   names = names ∙ ap (λ ms. ns ++ output_names b.prefix ms) (sym listed) ∙ ap (λ ms. ms ++ output_names b.prefix b.setting.channels) (sym (names_made ns cs many) ∙ ap (map (λ (o : Output). o.name)) (sym ahead));
   differ = subst Differ (sym names) differ;
@@ -92,6 +138,8 @@ opened b ns cs channels r now ahead many listed count names differ firsts counts
   channels = counts ∙ ap (map (counts_of [])) (sym listed);
   spans = spans;
   drops = drops;
+  lists = lists;
+  found = found ∙ sym (none_listed b.lists);
 }
 
 pub not_opened : (b : Beginning) (ns cs : List (List ℕ)) (channels : List ℕ) (s : Stop) (now : Option Files) → b.ahead ≡ outs ns cs → length cs ≡ length ns → b.setting.channels ≡ channels
@@ -113,9 +161,9 @@ not_opened b ns cs channels s now ahead many listed h =
 -- ---- one more output
 
 -- what is no packet of a listed channel changes no capture and no count
-quiet : (b : Beginning) (outputs : List Event) (e : Event) (r s : Receipt) (now : Option Files) → map (capture_of b.link_type outputs) b.setting.channels ≡ map (capture_of b.link_type (outputs ++ e ∷ [])) b.setting.channels → map (counts_of outputs) b.setting.channels ≡ map (counts_of (outputs ++ e ∷ [])) b.setting.channels
-    → s.ahead ≡ r.ahead → s.outputs ≡ r.outputs → s.channels.items ≡ r.channels.items → s.spans ≡ shown_spans (outputs ++ e ∷ []) → s.drops ≡ drop_counts (outputs ++ e ∷ []) → IsReceipt b outputs r now → IsReceipt b (outputs ++ e ∷ []) s now
-quiet b outputs e r s now captures counts same_ahead o c sp d is = record {
+quiet : (b : Beginning) (outputs : List Event) (e : Event) {listed : List Found} (now_listed : List Found) (r s : Receipt) (now : Option Files) → map (capture_of b.link_type outputs) b.setting.channels ≡ map (capture_of b.link_type (outputs ++ e ∷ [])) b.setting.channels → map (counts_of outputs) b.setting.channels ≡ map (counts_of (outputs ++ e ∷ [])) b.setting.channels
+    → s.ahead ≡ r.ahead → s.outputs ≡ r.outputs → s.channels.items ≡ r.channels.items → s.spans ≡ shown_spans (outputs ++ e ∷ []) → s.drops ≡ drop_counts (outputs ++ e ∷ []) → s.lists ≡ r.lists → s.found.items ≡ now_listed → IsListing b outputs listed r now → IsListing b (outputs ++ e ∷ []) now_listed s now
+quiet b outputs e now_listed r s now captures counts same_ahead o c sp d li fo is = record {
   ahead = same_ahead ∙ is.ahead;
   names = ap open_names o ∙ is.names;
   differ = subst (λ (x : List Open). Differ (open_names x)) (sym o) is.differ;
@@ -123,31 +171,34 @@ quiet b outputs e r s now captures counts same_ahead o c sp d is = record {
   channels = c ∙ is.channels ∙ counts;
   spans = sp;
   drops = d;
+  lists = li ∙ is.lists;
+  found = fo;
 }
 
-other_came : (b : Beginning) (outputs : List Event) (e : Event) (r s : Receipt) (now : Option Files) → ((channel : ℕ) → packets_on channel (e ∷ []) ≡ [])
-    → s.ahead ≡ r.ahead → s.outputs ≡ r.outputs → s.channels.items ≡ r.channels.items → s.spans ≡ shown_spans (outputs ++ e ∷ []) → s.drops ≡ drop_counts (outputs ++ e ∷ []) → IsReceipt b outputs r now → IsReceipt b (outputs ++ e ∷ []) s now
-other_came b outputs e r s now none =
-    quiet b outputs e r s now (map_same (capture_of b.link_type outputs) (capture_of b.link_type (outputs ++ e ∷ [])) b.setting.channels (λ c. same_capture b.link_type outputs e c (none c)))
+other_came : (b : Beginning) (outputs : List Event) (e : Event) (r s : Receipt) (now : Option Files) → ((channel : ℕ) → packets_on channel (e ∷ []) ≡ []) → found_in (e ∷ []) ≡ []
+    → s.ahead ≡ r.ahead → s.outputs ≡ r.outputs → s.channels.items ≡ r.channels.items → s.spans ≡ shown_spans (outputs ++ e ∷ []) → s.drops ≡ drop_counts (outputs ++ e ∷ []) → s.lists ≡ r.lists → s.found ≡ r.found → IsReceipt b outputs r now → IsReceipt b (outputs ++ e ∷ []) s now
+other_came b outputs e r s now none not_found a o c sp d li fo is =
+    quiet b outputs e (listed_in b.lists (outputs ++ e ∷ [])) r s now (map_same (capture_of b.link_type outputs) (capture_of b.link_type (outputs ++ e ∷ [])) b.setting.channels (λ c. same_capture b.link_type outputs e c (none c)))
     (map_same (counts_of outputs) (counts_of (outputs ++ e ∷ [])) b.setting.channels (λ c. same_counts outputs e c (none c)))
+    a o c sp d li (ap (λ (v : Vec Found Global). v.items) fo ∙ is.found ∙ sym (not_listed b.lists outputs e not_found)) is
 
 pub flow_came : (b : Beginning) (outputs : List Event) (at : Pos) (word : ℕ) (r : Receipt) (now : Option Files) → IsReceipt b outputs r now → IsReceipt b (outputs ++ Flow at word ∷ []) r now
 flow_came b outputs at word r now is =
     let e = Flow at word in
-    other_came b outputs e r r now (λ c. refl) refl refl refl (is.spans ∙ sym (no_span outputs e refl)) (is.drops ∙ sym (no_drop outputs e (λ k. refl))) is
+    other_came b outputs e r r now (λ c. refl) refl refl refl refl (is.spans ∙ sym (no_span outputs e refl)) (is.drops ∙ sym (no_drop outputs e (λ k. refl))) refl refl is
 
-pub span_came : (b : Beginning) (outputs : List Event) (span : Span) (r s : Receipt) (now : Option Files) → s.ahead ≡ r.ahead → s.outputs ≡ r.outputs → s.channels.items ≡ r.channels.items → s.spans ≡ r.spans ++ span ∷ [] → s.drops ≡ r.drops → IsReceipt b outputs r now → IsReceipt b (outputs ++ FaultSpan span ∷ []) s now
-span_came b outputs span r s now a o c sp d is =
+pub span_came : (b : Beginning) (outputs : List Event) (span : Span) (r s : Receipt) (now : Option Files) → s.ahead ≡ r.ahead → s.outputs ≡ r.outputs → s.channels.items ≡ r.channels.items → s.spans ≡ r.spans ++ span ∷ [] → s.drops ≡ r.drops → s.lists ≡ r.lists → s.found ≡ r.found → IsReceipt b outputs r now → IsReceipt b (outputs ++ FaultSpan span ∷ []) s now
+span_came b outputs span r s now a o c sp d li fo is =
     let e = FaultSpan span in
-    other_came b outputs e r s now (λ x. refl) a o c (sp ∙ ap (λ ss. ss ++ span ∷ []) is.spans ∙ sym (spans_next outputs e)) (d ∙ is.drops ∙ sym (no_drop outputs e (λ k. refl))) is
+    other_came b outputs e r s now (λ x. refl) refl a o c (sp ∙ ap (λ ss. ss ++ span ∷ []) is.spans ∙ sym (spans_next outputs e)) (d ∙ is.drops ∙ sym (no_drop outputs e (λ k. refl))) li fo is
 
 pub drop_came : (b : Beginning) (outputs : List Event) (channel : ℕ) (why : DropWhy) (r s : Receipt) (now : Option Files) → s.ahead ≡ r.ahead → s.outputs ≡ r.outputs → s.channels.items ≡ r.channels.items → s.spans ≡ r.spans
-    → ((outs : List Event) (c : ℕ) → r.drops ≡ drop_counts outs → s.drops ≡ drop_counts (outs ++ Dropped c why ∷ [])) → IsReceipt b outputs r now → IsReceipt b (outputs ++ Dropped channel why ∷ []) s now
-drop_came b outputs channel why r s now a o c sp d is =
+    → ((outs : List Event) (c : ℕ) → r.drops ≡ drop_counts outs → s.drops ≡ drop_counts (outs ++ Dropped c why ∷ [])) → s.lists ≡ r.lists → s.found ≡ r.found → IsReceipt b outputs r now → IsReceipt b (outputs ++ Dropped channel why ∷ []) s now
+drop_came b outputs channel why r s now a o c sp d li fo is =
     let e = Dropped channel why in
-    other_came b outputs e r s now (λ x. refl) a o c (sp ∙ is.spans ∙ sym (no_span outputs e refl)) (d outputs channel is.drops) is
+    other_came b outputs e r s now (λ x. refl) refl a o c (sp ∙ is.spans ∙ sym (no_span outputs e refl)) (d outputs channel is.drops) li fo is
 
--- a packet on a channel that is not listed
+-- a packet on a channel that is not one of the receipt's
 or_parts : (x y : Bool) → x || y ≡ false → (x ≡ false) × (y ≡ false)
 or_parts true y h = cc
 or_parts false y h = (refl, h)
@@ -157,17 +208,17 @@ apart_all c [] h k lt = absurd (omega arith)
 apart_all c (x ∷ xs) h zero lt = ne_eqb c x (λ e. eqb-false x c (or_parts (x == c) (is_among c xs) h).0 (sym e))
 apart_all c (x ∷ xs) h (suc k) lt = apart_all c xs (or_parts (x == c) (is_among c xs) h).1 k (omega arith)
 
-pub unlisted_came : (b : Beginning) (outputs : List Event) (channel : ℕ) (p : Packet) (r : Receipt) (now : Option Files) → is_among channel (numbers_of r.channels.items) ≡ false → IsReceipt b outputs r now → IsReceipt b (outputs ++ Delivered channel p ∷ []) r now
+pub unlisted_came : (b : Beginning) (outputs : List Event) (channel : ℕ) (p : Packet) (r : Receipt) (now : Option Files) → is_among channel (numbers_of r.channels.items) ≡ false → IsListing b outputs (listed_in b.lists (outputs ++ Delivered channel p ∷ [])) r now → IsReceipt b (outputs ++ Delivered channel p ∷ []) r now
 unlisted_came b outputs channel p r now absent is =
     let e = Delivered channel p in
     let apart = apart_all channel b.setting.channels (subst (λ ns. is_among channel ns ≡ false) (numbers_are b outputs r now is) absent) in
-    quiet b outputs e r r now
+    quiet b outputs e (listed_in b.lists (outputs ++ e ∷ [])) r r now
     (all_same (capture_of b.link_type outputs) (capture_of b.link_type (outputs ++ e ∷ [])) channel (λ other ne. same_capture b.link_type outputs e other (other_channel channel other p ne)) b.setting.channels apart)
     (all_same (counts_of outputs) (counts_of (outputs ++ e ∷ [])) channel (λ other ne. same_counts outputs e other (other_channel channel other p ne)) b.setting.channels apart)
-    refl refl refl (is.spans ∙ sym (no_span outputs e refl)) (is.drops ∙ sym (no_drop outputs e (λ k. refl))) is
+    refl refl refl (is.spans ∙ sym (no_span outputs e refl)) (is.drops ∙ sym (no_drop outputs e (λ k. refl))) refl is.found is
 
 -- a packet on the channel at this place
-module _ (b : Beginning) (outputs : List Event) (r : Receipt) (now later : Option Files) (is : IsReceipt b outputs r now) (place : ℕ) (lt : place < length r.channels.items) (p : Packet) where
+module _ (b : Beginning) (outputs : List Event) {listed_packets : List Found} (r : Receipt) (now later : Option Files) (is : IsListing b outputs listed_packets r now) (place : ℕ) (lt : place < length r.channels.items) (p : Packet) where
   abbrev channel : ℕ
   channel = get_or (numbers_of r.channels.items) place 0
 
@@ -202,9 +253,9 @@ module _ (b : Beginning) (outputs : List Event) (r : Receipt) (now later : Optio
       at (c ∷ cs) zero le = refl
       at (c ∷ cs) (suc k) le = at cs k (omega arith)
 
-  pub packet_came : (output : ℕ) → output ≡ r.ahead + place → (s : Receipt) (d old new : ChannelReceipt) → old ≡ get_or r.channels.items place d → new ≡ with_packet (length p.bytes) old → s.channels.items ≡ set r.channels.items place new → s.spans ≡ r.spans → s.drops ≡ r.drops → s.ahead ≡ r.ahead → open_names s.outputs ≡ open_names r.outputs
-      → IsOpen s.outputs (more (given_of b outputs) output (record_bytes p.bytes)) b.was later → IsReceipt b (outputs ++ next ∷ []) s later
-  packet_came output at s d old new there counted c sp dr ahead names open_now = record {
+  pub packet_came : (output : ℕ) → output ≡ r.ahead + place → (s : Receipt) (d old new : ChannelReceipt) → old ≡ get_or r.channels.items place d → new ≡ with_packet (length p.bytes) old → s.channels.items ≡ set r.channels.items place new → s.spans ≡ r.spans → s.drops ≡ r.drops → s.ahead ≡ r.ahead → open_names s.outputs ≡ open_names r.outputs → s.lists ≡ r.lists → s.found ≡ r.found
+      → IsOpen s.outputs (more (given_of b outputs) output (record_bytes p.bytes)) b.was later → IsListing b (outputs ++ next ∷ []) listed_packets s later
+  packet_came output at s d old new there counted c sp dr ahead names li fo open_now = record {
     ahead = ahead ∙ is.ahead;
     names = names ∙ is.names;
     differ = subst Differ (sym names) is.differ;
@@ -214,6 +265,8 @@ module _ (b : Beginning) (outputs : List Event) (r : Receipt) (now later : Optio
         (counted ∙ ap (with_packet (length p.bytes)) (there ∙ counts_at d) ∙ next_counts outputs channel p);
     spans = sp ∙ is.spans ∙ sym (no_span outputs next refl);
     drops = dr ∙ is.drops ∙ sym (no_drop outputs next (λ k. refl));
+    lists = li ∙ is.lists;
+    found = ap (λ (v : Vec Found Global). v.items) fo ∙ is.found;
   }
 
   pub packet_stopped : (output : ℕ) → output ≡ r.ahead + place → (T : Type 0) (s : Stop) → StoreStops {T = T} (Contains (open_names r.outputs)) (Err s) → Told b.was later (HoldsPart (outs (open_names r.outputs) (more (given_of b outputs) output (record_bytes p.bytes)))) → IsStopped b (outputs ++ next ∷ []) s later

@@ -1,5 +1,5 @@
 -- What lanes that are held in memory come to, behind outputs that hold them.
-use Rattle.std.specs.Prelude.{◌≡◌, ℕ, List, ◌++◌, Option, Result, Ok, Err, Contains, map, Vec}
+use Rattle.std.specs.Prelude.{◌≡◌, ℕ, true, List, ◌++◌, Option, Result, Ok, Err, Contains, map, Vec}
 use Rattle.std.specs.declared.alloc.Global.{Global}
 use Rattle.lk_base.specs.Link.{Settings, IsLink}
 use Rattle.lk_outside.specs.Files.{Files, Told}
@@ -19,9 +19,9 @@ use Rattle.receive_commands.specs.Receive.{AreLaneReports, lane_lines, names_of_
 abbrev pub vec_bytes : Vec ℕ Global → List ℕ
 vec_bytes v = v.items
 
--- the lanes' files stand ahead of the outputs of the plan
+-- the lanes' files stand ahead of the outputs of the plan, and the packets that come are listed
 abbrev pub held_beginning : PlanValue → Setting → List (List ℕ) → Option Files → Beginning
-held_beginning plan setting lanes was = record { ahead = outs (names_of_lanes plan) lanes; setting = setting; link_type = plan.link_type; prefix = plan.out; was = was }
+held_beginning plan setting lanes was = record { ahead = outs (names_of_lanes plan) lanes; lists = true; setting = setting; link_type = plan.link_type; prefix = plan.out; was = was }
 
 -- all events of the lanes came, and the lines are those of the lanes' reports
 pub record HeldCame (b : Beginning) (s : Settings) (lanes : List (List ℕ)) (receipt : Receipt) (text : List ℕ) (now : Option Files) : Type 0 where

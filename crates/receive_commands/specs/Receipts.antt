@@ -1,10 +1,12 @@
 -- What came so far, and what was given to the outputs that it grows into.
-use Rattle.std.specs.Prelude.{ℕ, ◌≡◌, Bool, List, [], ◌∷◌, ◌++◌, length, map, sum_by, Option, Result, Ok, Err, Contains}
+use Rattle.std.specs.Prelude.{ℕ, ◌≡◌, Bool, cond, List, [], ◌∷◌, ◌++◌, length, map, sum_by, Option, Result, Ok, Err, Contains}
 use Rattle.lk_outside.specs.Files.{Files, Told}
 use Rattle.receive_model.specs.declared.span.Span.{Span}
 use Rattle.receive_model.specs.Lists.{last_of}
 use Rattle.receive_model.specs.Events.{Event, Delivered, Dropped, FaultSpan, Flow, Setting, shown_spans}
 use Rattle.fault_spans.specs.SpanLists.{MayFollow}
+use Rattle.link_laws.specs.declared.found.Found.{Found}
+use Rattle.link_laws.specs.Missing.{found_in}
 use Rattle.pcap_files.specs.Written.{capture_bytes}
 use Rattle.link_reports.specs.Drops.{drop_counts}
 use Rattle.run_shell.specs.declared.stop.Stop.{Stop}
@@ -15,10 +17,11 @@ use Rattle.receive_commands.specs.declared.receipt.ChannelReceipt.{ChannelReceip
 use Rattle.receive_commands.specs.declared.receipt.Receipt.{Receipt}
 use Rattle.receive_commands.specs.Received.{output_names, packets_on, received_files}
 
--- what a receipt begins with: the outputs that stand ahead of its own, its channels, the link type of its captures, what the
--- names begin with, and the files before the outputs were created
+-- what a receipt begins with: the outputs that stand ahead of its own, whether it lists the packets that come, its channels, the
+-- link type of its captures, what the names begin with, and the files before the outputs were created
 pub record Beginning : Type 0 where
   pub ahead : List Output
+  pub lists : Bool
   pub setting : Setting
   pub link_type : ℕ
   pub prefix : List ℕ
@@ -48,8 +51,12 @@ closed_outcome b outputs held text = record { status = held_status held; files =
 abbrev pub counts_of : List Event → ℕ → ChannelReceipt
 counts_of outputs channel = record { channel = channel; packets = length (packets_on channel outputs); bytes = sum_by length (packets_on channel outputs) }
 
--- these outputs came, and no others
-pub record IsReceipt (b : Beginning) (outputs : List Event) (r : Receipt) (now : Option Files) : Type 0 where
+-- the packets among these outputs, where they are listed
+abbrev pub listed_in : Bool → List Event → List Found
+listed_in lists outputs = cond lists (found_in outputs) []
+
+-- these outputs came, and no others; and these packets are listed
+pub record IsListing (b : Beginning) (outputs : List Event) (listed : List Found) (r : Receipt) (now : Option Files) : Type 0 where
   pub ahead : r.ahead ≡ length b.ahead
   pub names : open_names r.outputs ≡ names_of b
   pub differ : Differ (open_names r.outputs)
@@ -58,6 +65,12 @@ pub record IsReceipt (b : Beginning) (outputs : List Event) (r : Receipt) (now :
   pub channels : r.channels.items ≡ map (counts_of outputs) b.setting.channels
   pub spans : r.spans ≡ shown_spans outputs
   pub drops : r.drops ≡ drop_counts outputs
+  pub lists : r.lists ≡ b.lists
+  pub found : r.found.items ≡ listed
+
+-- these outputs came, and no others; their packets are listed, where they are to be
+abbrev pub IsReceipt : Beginning → List Event → Receipt → Option Files → Type 0
+IsReceipt b outputs r now = IsListing b outputs (listed_in b.lists outputs) r now
 
 -- these outputs were to come, and this stopped them: some first of them had come, of whose captures a part stands
 pub record IsStopped (b : Beginning) (outputs : List Event) (s : Stop) (now : Option Files) : Type 0 where
@@ -71,6 +84,11 @@ pub record IsStopped (b : Beginning) (outputs : List Event) (s : Stop) (now : Op
 abbrev pub Receives : {T : Type 0} → Beginning → List Event → Result T Stop → Receipt → Option Files → Type 0
 Receives b outputs (Ok _) r now = IsReceipt b outputs r now
 Receives b outputs (Err s) r now = IsStopped b outputs s now
+
+-- the same, where these packets are listed
+abbrev pub ReceivesListing : {T : Type 0} → Beginning → List Event → List Found → Result T Stop → Receipt → Option Files → Type 0
+ReceivesListing b outputs listed (Ok _) r now = IsListing b outputs listed r now
+ReceivesListing b outputs listed (Err s) r now = IsStopped b outputs s now
 
 -- the same of a receipt that is made
 abbrev pub Opens : Beginning → Result Receipt Stop → Option Files → Type 0

@@ -53,12 +53,13 @@ fn open_held<S: Store>(
         plan.out.as_str(),
         &channels,
         plan.link_type,
+        true,
     )
 }
 
 /// Receives the lanes of a plan's link that are held in memory. Their files are created first, under these names, and given the
-/// lanes; then the captures of the plan's channels, by number, and the span table. Then all events of the lanes are taken. The
-/// lanes are by number, each of fewer than 2^56 bytes, and the names are those of the plan's lanes.
+/// lanes; then the captures of the plan's channels, by number, and the span table. Then all events of the lanes are taken, and the
+/// packets that come are listed. The lanes are by number, each of fewer than 2^56 bytes, and the names are those of the plan's lanes.
 pub fn receive_held<S: Store>(
     alloc: Global,
     store: &mut S,

@@ -1,6 +1,5 @@
 //! The events of a receiver of lanes go over into a receipt.
 ghost use Rattle.std.specs.Prelude.{◌≡◌, ◌<◌, ◌^◌, ◌++◌, ◌∷◌, [], true, false, ℕ, List, Option, length, IfOk, OnOk};
-ghost use Rattle.lk_base.specs.declared.position.Pos.{Pos};
 ghost use Rattle.lk_base.specs.Limits.{longest_packet};
 ghost use Rattle.lk_base.specs.Link.{Settings};
 ghost use Rattle.lk_outside.specs.Files.{Files};
@@ -14,6 +13,7 @@ ghost use Rattle.receive_commands.specs.Receipts.{Beginning, IsReceipt, Receives
 ghost use Rattle.receive_commands.specs.Feeding.{CanBeWritten, Drains, IsTaking, MayFollowAll};
 
 use crate::receipt::Receipt;
+use link_laws::Found;
 use lk_base::OutOfMemory;
 use lk_outside::Store;
 use run_shell::Stop;
@@ -37,7 +37,7 @@ fn take_packet<S: Store>(
     store: &mut S,
     receipt: &mut Receipt,
     receiver: &Receiver,
-    channel: u16,
+    packet: Found,
     size: u32,
 ) -> Result<(), Stop>
     requires count { S.faults store.old < 2 ^ 60 }
@@ -46,11 +46,11 @@ fn take_packet<S: Store>(
     requires sized { HasSize longest_packet receiver.now.reassembly.packet }
     requires receipt { (b : Beginning) × (outputs : List Event) × IsReceipt b outputs receipt.old (S.files store.old) }
     ensures cause { StopCount result (S.faults store.old) (S.faults store.new) }
-    ensures receives { (b : Beginning) (outputs : List Event) (first last : Pos) → IsReceipt b outputs receipt.old (S.files store.old) →
-        Receives b (outputs ++ Delivered channel (record { bytes = receiver.now.reassembly.packet; first = first; last = last }) ∷ []) result receipt.new (S.files store.new) }
+    ensures receives { (b : Beginning) (outputs : List Event) → IsReceipt b outputs receipt.old (S.files store.old) →
+        Receives b (outputs ++ Delivered packet.channel (record { bytes = receiver.now.reassembly.packet; first = packet.first; last = packet.last }) ∷ []) result receipt.new (S.files store.new) }
 {
-    let packet = lent_packet(alloc, receiver, size)?;
-    receipt.add_packet(alloc, store, channel, &packet)
+    let bytes = lent_packet(alloc, receiver, size)?;
+    receipt.add_packet(alloc, store, packet, &bytes)
 }
 
 // A drop, a span, a flow word or the end came, which changes no file.
@@ -91,9 +91,16 @@ fn take_event<S: Store>(
         RxEvent::Packet {
             channel,
             length,
-            first: _,
-            last: _,
-        } => take_packet(alloc, store, receipt, receiver, channel, length),
+            first,
+            last,
+        } => {
+            let packet = Found {
+                channel,
+                first,
+                last,
+            };
+            take_packet(alloc, store, receipt, receiver, packet, length)
+        }
         RxEvent::Dropped { .. } | RxEvent::Span(_) | RxEvent::Flow { .. } | RxEvent::Ended => {
             take_other(receipt, event)?;
             Ok(())

@@ -1,14 +1,15 @@
 //! What came: captures that grow, counts, fault spans and drops.
-ghost use Rattle.std.specs.Prelude.{◌≡◌, ◌<◌, ◌≤◌, ◌+◌, ◌-◌, ◌^◌, ◌++◌, ◌∷◌, [], IsTrue, ℕ, List, length, map, nat_lt, slice_index, get_or, replicate, string_bytes, false, Option, IfOk, IfSome, OnOk, OnErr, Vec};
+ghost use Rattle.std.specs.Prelude.{◌≡◌, ◌<◌, ◌≤◌, ◌+◌, ◌-◌, ◌^◌, ◌++◌, ◌∷◌, [], IsTrue, ℕ, List, length, map, nat_lt, slice_index, get_or, replicate, string_bytes, cond, false, Option, IfOk, IfSome, OnOk, OnErr, Vec};
 ghost use Rattle.std.specs.declared.alloc.Global.{Global};
 ghost use Rattle.std.specs.List.{list_all, flat_map};
-ghost use Rattle.lk_base.specs.declared.position.Pos.{Pos};
+ghost use Rattle.lk_base.specs.declared.position.Pos.{Pos as Place};
 ghost use Rattle.lk_base.specs.Limits.{longest_packet};
 ghost use Rattle.lk_outside.specs.Files.{Files};
 ghost use Rattle.fault_spans.specs.SpanLists.{MayFollow};
 ghost use Rattle.receive_model.specs.Lists.{last_of};
 ghost use Rattle.receive_model.specs.Events.{Event, Setting, Delivered, Dropped, FaultSpan, is_rising};
 ghost use Rattle.reassembly.specs.OutputLaws.{HasSize};
+ghost use Rattle.link_laws.specs.declared.found.Found.{Found as FoundPacket};
 ghost use Rattle.pcap_files.specs.Written.{header_bytes, record_bytes};
 ghost use Rattle.link_reports.specs.Lines.{got_line, spans_line, dropped_line};
 ghost use Rattle.link_reports.specs.Table.{span_table};
@@ -17,12 +18,13 @@ ghost use Rattle.run_shell.specs.Outputs.{Differ, outs};
 ghost use Rattle.run_shell.specs.Writing.{Writes};
 ghost use Rattle.receive_commands.specs.declared.receipt.ChannelReceipt.{ChannelReceipt};
 ghost use Rattle.receive_commands.specs.Received.{output_names, received_text};
-ghost use Rattle.receive_commands.specs.Receipts.{Beginning, closed_outcome, names_of, IsReceipt, IsStopped, Receives, Opens};
+ghost use Rattle.receive_commands.specs.Receipts.{Beginning, closed_outcome, names_of, IsListing, IsReceipt, IsStopped, Receives, ReceivesListing, Opens};
 ghost use Rattle.receive_commands.specs.Going.{numbers_of};
 
 use crate::channels::{channel_lines, nothing_yet, one_more, place_of};
 use crate::outputs::create_captures;
 use fault_spans::SpanList;
+use link_laws::Found;
 use link_reports::{count_drop, dropped_line, spans_csv, spans_line};
 use lk_base::{DropWhy, OutOfMemory};
 use lk_outside::Store;
@@ -56,6 +58,10 @@ pub struct Receipt {
     pub spans: SpanList,
     /// How many drops there are for each reason.
     pub drops: [u64; 8],
+    /// Whether the packets that come are listed.
+    pub lists: bool,
+    /// The packets that came, in their order, where they are listed.
+    pub found: Vec<Found>,
 }
 
 // The record of a packet in a capture.
@@ -92,6 +98,16 @@ fn text_of(
     Ok(text)
 }
 
+// Puts a packet behind those that are listed, where they are.
+fn list_packet(found: &mut Vec<Found>, lists: bool, packet: Found) -> Result<(), OutOfMemory>
+    ensures { OnOk result (found.new.items ≡ found.old.items ++ cond lists (packet ∷ []) []) }
+{
+    if lists {
+        found.push(packet)?;
+    }
+    Ok(())
+}
+
 fn table_of(alloc: Global, spans: &SpanList) -> Result<Vec<u8>, OutOfMemory>
     ensures { IfOk result (λ table. table.items ≡ span_table spans.now) }
 {
@@ -102,7 +118,8 @@ fn table_of(alloc: Global, spans: &SpanList) -> Result<Vec<u8>, OutOfMemory>
 
 impl Receipt {
     /// Creates the captures of these channels, by number, and then the span table, under names that begin with `prefix`. Each
-    /// capture has its header, of this link type; nothing came yet. The channels stand in order of number, each once.
+    /// capture has its header, of this link type; nothing came yet. The channels stand in order of number, each once. The packets
+    /// that come are not listed.
     pub fn open<S: Store>(
         alloc: Global,
         store: &mut S,
@@ -114,7 +131,7 @@ impl Receipt {
         requires in_order { IsTrue (is_rising channels.now) }
         ensures cause { StopCount result (S.faults store.old) (S.faults store.new) }
         ensures opens { (setting : Setting) → setting.channels ≡ channels.now →
-            Opens (record { ahead = []; setting = setting; link_type = link_type; prefix = prefix.now; was = S.files store.old }) result (S.files store.new) }
+            Opens (record { ahead = []; lists = false; setting = setting; link_type = link_type; prefix = prefix.now; was = S.files store.old }) result (S.files store.new) }
     {
         Receipt::open_behind(
             alloc,
@@ -124,11 +141,13 @@ impl Receipt {
             prefix,
             channels,
             link_type,
+            false,
         )
     }
 
     /// The same behind other outputs, of these names and contents, which are created first and given all that they hold. There
-    /// are as many contents as names, at most 64, and no two of all names are one.
+    /// are as many contents as names, at most 64, and no two of all names are one. The packets that come are listed, where they
+    /// are to be.
     pub fn open_behind<S: Store>(
         alloc: Global,
         store: &mut S,
@@ -137,6 +156,7 @@ impl Receipt {
         prefix: &str,
         channels: &[u16],
         link_type: u32,
+        lists: bool,
     ) -> Result<Receipt, Stop>
         requires count { S.faults store.old < 2 ^ 60 }
         requires in_order { IsTrue (is_rising channels.now) }
@@ -145,7 +165,7 @@ impl Receipt {
         requires differ { Differ (map string_bytes ahead.items ++ output_names prefix.now channels.now) }
         ensures cause { StopCount result (S.faults store.old) (S.faults store.new) }
         ensures opens { (setting : Setting) → setting.channels ≡ channels.now →
-            Opens (record { ahead = outs (map string_bytes ahead.items) (map (λ (v : Vec ℕ Global). v.items) contents.now); setting = setting; link_type = link_type; prefix = prefix.now; was = S.files store.old }) result (S.files store.new) }
+            Opens (record { ahead = outs (map string_bytes ahead.items) (map (λ (v : Vec ℕ Global). v.items) contents.now); lists = lists; setting = setting; link_type = link_type; prefix = prefix.now; was = S.files store.old }) result (S.files store.new) }
     {
         let counts = nothing_yet(alloc, channels)?;
         let outputs = create_captures(alloc, store, ahead, contents, prefix, channels, link_type)?;
@@ -155,31 +175,34 @@ impl Receipt {
             channels: counts,
             spans: SpanList::make(alloc),
             drops: [0; 8],
+            lists,
+            found: Vec::new(alloc),
         })
     }
 
-    /// A packet came on a channel. It is kept where the channel is one of the receipt's.
+    /// A packet came, with these bytes. It is kept where its channel is one of the receipt's.
     pub fn add_packet<S: Store>(
         &mut self,
         alloc: Global,
         store: &mut S,
-        channel: u16,
-        packet: &[u8],
+        packet: Found,
+        bytes: &[u8],
     ) -> Result<(), Stop>
         requires count { S.faults store.old < 2 ^ 60 }
-        requires sized { HasSize longest_packet packet.now }
+        requires sized { HasSize longest_packet bytes.now }
         requires receipt { (b : Beginning) × (outputs : List Event) × IsReceipt b outputs self.old (S.files store.old) }
         ensures cause { StopCount result (S.faults store.old) (S.faults store.new) }
-        ensures receives { (b : Beginning) (outputs : List Event) (first last : Pos) → IsReceipt b outputs self.old (S.files store.old) →
-            Receives b (outputs ++ Delivered channel (record { bytes = packet.now; first = first; last = last }) ∷ []) result self.new (S.files store.new) }
+        ensures receives { (b : Beginning) (outputs : List Event) → IsReceipt b outputs self.old (S.files store.old) →
+            Receives b (outputs ++ Delivered packet.channel (record { bytes = bytes.now; first = packet.first; last = packet.last }) ∷ []) result self.new (S.files store.new) }
     {
-        match place_of(&self.channels, channel) {
-            Some(place) => self.put_packet(alloc, store, place, packet),
+        list_packet(&mut self.found, self.lists, packet)?;
+        match place_of(&self.channels, packet.channel) {
+            Some(place) => self.put_packet(alloc, store, place, bytes),
             None => Ok(()),
         }
     }
 
-    // A packet came on the channel at this place.
+    // A packet came on the channel at this place. It is listed already.
     fn put_packet<S: Store>(
         &mut self,
         alloc: Global,
@@ -190,10 +213,10 @@ impl Receipt {
         requires count { S.faults store.old < 2 ^ 60 }
         requires sized { HasSize longest_packet packet.now }
         requires place { place < length self.old.channels.items }
-        requires receipt { (b : Beginning) × (outputs : List Event) × IsReceipt b outputs self.old (S.files store.old) }
+        requires receipt { (b : Beginning) × (outputs : List Event) × (listed : List FoundPacket) × IsListing b outputs listed self.old (S.files store.old) }
         ensures cause { StopCount result (S.faults store.old) (S.faults store.new) }
-        ensures receives { (b : Beginning) (outputs : List Event) (first last : Pos) → IsReceipt b outputs self.old (S.files store.old) →
-            Receives b (outputs ++ Delivered (slice_index (numbers_of self.old.channels.items) place) (record { bytes = packet.now; first = first; last = last }) ∷ []) result self.new (S.files store.new) }
+        ensures receives { (b : Beginning) (outputs : List Event) (listed : List FoundPacket) (first last : Place) → IsListing b outputs listed self.old (S.files store.old) →
+            ReceivesListing b (outputs ++ Delivered (slice_index (numbers_of self.old.channels.items) place) (record { bytes = packet.now; first = first; last = last }) ∷ []) listed result self.new (S.files store.new) }
     {
         let record = record_of(alloc, packet)?;
         let counts = one_more(self.channels[place], packet.len() as u64)?;

@@ -1,6 +1,5 @@
 //! Words are received: captures and a span table.
 ghost use Rattle.std.specs.Prelude.{◌≡◌, ◌<◌, ◌≤◌, ◌^◌, ◌++◌, ◌∷◌, [], IsTrue, List, true, false, Bool, Option, length, slice_get, IfOk, OnOk};
-ghost use Rattle.lk_base.specs.declared.position.Pos.{Pos};
 ghost use Rattle.lk_base.specs.declared.word.Aligned.{Aligned};
 ghost use Rattle.lk_base.specs.Limits.{longest_packet};
 ghost use Rattle.lk_outside.specs.Files.{Files};
@@ -14,6 +13,7 @@ ghost use Rattle.receive_commands.specs.Receipts.{Beginning, IsReceipt, Receives
 ghost use Rattle.receive_commands.specs.Going.{IsAt, IsFor, Takes, item_by};
 
 use crate::receipt::Receipt;
+use link_laws::Found;
 use lk_base::{Aligned, OutOfMemory, Pos, RxWord, Why};
 use lk_outside::Store;
 use reassembly::{Out, Reassembly};
@@ -37,7 +37,7 @@ fn take_packet<S: Store>(
     store: &mut S,
     receipt: &mut Receipt,
     reassembly: &Reassembly,
-    channel: u16,
+    packet: Found,
     size: u32,
 ) -> Result<(), Stop>
     requires count { S.faults store.old < 2 ^ 60 }
@@ -46,11 +46,11 @@ fn take_packet<S: Store>(
     requires sized { HasSize longest_packet reassembly.now.packet }
     requires receipt { (b : Beginning) × (outputs : List Event) × IsReceipt b outputs receipt.old (S.files store.old) }
     ensures cause { StopCount result (S.faults store.old) (S.faults store.new) }
-    ensures receives { (b : Beginning) (outputs : List Event) (first last : Pos) → IsReceipt b outputs receipt.old (S.files store.old) →
-        Receives b (outputs ++ Delivered channel (record { bytes = reassembly.now.packet; first = first; last = last }) ∷ []) result receipt.new (S.files store.new) }
+    ensures receives { (b : Beginning) (outputs : List Event) → IsReceipt b outputs receipt.old (S.files store.old) →
+        Receives b (outputs ++ Delivered packet.channel (record { bytes = reassembly.now.packet; first = packet.first; last = packet.last }) ∷ []) result receipt.new (S.files store.new) }
 {
-    let packet = lent_packet(alloc, reassembly, size)?;
-    receipt.add_packet(alloc, store, channel, &packet)
+    let bytes = lent_packet(alloc, reassembly, size)?;
+    receipt.add_packet(alloc, store, packet, &bytes)
 }
 
 // A drop or a span came, which changes no file.
@@ -90,9 +90,16 @@ fn take_output<S: Store>(
         Out::Packet {
             channel,
             length,
-            first: _,
-            last: _,
-        } => take_packet(alloc, store, receipt, reassembly, channel, length),
+            first,
+            last,
+        } => {
+            let packet = Found {
+                channel,
+                first,
+                last,
+            };
+            take_packet(alloc, store, receipt, reassembly, packet, length)
+        }
         Out::Dropped { .. } | Out::Span(_) | Out::Flow { .. } => {
             take_other(receipt, reassembly, out)?;
             Ok(())

@@ -1,4 +1,4 @@
-use Rattle.std.proofs.Common.{◌≡◌, ◌∙◌, ◌<◌, ◌≤◌, ◌%◌, ◌^◌, ap, refl, sym, subst, arith, All, List, ℕ, length, map, Vec, Global}
+use Rattle.std.proofs.Common.{◌≡◌, ◌∙◌, ◌<◌, ◌≤◌, ◌%◌, ◌^◌, ap, refl, sym, subst, arith, All, List, ℕ, length, map, count_by, Vec, Global}
 use Rattle.std.proofs.lemmas.List.Elements.{All-map}
 use Rattle.lk_base.specs.Checksum.{bits_of_bytes}
 use Rattle.lk_base.specs.Link.{group_of}
@@ -10,6 +10,8 @@ use Rattle.stream_commands.specs.declared.form.StreamForm.TheVariants as form
 use Rattle.stream_commands.proofs.PartsOfStreams.{whole_by}
 use Rattle.link_commands.specs.Carrying.{counts_value}
 use Rattle.link_commands.specs.Linked.{AreReceivedFiles}
+use Rattle.tx_end.specs.Sent.{AreSent, starts}
+use Rattle.link_commands.proofs.FewSent.{few_starts}
 use Rattle.link_commands.proofs.Writing.{bits_twice, few_enough}
 use Rattle.link_commands.proofs.carried.carry.Goals as goal
 
@@ -25,6 +27,12 @@ pub accidents-requires-clause-whole : goal.accidents-requires-clause-whole
 accidents-requires-clause-whole c =
     subst (λ (ws : List Word). length ws % group_of c.args.read.now.reading.plan.link ≡ 0) (sym c.deref-2.ensures.value)
     (whole_by (form.Lanes c.args.read.now.reading.plan.link) c.in_ok-words.ensures.source c.in_ok-words.field-0.words.items c.in_ok-words.ensures.is_source.shape.group c.in_ok-words.ensures.is.stream)
+
+pub packets_in-requires : goal.packets_in-requires
+packets_in-requires c =
+    let stream = c.in_ok-words.ensures in
+    subst (λ (ws : List Word). count_by starts ws < 2 ^ 32) (sym c.deref-4.ensures.value)
+    (few_starts stream.source c.in_ok-words.field-0.words.items c.args.read.now.reading.inputs.packets.items stream.is_source.packets c.requires.fit.size stream.is.stream)
 
 pub returns : goal.returns
 returns c =
@@ -44,4 +52,7 @@ returns c =
       few = c.in_ok-lanes.ensures.few;
       counts = bits_twice link c.as_slice.result.now schedule.skews.items c.deref-2.result.now words c.deref-3.result.now c.in_ok-lanes.lanes.items (counts_value c.in_ok-counts.counts)
           c.as_slice.ensures.value c.deref-2.ensures.value c.deref-3.ensures.value c.in_ok-counts.ensures;
+      are_sent = subst (λ (ws : List Word). AreSent ws c.in_ok-sent.sent.items) c.deref-4.ensures.value c.in_ok-sent.ensures.sent;
+      few_sent = c.in_ok-sent.ensures.few;
+      low_slots = c.in_ok-sent.ensures.low;
     }

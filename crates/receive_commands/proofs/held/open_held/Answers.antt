@@ -1,4 +1,4 @@
-use Rattle.std.proofs.Common.{◌≡◌, ◌++◌, ◌∙◌, ◌≤◌, ap, sym, subst, refl, arith, All, List, ℕ, length, map, string_bytes}
+use Rattle.std.proofs.Common.{◌≡◌, ◌++◌, ◌∙◌, ◌≤◌, ap, sym, subst, refl, arith, All, List, ℕ, length, map, string_bytes, true}
 use Rattle.std.proofs.lemmas.Result.{err_from_is_err_and}
 use Rattle.link_plan.specs.Listing.{channels_in_order, numbers_of}
 use Rattle.link_plan.specs.Views.{plan_value}
@@ -42,6 +42,6 @@ pub returns-clause-opens : goal.returns-clause-opens
 returns-clause-opens g c setting is =
     let plan = c.args.plan.now in
     let order = plan_order plan c.deref.result.now (c.deref.ensures.value ∙ c.in_ok-channels.ensures ∙ ap (λ cs. channels_in_order (numbers_of cs)) c.as_slice.ensures.value) in
-    subst (λ p. Opens (record { ahead = outs (lane_names (plan_value plan).out plan.link.lanes) (map vec_bytes c.args.lanes.now); setting = setting; link_type = plan.link_type; prefix = p; was = g.S.Store.files c.args.store.now }) c.open_behind.result (g.S.Store.files c.open_behind.new.store)) c.as_str.ensures.value
-    (subst (λ ns. Opens (record { ahead = outs ns (map vec_bytes c.args.lanes.now); setting = setting; link_type = plan.link_type; prefix = c.as_str.result.now; was = g.S.Store.files c.args.store.now }) c.open_behind.result (g.S.Store.files c.open_behind.new.store)) c.requires.names
+    subst (λ p. Opens (record { ahead = outs (lane_names (plan_value plan).out plan.link.lanes) (map vec_bytes c.args.lanes.now); lists = true; setting = setting; link_type = plan.link_type; prefix = p; was = g.S.Store.files c.args.store.now }) c.open_behind.result (g.S.Store.files c.open_behind.new.store)) c.as_str.ensures.value
+    (subst (λ ns. Opens (record { ahead = outs ns (map vec_bytes c.args.lanes.now); lists = true; setting = setting; link_type = plan.link_type; prefix = c.as_str.result.now; was = g.S.Store.files c.args.store.now }) c.open_behind.result (g.S.Store.files c.open_behind.new.store)) c.requires.names
     (c.open_behind.ensures.opens setting (is.channels ∙ sym order)))

@@ -1,4 +1,4 @@
-use Rattle.std.proofs.Common.{◌≡◌, ◌∙◌, refl, sym, ap, subst, arith, [], List, ℕ, length, map, replicate, slice_get, string_bytes, Contains, Option, Some}
+use Rattle.std.proofs.Common.{◌≡◌, ◌∙◌, refl, sym, ap, subst, arith, [], List, ℕ, length, map, replicate, slice_get, string_bytes, Contains, Option, Some, false}
 use Rattle.std.proofs.lemmas.Result.{err_from_is_err_and}
 use Rattle.link_plan.specs.Listing.{channels_in_order, numbers_of}
 use Rattle.link_plan.specs.Views.{plan_value}
@@ -22,7 +22,7 @@ returns-in_err-channels-clause-fills g c =
     let p = err_from_is_err_and r.result r.ensures.1 in
     let plan = c.args.read.now.plan in
     let value = plan_value plan in
-    let b : Beginning = record { ahead = []; setting = the_setting value; link_type = plan.link_type; prefix = value.out; was = g.S.Store.files c.args.store.now } in
+    let b : Beginning = record { ahead = []; lists = false; setting = the_setting value; link_type = plan.link_type; prefix = value.out; was = g.S.Store.files c.args.store.now } in
     rw (p.1, p.2) (none_fills value b (is_the_setting value) refl refl refl _ tt)
 
 pub returns-in_err-receiver-clause-fills : goal.returns-in_err-receiver-clause-fills
@@ -31,7 +31,7 @@ returns-in_err-receiver-clause-fills g c =
     let p = err_from_is_err_and r.result r.ensures.1 in
     let plan = c.args.read.now.plan in
     let value = plan_value plan in
-    let b : Beginning = record { ahead = []; setting = the_setting value; link_type = plan.link_type; prefix = value.out; was = g.S.Store.files c.args.store.now } in
+    let b : Beginning = record { ahead = []; lists = false; setting = the_setting value; link_type = plan.link_type; prefix = value.out; was = g.S.Store.files c.args.store.now } in
     rw (p.1, p.2) (none_fills value b (is_the_setting value) refl refl refl _ tt)
 
 pub returns-in_err-offsets-clause-fills : goal.returns-in_err-offsets-clause-fills
@@ -40,7 +40,7 @@ returns-in_err-offsets-clause-fills g c =
     let p = err_from_is_err_and r.result r.ensures.1 in
     let plan = c.args.read.now.plan in
     let value = plan_value plan in
-    let b : Beginning = record { ahead = []; setting = the_setting value; link_type = plan.link_type; prefix = value.out; was = g.S.Store.files c.args.store.now } in
+    let b : Beginning = record { ahead = []; lists = false; setting = the_setting value; link_type = plan.link_type; prefix = value.out; was = g.S.Store.files c.args.store.now } in
     rw (p.1, p.2) (none_fills value b (is_the_setting value) refl refl refl _ tt)
 
 pub returns-in_err-receipt-clause-fills : goal.returns-in_err-receipt-clause-fills
@@ -48,7 +48,7 @@ returns-in_err-receipt-clause-fills g c =
     let plan = c.args.read.now.plan in
     let value = plan_value plan in
     let prefixed = c.as_str.ensures.value in
-    let b : Beginning = record { ahead = []; setting = the_setting value; link_type = plan.link_type; prefix = c.as_str.result.now; was = g.S.Store.files c.args.store.now } in
+    let b : Beginning = record { ahead = []; lists = false; setting = the_setting value; link_type = plan.link_type; prefix = c.as_str.result.now; was = g.S.Store.files c.args.store.now } in
     let order = plan_order plan c.deref.result.now (c.deref.ensures.value ∙ c.in_ok-channels.ensures ∙ ap (λ cs. channels_in_order (numbers_of cs)) c.as_slice.ensures.value) in
     let r = c.from_residual-in_err-receipt in
     let p = err_from_is_err_and r.result r.ensures.1 in
@@ -61,7 +61,7 @@ returns-in_err-receipt-clause-others g c =
     let plan = c.args.read.now.plan in
     let value = plan_value plan in
     let prefixed = c.as_str.ensures.value in
-    let b : Beginning = record { ahead = []; setting = the_setting value; link_type = plan.link_type; prefix = c.as_str.result.now; was = g.S.Store.files c.args.store.now } in
+    let b : Beginning = record { ahead = []; lists = false; setting = the_setting value; link_type = plan.link_type; prefix = c.as_str.result.now; was = g.S.Store.files c.args.store.now } in
     let order = plan_order plan c.deref.result.now (c.deref.ensures.value ∙ c.in_ok-channels.ensures ∙ ap (λ cs. channels_in_order (numbers_of cs)) c.as_slice.ensures.value) in
     let r = c.from_residual-in_err-receipt in
     let p = err_from_is_err_and r.result r.ensures.1 in
@@ -91,7 +91,7 @@ take_lanes-requires-clause-apart g c q among output =
     let plan = c.args.read.now.plan in
     let value = plan_value plan in
     let prefixed = c.as_str.ensures.value in
-    let b : Beginning = record { ahead = []; setting = the_setting value; link_type = plan.link_type; prefix = c.as_str.result.now; was = g.S.Store.files c.args.store.now } in
+    let b : Beginning = record { ahead = []; lists = false; setting = the_setting value; link_type = plan.link_type; prefix = c.as_str.result.now; was = g.S.Store.files c.args.store.now } in
     let order = plan_order plan c.deref.result.now (c.deref.ensures.value ∙ c.in_ok-channels.ensures ∙ ap (λ cs. channels_in_order (numbers_of cs)) c.as_slice.ensures.value) in
     let named : map string_bytes c.as_slice-names.result.now ≡ names_of_lanes value = ap (map string_bytes) c.as_slice-names.ensures.value ∙ c.requires.names in
     let stands = begin_stands plan c.in_ok-receiver.receiver (λ setting is. c.in_ok-receiver.ensures setting is) in
@@ -104,7 +104,7 @@ take_lanes-requires-clause-taking g c =
     let plan = c.args.read.now.plan in
     let value = plan_value plan in
     let prefixed = c.as_str.ensures.value in
-    let b : Beginning = record { ahead = []; setting = the_setting value; link_type = plan.link_type; prefix = c.as_str.result.now; was = g.S.Store.files c.args.store.now } in
+    let b : Beginning = record { ahead = []; lists = false; setting = the_setting value; link_type = plan.link_type; prefix = c.as_str.result.now; was = g.S.Store.files c.args.store.now } in
     let order = plan_order plan c.deref.result.now (c.deref.ensures.value ∙ c.in_ok-channels.ensures ∙ ap (λ cs. channels_in_order (numbers_of cs)) c.as_slice.ensures.value) in
     let named : map string_bytes c.as_slice-names.result.now ≡ names_of_lanes value = ap (map string_bytes) c.as_slice-names.ensures.value ∙ c.requires.names in
     let count : length c.as_slice-names.result.now ≡ plan.link.lanes = names_count string_bytes c.as_slice-names.result.now value.out plan.link.lanes named in
@@ -121,7 +121,7 @@ returns-in_err-take_lanes-clause-fills g c =
     let plan = c.args.read.now.plan in
     let value = plan_value plan in
     let prefixed = c.as_str.ensures.value in
-    let b : Beginning = record { ahead = []; setting = the_setting value; link_type = plan.link_type; prefix = c.as_str.result.now; was = g.S.Store.files c.args.store.now } in
+    let b : Beginning = record { ahead = []; lists = false; setting = the_setting value; link_type = plan.link_type; prefix = c.as_str.result.now; was = g.S.Store.files c.args.store.now } in
     let order = plan_order plan c.deref.result.now (c.deref.ensures.value ∙ c.in_ok-channels.ensures ∙ ap (λ cs. channels_in_order (numbers_of cs)) c.as_slice.ensures.value) in
     let named : map string_bytes c.as_slice-names.result.now ≡ names_of_lanes value = ap (map string_bytes) c.as_slice-names.ensures.value ∙ c.requires.names in
     let count : length c.as_slice-names.result.now ≡ plan.link.lanes = names_count string_bytes c.as_slice-names.result.now value.out plan.link.lanes named in
@@ -142,7 +142,7 @@ returns-in_err-take_lanes-clause-others g c =
     let plan = c.args.read.now.plan in
     let value = plan_value plan in
     let prefixed = c.as_str.ensures.value in
-    let b : Beginning = record { ahead = []; setting = the_setting value; link_type = plan.link_type; prefix = c.as_str.result.now; was = g.S.Store.files c.args.store.now } in
+    let b : Beginning = record { ahead = []; lists = false; setting = the_setting value; link_type = plan.link_type; prefix = c.as_str.result.now; was = g.S.Store.files c.args.store.now } in
     let order = plan_order plan c.deref.result.now (c.deref.ensures.value ∙ c.in_ok-channels.ensures ∙ ap (λ cs. channels_in_order (numbers_of cs)) c.as_slice.ensures.value) in
     let named : map string_bytes c.as_slice-names.result.now ≡ names_of_lanes value = ap (map string_bytes) c.as_slice-names.ensures.value ∙ c.requires.names in
     let count : length c.as_slice-names.result.now ≡ plan.link.lanes = names_count string_bytes c.as_slice-names.result.now value.out plan.link.lanes named in
@@ -163,7 +163,7 @@ lane_lines-requires g c =
     let plan = c.args.read.now.plan in
     let value = plan_value plan in
     let prefixed = c.as_str.ensures.value in
-    let b : Beginning = record { ahead = []; setting = the_setting value; link_type = plan.link_type; prefix = c.as_str.result.now; was = g.S.Store.files c.args.store.now } in
+    let b : Beginning = record { ahead = []; lists = false; setting = the_setting value; link_type = plan.link_type; prefix = c.as_str.result.now; was = g.S.Store.files c.args.store.now } in
     let order = plan_order plan c.deref.result.now (c.deref.ensures.value ∙ c.in_ok-channels.ensures ∙ ap (λ cs. channels_in_order (numbers_of cs)) c.as_slice.ensures.value) in
     let named : map string_bytes c.as_slice-names.result.now ≡ names_of_lanes value = ap (map string_bytes) c.as_slice-names.ensures.value ∙ c.requires.names in
     let count : length c.as_slice-names.result.now ≡ plan.link.lanes = names_count string_bytes c.as_slice-names.result.now value.out plan.link.lanes named in
@@ -185,7 +185,7 @@ returns-in_err-text-clause-fills g c =
     let plan = c.args.read.now.plan in
     let value = plan_value plan in
     let prefixed = c.as_str.ensures.value in
-    let b : Beginning = record { ahead = []; setting = the_setting value; link_type = plan.link_type; prefix = c.as_str.result.now; was = g.S.Store.files c.args.store.now } in
+    let b : Beginning = record { ahead = []; lists = false; setting = the_setting value; link_type = plan.link_type; prefix = c.as_str.result.now; was = g.S.Store.files c.args.store.now } in
     let order = plan_order plan c.deref.result.now (c.deref.ensures.value ∙ c.in_ok-channels.ensures ∙ ap (λ cs. channels_in_order (numbers_of cs)) c.as_slice.ensures.value) in
     let named : map string_bytes c.as_slice-names.result.now ≡ names_of_lanes value = ap (map string_bytes) c.as_slice-names.ensures.value ∙ c.requires.names in
     let count : length c.as_slice-names.result.now ≡ plan.link.lanes = names_count string_bytes c.as_slice-names.result.now value.out plan.link.lanes named in
@@ -208,7 +208,7 @@ returns-in_err-text-clause-others g c =
     let plan = c.args.read.now.plan in
     let value = plan_value plan in
     let prefixed = c.as_str.ensures.value in
-    let b : Beginning = record { ahead = []; setting = the_setting value; link_type = plan.link_type; prefix = c.as_str.result.now; was = g.S.Store.files c.args.store.now } in
+    let b : Beginning = record { ahead = []; lists = false; setting = the_setting value; link_type = plan.link_type; prefix = c.as_str.result.now; was = g.S.Store.files c.args.store.now } in
     let order = plan_order plan c.deref.result.now (c.deref.ensures.value ∙ c.in_ok-channels.ensures ∙ ap (λ cs. channels_in_order (numbers_of cs)) c.as_slice.ensures.value) in
     let named : map string_bytes c.as_slice-names.result.now ≡ names_of_lanes value = ap (map string_bytes) c.as_slice-names.ensures.value ∙ c.requires.names in
     let count : length c.as_slice-names.result.now ≡ plan.link.lanes = names_count string_bytes c.as_slice-names.result.now value.out plan.link.lanes named in
@@ -231,7 +231,7 @@ finish-requires-clause-receipt g c =
     let plan = c.args.read.now.plan in
     let value = plan_value plan in
     let prefixed = c.as_str.ensures.value in
-    let b : Beginning = record { ahead = []; setting = the_setting value; link_type = plan.link_type; prefix = c.as_str.result.now; was = g.S.Store.files c.args.store.now } in
+    let b : Beginning = record { ahead = []; lists = false; setting = the_setting value; link_type = plan.link_type; prefix = c.as_str.result.now; was = g.S.Store.files c.args.store.now } in
     let order = plan_order plan c.deref.result.now (c.deref.ensures.value ∙ c.in_ok-channels.ensures ∙ ap (λ cs. channels_in_order (numbers_of cs)) c.as_slice.ensures.value) in
     let named : map string_bytes c.as_slice-names.result.now ≡ names_of_lanes value = ap (map string_bytes) c.as_slice-names.ensures.value ∙ c.requires.names in
     let count : length c.as_slice-names.result.now ≡ plan.link.lanes = names_count string_bytes c.as_slice-names.result.now value.out plan.link.lanes named in
@@ -251,7 +251,7 @@ returns-clause-others g c =
     let plan = c.args.read.now.plan in
     let value = plan_value plan in
     let prefixed = c.as_str.ensures.value in
-    let b : Beginning = record { ahead = []; setting = the_setting value; link_type = plan.link_type; prefix = c.as_str.result.now; was = g.S.Store.files c.args.store.now } in
+    let b : Beginning = record { ahead = []; lists = false; setting = the_setting value; link_type = plan.link_type; prefix = c.as_str.result.now; was = g.S.Store.files c.args.store.now } in
     let order = plan_order plan c.deref.result.now (c.deref.ensures.value ∙ c.in_ok-channels.ensures ∙ ap (λ cs. channels_in_order (numbers_of cs)) c.as_slice.ensures.value) in
     let named : map string_bytes c.as_slice-names.result.now ≡ names_of_lanes value = ap (map string_bytes) c.as_slice-names.ensures.value ∙ c.requires.names in
     let count : length c.as_slice-names.result.now ≡ plan.link.lanes = names_count string_bytes c.as_slice-names.result.now value.out plan.link.lanes named in
@@ -271,7 +271,7 @@ returns-clause-fills g c =
     let plan = c.args.read.now.plan in
     let value = plan_value plan in
     let prefixed = c.as_str.ensures.value in
-    let b : Beginning = record { ahead = []; setting = the_setting value; link_type = plan.link_type; prefix = c.as_str.result.now; was = g.S.Store.files c.args.store.now } in
+    let b : Beginning = record { ahead = []; lists = false; setting = the_setting value; link_type = plan.link_type; prefix = c.as_str.result.now; was = g.S.Store.files c.args.store.now } in
     let order = plan_order plan c.deref.result.now (c.deref.ensures.value ∙ c.in_ok-channels.ensures ∙ ap (λ cs. channels_in_order (numbers_of cs)) c.as_slice.ensures.value) in
     let named : map string_bytes c.as_slice-names.result.now ≡ names_of_lanes value = ap (map string_bytes) c.as_slice-names.ensures.value ∙ c.requires.names in
     let count : length c.as_slice-names.result.now ≡ plan.link.lanes = names_count string_bytes c.as_slice-names.result.now value.out plan.link.lanes named in

@@ -17,7 +17,7 @@ returns-in_err-reassembly-clause-writes g c setting is =
 
 pub returns-in_err-receipt-clause-writes : goal.returns-in_err-receipt-clause-writes
 returns-in_err-receipt-clause-writes g c setting is =
-    let b : Beginning = record { ahead = []; setting = setting; link_type = c.args.link_type; prefix = c.args.prefix.now; was = g.S.Store.files c.args.store.now } in
+    let b : Beginning = record { ahead = []; lists = false; setting = setting; link_type = c.args.link_type; prefix = c.args.prefix.now; was = g.S.Store.files c.args.store.now } in
     let events = word_events setting c.args.words.now in
     let r = c.from_residual-in_err-receipt in
     let p = err_from_is_err_and r.result r.ensures.1 in
@@ -27,12 +27,12 @@ returns-in_err-receipt-clause-writes g c setting is =
 pub take_words-requires-clause-at : goal.take_words-requires-clause-at
 take_words-requires-clause-at g c =
     let (setting, is) = for_channels c.args.channels.now c.args.max_packet c.requires.in_order in
-    let b : Beginning = record { ahead = []; setting = setting; link_type = c.args.link_type; prefix = c.args.prefix.now; was = g.S.Store.files c.args.store.now } in
+    let b : Beginning = record { ahead = []; lists = false; setting = setting; link_type = c.args.link_type; prefix = c.args.prefix.now; was = g.S.Store.files c.args.store.now } in
     (b, record { stands = c.in_ok-reassembly.ensures.1 setting (lists_channels setting c.args.channels.now c.args.max_packet is); receipt = c.in_ok-receipt.ensures.opens setting is.listed; rises = rise_none; fits = longest_fits setting c.args.channels.now c.args.max_packet is c.requires.fits })
 
 pub returns-in_err-take_words-clause-writes : goal.returns-in_err-take_words-clause-writes
 returns-in_err-take_words-clause-writes g c setting is =
-    let b : Beginning = record { ahead = []; setting = setting; link_type = c.args.link_type; prefix = c.args.prefix.now; was = g.S.Store.files c.args.store.now } in
+    let b : Beginning = record { ahead = []; lists = false; setting = setting; link_type = c.args.link_type; prefix = c.args.prefix.now; was = g.S.Store.files c.args.store.now } in
     let events = word_events setting c.args.words.now in
     let r = c.from_residual-in_err-take_words in
     let p = err_from_is_err_and r.result r.ensures.1 in
@@ -43,7 +43,7 @@ returns-in_err-take_words-clause-writes g c setting is =
 pub finish-requires-clause-receipt : goal.finish-requires-clause-receipt
 finish-requires-clause-receipt g c =
     let (setting, is) = for_channels c.args.channels.now c.args.max_packet c.requires.in_order in
-    let b : Beginning = record { ahead = []; setting = setting; link_type = c.args.link_type; prefix = c.args.prefix.now; was = g.S.Store.files c.args.store.now } in (
+    let b : Beginning = record { ahead = []; lists = false; setting = setting; link_type = c.args.link_type; prefix = c.args.prefix.now; was = g.S.Store.files c.args.store.now } in (
       b,
       word_events setting c.args.words.now,
       c.in_ok-take_words.ensures.receives b
@@ -52,7 +52,7 @@ finish-requires-clause-receipt g c =
 
 pub returns-clause-writes : goal.returns-clause-writes
 returns-clause-writes g c setting is =
-    let b : Beginning = record { ahead = []; setting = setting; link_type = c.args.link_type; prefix = c.args.prefix.now; was = g.S.Store.files c.args.store.now } in
+    let b : Beginning = record { ahead = []; lists = false; setting = setting; link_type = c.args.link_type; prefix = c.args.prefix.now; was = g.S.Store.files c.args.store.now } in
     let events = word_events setting c.args.words.now in
     subst (λ before. Writes (λ o. o ≡ received_outcome setting c.args.link_type c.args.prefix.now before events) (output_names c.args.prefix.now c.args.channels.now) c.finish.result (g.S.Store.files c.args.store.now) (g.S.Store.files c.finish.new.store)) c.new.ensures.items
     (subst (λ cs. Writes (λ o. o ≡ received_outcome setting c.args.link_type c.args.prefix.now c.new.result.items events) (output_names c.args.prefix.now cs) c.finish.result (g.S.Store.files c.args.store.now) (g.S.Store.files c.finish.new.store)) is.listed

@@ -8,4 +8,4 @@ pub count_drop-requires : goal.count_drop-requires
 count_drop-requires c = below_all 18446744073709551615 c.args.self.now.drops (drop_place c.args.why) (lit≤ tt) (sym c.have_room.ensures ∙ c.if-not-have_room.false)
 
 pub returns : goal.returns
-returns c b outputs now channel is = drop_came b outputs channel c.args.why c.args.self.now _ now refl refl refl refl (λ outs n e. c.count_drop.ensures.counts outs n e) is
+returns c b outputs now channel is = drop_came b outputs channel c.args.why c.args.self.now _ now refl refl refl refl (λ outs n e. c.count_drop.ensures.counts outs n e) refl refl is

@@ -1,4 +1,4 @@
-use Rattle.std.proofs.Common.{◌≡◌, ◌++◌, ◌∙◌, ap, sym, subst, List, ℕ, [], map, string_bytes}
+use Rattle.std.proofs.Common.{◌≡◌, ◌++◌, ◌∙◌, ap, sym, subst, List, ℕ, [], map, string_bytes, false}
 use Rattle.run_shell.specs.Outputs.{Differ, outs}
 use Rattle.receive_commands.specs.Received.{output_names}
 use Rattle.receive_commands.specs.Receipts.{Opens}
@@ -12,5 +12,5 @@ open_behind-requires-clause-differ g c =
 
 pub returns-clause-opens : goal.returns-clause-opens
 returns-clause-opens g c setting listed =
-    subst (λ ns. Opens (record { ahead = outs (map string_bytes ns) []; setting = setting; link_type = c.args.link_type; prefix = c.args.prefix.now; was = g.S.Store.files c.args.store.now }) c.open_behind.result (g.S.Store.files c.open_behind.new.store)) c.new.ensures.items
+    subst (λ ns. Opens (record { ahead = outs (map string_bytes ns) []; lists = false; setting = setting; link_type = c.args.link_type; prefix = c.args.prefix.now; was = g.S.Store.files c.args.store.now }) c.open_behind.result (g.S.Store.files c.open_behind.new.store)) c.new.ensures.items
     (c.open_behind.ensures.opens setting listed)

@@ -21,4 +21,4 @@ returns-in_err-outputs-clause-opens g c setting listed =
 pub returns-clause-opens : goal.returns-clause-opens
 returns-clause-opens g c setting listed =
     let many = length-map c.args.contents.now (λ v. v.items) ∙ c.requires.contents ∙ sym (length-map c.args.ahead.items string_bytes) in
-    opened _ _ _ c.args.channels.now _ _ refl many listed (sym (length-map c.args.contents.now (λ v. v.items))) c.in_ok-outputs.ensures.names c.requires.differ c.in_ok-outputs.ensures.firsts c.in_ok-counts.ensures c.make.ensures refl
+    opened _ _ _ c.args.channels.now _ _ refl many listed (sym (length-map c.args.contents.now (λ v. v.items))) c.in_ok-outputs.ensures.names c.requires.differ c.in_ok-outputs.ensures.firsts c.in_ok-counts.ensures c.make.ensures refl refl c.new.ensures.items
