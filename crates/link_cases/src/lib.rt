@@ -14,6 +14,7 @@ mod skewing;
 pub use drawing::Draws;
 pub use generating::{Generated, generate};
 pub use law::{cases_are_accepted, premises_are_met, worked_cases};
+pub use plan_text::{capture_name, schedule_name};
 
 #[cfg(test)]
 mod tests;

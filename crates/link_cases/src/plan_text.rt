@@ -16,7 +16,8 @@ fn number_row(alloc: Global, key: &str, n: u32) -> Result<ByteRecord, AllocError
     pair(alloc, key, number.as_str())
 }
 
-fn schedule_name(alloc: Global, prefix: &str) -> Result<String, AllocError>
+/// The name of the schedule of a case.
+pub fn schedule_name(alloc: Global, prefix: &str) -> Result<String, AllocError>
     ensures { IfOk result (λ name. string_bytes name ≡ schedule_name prefix.now) }
 {
     format!(in alloc; "{prefix}.schedule")
@@ -28,7 +29,8 @@ fn out_name(alloc: Global, prefix: &str) -> Result<String, AllocError>
     format!(in alloc; "{prefix}.out")
 }
 
-fn capture_name(alloc: Global, prefix: &str, channel: u32) -> Result<String, AllocError>
+/// The name of the capture of a channel of a case.
+pub fn capture_name(alloc: Global, prefix: &str, channel: u32) -> Result<String, AllocError>
     ensures { IfOk result (λ name. string_bytes name ≡ capture_name prefix.now channel) }
 {
     format!(in alloc; "{prefix}.{channel}.pcap")

@@ -65,12 +65,16 @@ read_plan files name i e =
     let one : record { reading = reading; schedule = schedule } ≡ i = cc in
     subst (λ (j : LinkReading). planned_in files name ≡ Ok j.reading) one had
 
+-- the packets of a source are those of its plan
+pub source_fits : (i : LinkReading) (stream : List Word) (o : Outcome) (h : IsLinkedBy i stream o) → AreFit i.reading.plan.settings.max_packet i.reading.inputs.packets → EachIsPacket h.setting.max_packet h.source
+source_fits i stream o h fit =
+    let taken : AreFit h.setting.max_packet i.reading.inputs.packets = subst (λ n. AreFit n i.reading.inputs.packets) (sym h.is_setting.max_packet) fit in
+    subst (AreFit h.setting.max_packet) (sym h.is_source.packets) taken
+
 pub each_packet : (files : Files) (name : List ℕ) (i : LinkReading) (stream : List Word) (o : Outcome) → AreBytes files → linked_in files name ≡ Ok i → (h : IsLinkedBy i stream o) → EachIsPacket h.setting.max_packet h.source
 each_packet files name i stream o are e h =
     let (had, read) = planned_parts files name i.reading (read_plan files name i e) in
-    let fit : AreFit i.reading.plan.settings.max_packet i.reading.inputs.packets = inputs_packets files i.reading.plan i.reading.inputs are read in
-    let taken : AreFit h.setting.max_packet i.reading.inputs.packets = subst (λ n. AreFit n i.reading.inputs.packets) (sym h.is_setting.max_packet) fit in
-    subst (AreFit h.setting.max_packet) (sym h.is_source.packets) taken
+    source_fits i stream o h (inputs_packets files i.reading.plan i.reading.inputs are read)
 
 -- ---- the content of a file
 
@@ -164,15 +168,19 @@ module _ (i : LinkReading) (stream : List Word) (o : Outcome) (h : IsLinkedBy i 
       ∙ law_on_damage h.source h.setting channel (sent_over i stream) (map bits_of_bytes h.lanes) h.are_events.epochs h.counts
       h.link h.are_counts.count (listed_among h.setting.channels channel has) h.is_stream each what_comes h.are_counts (ap (λ (c : Accidents). c.stretches) none)
 
-pub delivers : LinkDelivers
-delivers files name i stream o are e h none = record {
+-- the same where the packets are within the longest
+pub unmet_delivers : (i : LinkReading) (stream : List Word) (o : Outcome) (h : IsLinkedBy i stream o) → EachIsPacket h.setting.max_packet h.source → h.counts ≡ no_accidents → DeliversUnmet i stream o h
+unmet_delivers i stream o h each none = record {
   epochs = h.are_events.epochs;
   are = what_comes i stream o h;
   table = table_there i stream o h;
   captures = λ channel has.
       capture_there i stream o h channel has
-      ∙ ap (λ (ps : List Packet). Some (capture_bytes i.reading.plan.link_type (bytes_of ps))) (unmet_come i stream o h channel (each_packet files name i stream o are e h) has none);
+      ∙ ap (λ (ps : List Packet). Some (capture_bytes i.reading.plan.link_type (bytes_of ps))) (unmet_come i stream o h channel each has none);
 }
+
+pub delivers : LinkDelivers
+delivers files name i stream o are e h none = unmet_delivers i stream o h (each_packet files name i stream o are e h) none
 
 -- ---- where no bit was damaged
 
@@ -247,11 +255,15 @@ module _ (i : LinkReading) (stream : List Word) (o : Outcome) (h : IsLinkedBy i 
             ∙ ap (λ (ps : List Packet). Some (capture_bytes i.reading.plan.link_type (bytes_of ps))) (all-kept (meets_none (items_of unmet.epochs)) (sent_on i stream o h channel) (two.unmet channel));
       }
 
-pub clean_delivers : CleanLinkDeliversAll
-clean_delivers files name i stream o are e h all within =
+-- the same where the packets are within the longest
+pub all_delivers : (i : LinkReading) (stream : List Word) (o : Outcome) (h : IsLinkedBy i stream o) → EachIsPacket h.setting.max_packet h.source → AllUndamaged i.reading.plan.settings i.schedule stream → IsWithinDepth i.reading.plan.settings i.schedule.skews → DeliversAll i stream o h
+all_delivers i stream o h each all within =
     let clean = is_clean i stream o h all within in
     let none : h.counts ≡ no_accidents = no_accidents_there h.source (sent_over i stream) (map bits_of_bytes h.lanes) h.counts clean h.are_counts in
-    delivers_all i stream o h clean (each_packet files name i stream o are e h) none (delivers files name i stream o are e h none)
+    delivers_all i stream o h clean each none (unmet_delivers i stream o h each none)
+
+pub clean_delivers : CleanLinkDeliversAll
+clean_delivers files name i stream o are e h all within = all_delivers i stream o h (each_packet files name i stream o are e h) all within
 
 -- ---- bursts
 

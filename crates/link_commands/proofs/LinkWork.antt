@@ -87,7 +87,7 @@ module _ (i : LinkReading) (link : IsLink i.reading.plan.settings) (skews : leng
   abbrev s : Settings
   s = i.reading.plan.settings
 
-  some_linked : (o : Outcome) × IsLinked i o
+  pub some_linked : (o : Outcome) × IsLinked i o
   some_linked =
       let low = link.lanes.0 in
       let long = link.metaframe.0 in

@@ -1,0 +1,109 @@
+-- The stream of a generated case: there is one, it is not held, and its packets are within the longest.
+use Rattle.std.proofs.Common.{ℕ, zero, suc, ◌+◌, ◌<◌, List, [], ◌∷◌, refl, arith, All}
+use Rattle.std.specs.List.{AllByRecursion}
+use Rattle.std.proofs.lemmas.List.Elements.{All-append, All-map}
+use Rattle.lk_base.specs.Limits.{longest_packet}
+use Rattle.lk_base.specs.Link.{IsLink}
+use Rattle.stream_model.specs.BurstStream.{Source, IsPacket}
+use Rattle.stream_model.proofs.SomeStream.{of_fitting}
+use Rattle.link_plan.specs.Listing.{channels_in_order}
+use Rattle.link_plan.proofs.InOrder.{narrow_in_order}
+use Rattle.link_cases.specs.Draws.{draw}
+use Rattle.link_cases.specs.Case.{Case, case_of, channel_drawn, numbers_drawn, packet_drawn}
+use Rattle.link_cases.specs.Accepted.{settings_of}
+use Rattle.link_cases.specs.declared.numbers.LinkNumbers.{LinkNumbers}
+use Rattle.link_cases.proofs.Drawn as drawn
+use Rattle.plan_inputs.specs.Inputs.{on_channel, numbers_in}
+use Rattle.plan_inputs.specs.Sources.{IsSourceOf}
+use Rattle.plan_inputs.proofs.PlanStream.{AreFit}
+use Rattle.plan_inputs.proofs.SomeSource.{shape_of}
+use Rattle.link_commands.specs.Linked.{IsLinked}
+use Rattle.link_commands.proofs.LinkWork.{some_linked}
+use Rattle.run_shell.specs.Outcome.{Outcome}
+use Rattle.case_commands.specs.Reading.{packets_from, case_reading}
+
+-- ---- its settings
+
+pub case_link : (number : ℕ) → IsLink (settings_of (case_of number).numbers)
+case_link number = by (case_of number).numbers (drawn.case-fits number).numbers
+  where
+    by : (n : LinkNumbers) → drawn.AreInRange n → IsLink (settings_of n)
+    by n r =
+        let lanes = r.few_lanes in
+        let least = r.least_metaframe in
+        let most = r.most_metaframe in
+        let max = r.most_max in
+        let low = r.least_max in
+        let short = r.most_short in
+        record {
+          lanes = (r.some_lanes, omega arith);
+          metaframe = (r.least_metaframe, omega arith);
+          skips = (r.some_skips, r.few_skips);
+          burst_max = (r.least_max, omega arith, r.whole_max);
+          burst_short = (r.least_short, omega arith, r.whole_short);
+          short_below_max = omega arith;
+          deskew = (omega arith, omega arith);
+          deskew_below_half = omega arith;
+          warmup = (omega arith, omega arith);
+          max_packet = (omega arith, omega arith);
+        }
+
+-- ---- its packets
+
+all_of : {X : Type 0} (P : X → Type 0) (xs : List X) → AllByRecursion P xs → All P xs
+all_of P [] a k d lt = absurd (omega arith)
+all_of P (x ∷ xs) a zero d lt = a.0
+all_of P (x ∷ xs) a (suc k) d lt = all_of P xs a.1 k d (omega arith)
+
+-- a packet that was drawn is one of bytes
+packet_fits : (x : ℕ) → IsPacket longest_packet (packet_drawn x).0
+packet_fits x =
+    let fits = drawn.packet-fits x in
+    let few = fits.few in
+    record {
+      some = fits.some;
+      fits = omega (arith, few);
+      bytes = all_of (λ b. b < 256) (packet_drawn x).0 (drawn.many-each (λ b. b < 256) (draw 256) (λ y. drawn.draw-small 256 y (omega arith)) (1 + (draw 1514 x).0) (draw 1514 x).1);
+    }
+
+abbrev AllPackets : List (List ℕ) → Type 0
+AllPackets packets = AllByRecursion (IsPacket longest_packet) packets
+
+channel_fits : (x : ℕ) → AllPackets (channel_drawn x).0
+channel_fits x = drawn.many-each (IsPacket longest_packet) packet_drawn packet_fits (1 + (draw 200 x).0) (draw 200 x).1
+
+channels_fit : (number : ℕ) → AllByRecursion AllPackets (case_of number).channels
+unfolding case_of
+channels_fit number =
+    let x = (numbers_drawn number).1 in
+    drawn.many-each AllPackets channel_drawn channel_fits (1 + (draw 4 x).0) (draw 4 x).1
+
+none_fit : AreFit longest_packet []
+none_fit k d lt = absurd (omega arith)
+
+packets_fit : (from : ℕ) (channels : List (List (List ℕ))) → AllByRecursion AllPackets channels → AreFit longest_packet (packets_from from channels)
+packets_fit from [] a = none_fit
+packets_fit from (packets ∷ more) a =
+    All-append (λ (p : ℕ × List ℕ). IsPacket longest_packet p.1) (on_channel from packets) (packets_from (from + 1) more)
+    (All-map (λ (p : ℕ × List ℕ). IsPacket longest_packet p.1) (λ (packet : List ℕ). (from, packet)) packets (all_of (IsPacket longest_packet) packets a.0))
+    (packets_fit (from + 1) more a.1)
+
+pub case_packets : (number : ℕ) → AreFit longest_packet (packets_from 0 (case_of number).channels)
+case_packets number = packets_fit 0 (case_of number).channels (channels_fit number)
+
+-- ---- its stream
+
+in_order_low : (numbers : List ℕ) → All (λ channel. channel < 256) (channels_in_order numbers)
+in_order_low numbers k d lt = let h = narrow_in_order numbers k d lt in omega arith
+
+-- what a case comes to on its link
+pub some_case_linked : (number : ℕ) (prefix : List ℕ) → (o : Outcome) × IsLinked (case_reading prefix (case_of number)) o
+some_case_linked number prefix =
+    let c : Case = case_of number in
+    let i = case_reading prefix c in
+    let link = case_link number in
+    let (shape, is) = shape_of (settings_of c.numbers) link in
+    let source : Source = record { shape = shape; channels = channels_in_order (numbers_in i.reading.plan); entries = i.reading.plan.entries; packets = i.reading.inputs.packets; flow = []; local = [] } in
+    let of : IsSourceOf i.reading.plan i.reading.inputs source = record { shape = is; channels = refl; entries = refl; packets = refl; flow = refl; local = refl } in
+    let (w, stream) = of_fitting source (in_order_low (numbers_in i.reading.plan)) (λ k d lt. (case_packets number k d lt).bytes) in
+    some_linked i link (drawn.case-fits number).marks.each_lane source of w stream
