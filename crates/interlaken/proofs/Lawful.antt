@@ -7,8 +7,9 @@ use Rattle.stream_commands.proofs.PlanWork.{burst_means, send_means}
 use Rattle.receive_commands.proofs.Joins.{join_words_means, join_plan_means}
 use Rattle.receive_commands.proofs.Receives.{receive_means}
 use Rattle.link_commands.proofs.LinkWork.{link_means}
+use Rattle.listing_commands.proofs.Conversions.{list_means, assemble_means}
 use Rattle.interlaken.specs.declared.request.Request.{Request}
-use Rattle.interlaken.specs.declared.request.Request.TheVariants.{BurstCapture, BurstPlan, JoinWords, JoinPlan, SendPlan, Receive, Link}
+use Rattle.interlaken.specs.declared.request.Request.TheVariants.{BurstCapture, BurstPlan, JoinWords, JoinPlan, SendPlan, Receive, Link, ListFile, AssembleText}
 use Rattle.interlaken.specs.Request.{request_of}
 use Rattle.interlaken.specs.Meanings.{meaning_of, meaning_by}
 use Rattle.interlaken.specs.Run.{meaning_of_words, IsAccepted}
@@ -23,6 +24,8 @@ request_lawful (JoinPlan name) = join_plan_means name
 request_lawful (SendPlan name) = send_means name
 request_lawful (Receive name) = receive_means name
 request_lawful (Link name) = link_means name
+request_lawful (ListFile name) = list_means name
+request_lawful (AssembleText name) = assemble_means name
 
 by : (a : Option Request) → IsLawful (IsSome a) (meaning_by a)
 by None = misused_lawful (IsSome {T = Request} None) none_some

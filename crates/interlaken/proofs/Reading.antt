@@ -49,6 +49,14 @@ module _ (x : ℕ) (xs : Text) (e : nat_eq x 45 ≡ false) where
   unfolding clap_on_literals rows
   link_read = record { simple = refl; taken = simp e; found = simp e }
 
+  list_read : AreRead (codes "list" ∷ (x ∷ xs) ∷ [])
+  unfolding clap_on_literals rows
+  list_read = record { simple = refl; taken = simp e; found = simp e }
+
+  assemble_read : AreRead (codes "assemble" ∷ (x ∷ xs) ∷ [])
+  unfolding clap_on_literals rows
+  assemble_read = record { simple = refl; taken = simp e; found = simp e }
+
 is_not : (b : Bool) → not b ≡ true → b ≡ false
 is_not true e = absurd (cc)
 is_not false e = refl
@@ -75,7 +83,7 @@ AllRead (row ∷ more) = Reads row × AllRead more
 
 all_read : AllRead rows
 unfolding rows
-all_read = (file_reads (codes "burst") burst_read, (file_reads (codes "join") join_read, (file_reads (codes "send") send_read, (file_reads (codes "receive") receive_read, (file_reads (codes "link") link_read, tt)))))
+all_read = (file_reads (codes "burst") burst_read, (file_reads (codes "join") join_read, (file_reads (codes "send") send_read, (file_reads (codes "receive") receive_read, (file_reads (codes "link") link_read, (file_reads (codes "list") list_read, (file_reads (codes "assemble") assemble_read, tt)))))))
 
 some_mapped : {A B : Type 0} (f : A → B) (o : Option A) → is_some (option_map f o) ≡ true → is_some o ≡ true
 some_mapped f None e = e

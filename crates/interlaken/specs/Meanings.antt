@@ -8,8 +8,10 @@ use Rattle.receive_commands.specs.JoinPlan.{join_plan_meaning}
 use Rattle.receive_commands.specs.JoinWords.{join_words_meaning}
 use Rattle.receive_commands.specs.Receive.{receive_meaning}
 use Rattle.link_commands.specs.Link.{link_meaning}
+use Rattle.listing_commands.specs.Listing.{list_meaning}
+use Rattle.listing_commands.specs.Assembling.{assemble_meaning}
 use Rattle.interlaken.specs.declared.request.Request.{Request}
-use Rattle.interlaken.specs.declared.request.Request.TheVariants.{BurstCapture, BurstPlan, JoinWords, JoinPlan, SendPlan, Receive, Link}
+use Rattle.interlaken.specs.declared.request.Request.TheVariants.{BurstCapture, BurstPlan, JoinWords, JoinPlan, SendPlan, Receive, Link, ListFile, AssembleText}
 
 -- one line for each command
 abbrev pub meaning_of : Request → Meaning
@@ -20,6 +22,8 @@ meaning_of (JoinPlan name) = join_plan_meaning name
 meaning_of (SendPlan name) = send_plan_meaning name
 meaning_of (Receive name) = receive_meaning name
 meaning_of (Link name) = link_meaning name
+meaning_of (ListFile name) = list_meaning name
+meaning_of (AssembleText name) = assemble_meaning name
 
 -- words that are not accepted have a meaning too: the line of the usage
 abbrev pub meaning_by : Option Request → Meaning

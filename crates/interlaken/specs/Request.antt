@@ -5,7 +5,7 @@ use lib.Chars.{codes}
 use Rattle.interlaken.specs.declared.table.Name.{Name}
 use Rattle.interlaken.specs.declared.table.Name.TheVariants as names
 use Rattle.interlaken.specs.declared.request.Request.{Request}
-use Rattle.interlaken.specs.declared.request.Request.TheVariants.{BurstCapture, BurstPlan, JoinWords, JoinPlan, SendPlan, Receive, Link}
+use Rattle.interlaken.specs.declared.request.Request.TheVariants.{BurstCapture, BurstPlan, JoinWords, JoinPlan, SendPlan, Receive, Link, ListFile, AssembleText}
 use Rattle.interlaken.specs.Given.{Given}
 use Rattle.interlaken.specs.Arguments.{arguments_of}
 use Rattle.interlaken.specs.Table.{Kind, rows, row_in}
@@ -29,6 +29,8 @@ request_for names.Join a = join_of a.file
 request_for names.Send a = SendPlan a.file
 request_for names.Receive a = Receive a.file
 request_for names.Link a = Link a.file
+request_for names.List a = ListFile a.file
+request_for names.Assemble a = AssembleText a.file
 
 abbrev pub request_by : Kind → List (List ℕ) → Option Request
 request_by row words = option_map (request_for row.command) (arguments_of row.rule words)

@@ -7,6 +7,7 @@ use crate::arguments::{Arguments, arguments_of};
 use crate::command_line::{CommandLine, line_of, read_line};
 use crate::table::{Name, row_in, rows};
 use link_commands::LinkPlan;
+use listing_commands::{AssembleText, ListFile};
 use lk_base::OutOfMemory;
 use lk_outside::Store;
 use receive_commands::{JoinPlan, JoinWords, Receive};
@@ -31,6 +32,10 @@ pub enum Request<'w> {
     Receive(Receive<'w>),
     /// A plan is sent over the lanes of its link, and received.
     Link(LinkPlan<'w>),
+    /// A words file or a lane file becomes its listing.
+    ListFile(ListFile<'w>),
+    /// A text becomes the file of which it is the listing.
+    AssembleText(AssembleText<'w>),
 }
 
 impl Command for Request<'_> {
@@ -47,6 +52,8 @@ impl Command for Request<'_> {
             Request::SendPlan(send) => send.obey(alloc, store),
             Request::Receive(receive) => receive.obey(alloc, store),
             Request::Link(link) => link.obey(alloc, store),
+            Request::ListFile(list) => list.obey(alloc, store),
+            Request::AssembleText(assemble) => assemble.obey(alloc, store),
         }
     }
 }
@@ -90,6 +97,8 @@ fn request_for<'w>(command: Name, arguments: &Arguments<'w>) -> Request<'w>
         Name::Send => Request::SendPlan(SendPlan::make(arguments.file)),
         Name::Receive => Request::Receive(Receive::make(arguments.file)),
         Name::Link => Request::Link(LinkPlan::make(arguments.file)),
+        Name::List => Request::ListFile(ListFile::make(arguments.file)),
+        Name::Assemble => Request::AssembleText(AssembleText::make(arguments.file)),
     }
 }
 

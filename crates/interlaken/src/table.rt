@@ -24,6 +24,10 @@ pub enum Name {
     Receive,
     /// A plan is sent over the lanes of its link, and received.
     Link,
+    /// A words file or a lane file becomes its listing.
+    List,
+    /// A text becomes the file of which it is the listing.
+    Assemble,
 }
 
 /// A command: its word, and the rule of its arguments.
@@ -62,6 +66,16 @@ static ROWS: &[Row] = &[
     Row {
         word: "link",
         command: Name::Link,
+        rule: Rule::File,
+    },
+    Row {
+        word: "list",
+        command: Name::List,
+        rule: Rule::File,
+    },
+    Row {
+        word: "assemble",
+        command: Name::Assemble,
         rule: Rule::File,
     },
 ];
