@@ -7,9 +7,10 @@ use Rattle.stream_commands.proofs.PlanWork.{burst_means, send_means}
 use Rattle.receive_commands.proofs.Joins.{join_words_means, join_plan_means}
 use Rattle.receive_commands.proofs.Receives.{receive_means}
 use Rattle.link_commands.proofs.LinkWork.{link_means}
+use Rattle.case_commands.proofs.GenerateWork.{generate_means}
 use Rattle.listing_commands.proofs.Conversions.{list_means, assemble_means}
 use Rattle.interlaken.specs.declared.request.Request.{Request}
-use Rattle.interlaken.specs.declared.request.Request.TheVariants.{BurstCapture, BurstPlan, JoinWords, JoinPlan, SendPlan, Receive, Link, ListFile, AssembleText}
+use Rattle.interlaken.specs.declared.request.Request.TheVariants.{BurstCapture, BurstPlan, JoinWords, JoinPlan, SendPlan, Receive, Link, Generate, ListFile, AssembleText}
 use Rattle.interlaken.specs.Request.{request_of}
 use Rattle.interlaken.specs.Meanings.{meaning_of, meaning_by}
 use Rattle.interlaken.specs.Run.{meaning_of_words, IsAccepted}
@@ -24,6 +25,7 @@ request_lawful (JoinPlan name) = join_plan_means name
 request_lawful (SendPlan name) = send_means name
 request_lawful (Receive name) = receive_means name
 request_lawful (Link name) = link_means name
+request_lawful (Generate a) = generate_means a
 request_lawful (ListFile name) = list_means name
 request_lawful (AssembleText name) = assemble_means name
 

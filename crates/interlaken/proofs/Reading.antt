@@ -1,6 +1,8 @@
 -- What the parser of command lines makes of accepted words.
-use Rattle.std.proofs.Common.{◌≡◌, ◌∙◌, ℕ, ◌+◌, ◌<◌, length, get_or, drop, map, add-one, Bool, true, false, not, List, [], ◌∷◌, Option, Some, None, is_some, refl, sym, ap, subst, codes, nat_eq}
+use Rattle.std.proofs.Common.{arith, nat_tests, ◌≤◌, ◌≡◌, ◌∙◌, ℕ, ◌+◌, ◌<◌, length, get_or, drop, map, add-one, Bool, true, false, not, List, [], ◌∷◌, Option, Some, None, is_some, refl, sym, ap, subst, codes, nat_eq}
 use Rattle.std.specs.Str.{bytes_eq}
+use Rattle.std.specs.Char.{is_ascii_digit}
+use Rattle.std.specs.List.{list_all}
 use Rattle.std.specs.Prelude.{if◌then◌else◌, Box, IsSome, option_map, option_and_then}
 use Rattle.std.specs.Box.{box_value}
 use Rattle.std.specs.Borrow.{Bor}
@@ -12,11 +14,13 @@ use Rattle.clap.specs.declared.parser.matches.ArgMatches.TheViews.{out-ArgMatche
 use Rattle.clap.specs.declared.parser.matches.SubCommand.{SubCommand}
 use Rattle.clap.proofs.OnLiterals.{clap_on_literals}
 use Rattle.clap.proofs.WalkLemmas.{both, first_value-rows}
+use Rattle.csv_rows.specs.Fields.{decimal_from}
+use Rattle.csv_rows.proofs.Digits.{digit-byte}
 use Rattle.interlaken.specs.declared.table.Row.{Row as TableRow}
 use Rattle.interlaken.specs.declared.table.Rule.TheVariants.{File, NumberAndPrefix}
 use Rattle.interlaken.specs.Table.{Kind, shown, rows, row_in}
 use Rattle.interlaken.specs.Given.{Given}
-use Rattle.interlaken.specs.Arguments.{arguments_of, file_in, is_name}
+use Rattle.interlaken.specs.Arguments.{arguments_of, file_in, is_name, is_number, number_of_word, number_and_prefix_in}
 use Rattle.interlaken.specs.Request.{request_of, request_by}
 use Rattle.interlaken.specs.CommandLine.{before}
 use Rattle.interlaken.specs.Parser.{IsReadAs, bare_app, program_app, row_app, words_in}
@@ -57,6 +61,11 @@ module _ (x : ℕ) (xs : Text) (e : nat_eq x 45 ≡ false) where
   unfolding clap_on_literals rows
   assemble_read = record { simple = refl; taken = simp e; found = simp e }
 
+-- a number and a prefix that do not begin with a dash
+generate_read : (y : ℕ) (ys : Text) (x : ℕ) (xs : Text) → nat_eq y 45 ≡ false → nat_eq x 45 ≡ false → AreRead (codes "generate" ∷ (y ∷ ys) ∷ (x ∷ xs) ∷ [])
+unfolding clap_on_literals rows
+generate_read y ys x xs d e = record { simple = refl; taken = simp (d, e); found = simp (d, e) }
+
 is_not : (b : Bool) → not b ≡ true → b ≡ false
 is_not true e = absurd (cc)
 is_not false e = refl
@@ -77,13 +86,35 @@ file_reads word read ((x ∷ xs) ∷ []) e =
     read x xs (is_not (nat_eq x 45) (both _ _ (both _ _ named).0).1)
 file_reads word read (file ∷ more ∷ rest) e = absurd (cc)
 
+-- a number begins with a digit
+no_dash : (y : ℕ) → 48 ≤ y → nat_eq y 45 ≡ false
+no_dash y low = grind (arith, nat_tests)
+
+number_some : (number prefix : Text) → (o : Option ℕ) → number_of_word number ≡ o → is_some (number_and_prefix_in o prefix) ≡ true → (is_number number ≡ true) × (is_name 180 prefix ≡ true)
+number_some number prefix None is e = absurd (cc)
+number_some number prefix (Some n) is e = (some_where (is_number number) (decimal_from 0 number) (ap is_some is), some_where (is_name 180 prefix) _ e)
+
+number_reads : (word : Text) → ((y : ℕ) (ys : Text) (x : ℕ) (xs : Text) → nat_eq y 45 ≡ false → nat_eq x 45 ≡ false → AreRead (word ∷ (y ∷ ys) ∷ (x ∷ xs) ∷ [])) → (args : List Text) → is_some (arguments_of NumberAndPrefix args) ≡ true → AreRead (word ∷ args)
+number_reads word read [] e = absurd (cc)
+number_reads word read (number ∷ []) e = absurd (cc)
+number_reads word read ([] ∷ prefix ∷ []) e = absurd (cc)
+number_reads word read ((y ∷ ys) ∷ [] ∷ []) e = let h = number_some (y ∷ ys) [] (number_of_word (y ∷ ys)) refl e in absurd (no_prefix h.1)
+  where
+    no_prefix : is_name 180 [] ≡ true → ⊥
+    no_prefix f = cc
+number_reads word read ((y ∷ ys) ∷ (x ∷ xs) ∷ []) e =
+    let h = number_some (y ∷ ys) (x ∷ xs) (number_of_word (y ∷ ys)) refl e in
+    let digits : list_all is_ascii_digit (y ∷ ys) ≡ true = (both _ _ (both _ _ h.0).0).1 in
+    read y ys x xs (no_dash y (digit-byte 0 (y ∷ ys) (omega arith) digits).0) (is_not (nat_eq x 45) (both _ _ (both _ _ h.1).0).1)
+number_reads word read (number ∷ prefix ∷ more ∷ rest) e = absurd (cc)
+
 abbrev AllRead : List Kind → Type 0
 AllRead [] = Unit {0}
 AllRead (row ∷ more) = Reads row × AllRead more
 
 all_read : AllRead rows
 unfolding rows
-all_read = (file_reads (codes "burst") burst_read, (file_reads (codes "join") join_read, (file_reads (codes "send") send_read, (file_reads (codes "receive") receive_read, (file_reads (codes "link") link_read, (file_reads (codes "list") list_read, (file_reads (codes "assemble") assemble_read, tt)))))))
+all_read = (file_reads (codes "burst") burst_read, (file_reads (codes "join") join_read, (file_reads (codes "send") send_read, (file_reads (codes "receive") receive_read, (file_reads (codes "link") link_read, (number_reads (codes "generate") generate_read, (file_reads (codes "list") list_read, (file_reads (codes "assemble") assemble_read, tt))))))))
 
 some_mapped : {A B : Type 0} (f : A → B) (o : Option A) → is_some (option_map f o) ≡ true → is_some o ≡ true
 some_mapped f None e = e

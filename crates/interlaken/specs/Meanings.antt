@@ -8,10 +8,11 @@ use Rattle.receive_commands.specs.JoinPlan.{join_plan_meaning}
 use Rattle.receive_commands.specs.JoinWords.{join_words_meaning}
 use Rattle.receive_commands.specs.Receive.{receive_meaning}
 use Rattle.link_commands.specs.Link.{link_meaning}
+use Rattle.case_commands.specs.Generate.{generate_meaning}
 use Rattle.listing_commands.specs.Listing.{list_meaning}
 use Rattle.listing_commands.specs.Assembling.{assemble_meaning}
 use Rattle.interlaken.specs.declared.request.Request.{Request}
-use Rattle.interlaken.specs.declared.request.Request.TheVariants.{BurstCapture, BurstPlan, JoinWords, JoinPlan, SendPlan, Receive, Link, ListFile, AssembleText}
+use Rattle.interlaken.specs.declared.request.Request.TheVariants.{BurstCapture, BurstPlan, JoinWords, JoinPlan, SendPlan, Receive, Link, Generate, ListFile, AssembleText}
 
 -- one line for each command
 abbrev pub meaning_of : Request → Meaning
@@ -22,6 +23,7 @@ meaning_of (JoinPlan name) = join_plan_meaning name
 meaning_of (SendPlan name) = send_plan_meaning name
 meaning_of (Receive name) = receive_meaning name
 meaning_of (Link name) = link_meaning name
+meaning_of (Generate a) = generate_meaning a
 meaning_of (ListFile name) = list_meaning name
 meaning_of (AssembleText name) = assemble_meaning name
 

@@ -1,11 +1,12 @@
 -- What words ask for.
-use Rattle.std.specs.Prelude.{ℕ, Bool, nat_eq, List, [], ◌∷◌, Option, Some, None, option_map, option_and_then, if◌then◌else◌}
+use Rattle.std.specs.Prelude.{ℕ, ◌≤◌, length, Bool, nat_eq, List, [], ◌∷◌, Option, Some, None, option_map, option_and_then, if◌then◌else◌}
 use Rattle.std.specs.List.{ends_with}
 use lib.Chars.{codes}
+use Rattle.case_commands.specs.Asked.{asked}
 use Rattle.interlaken.specs.declared.table.Name.{Name}
 use Rattle.interlaken.specs.declared.table.Name.TheVariants as names
 use Rattle.interlaken.specs.declared.request.Request.{Request}
-use Rattle.interlaken.specs.declared.request.Request.TheVariants.{BurstCapture, BurstPlan, JoinWords, JoinPlan, SendPlan, Receive, Link, ListFile, AssembleText}
+use Rattle.interlaken.specs.declared.request.Request.TheVariants.{BurstCapture, BurstPlan, JoinWords, JoinPlan, SendPlan, Receive, Link, Generate, ListFile, AssembleText}
 use Rattle.interlaken.specs.Given.{Given}
 use Rattle.interlaken.specs.Arguments.{arguments_of}
 use Rattle.interlaken.specs.Table.{Kind, rows, row_in}
@@ -29,8 +30,20 @@ request_for names.Join a = join_of a.file
 request_for names.Send a = SendPlan a.file
 request_for names.Receive a = Receive a.file
 request_for names.Link a = Link a.file
+request_for names.Generate a = Generate (asked a.number a.file)
 request_for names.List a = ListFile a.file
 request_for names.Assemble a = AssembleText a.file
+
+-- what the arguments of a command keep by its rule: a prefix has 1 to 180 bytes
+abbrev pub IsGivenTo : Name → Given → Type 0
+IsGivenTo names.Burst a = Unit {0}
+IsGivenTo names.Join a = Unit {0}
+IsGivenTo names.Send a = Unit {0}
+IsGivenTo names.Receive a = Unit {0}
+IsGivenTo names.Link a = Unit {0}
+IsGivenTo names.List a = Unit {0}
+IsGivenTo names.Assemble a = Unit {0}
+IsGivenTo names.Generate a = (1 ≤ length a.file) × (length a.file ≤ 180)
 
 abbrev pub request_by : Kind → List (List ℕ) → Option Request
 request_by row words = option_map (request_for row.command) (arguments_of row.rule words)

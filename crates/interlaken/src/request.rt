@@ -1,11 +1,12 @@
 //! What words ask for.
 ghost use Rattle.std.specs.Prelude.{◌≡◌, map, is_some, IfOk, IfErr, IsSome, string_bytes};
-ghost use Rattle.interlaken.specs.Request.{is_plan_name, burst_of, join_of, request_for, request_by, request_of};
+ghost use Rattle.interlaken.specs.Request.{is_plan_name, burst_of, join_of, IsGivenTo, request_for, request_by, request_of};
 ghost use Rattle.interlaken.specs.CommandLine.{words_of};
 
 use crate::arguments::{Arguments, arguments_of};
 use crate::command_line::{CommandLine, line_of, read_line};
 use crate::table::{Name, row_in, rows};
+use case_commands::GenerateCase;
 use link_commands::LinkPlan;
 use listing_commands::{AssembleText, ListFile};
 use lk_base::OutOfMemory;
@@ -32,6 +33,8 @@ pub enum Request<'w> {
     Receive(Receive<'w>),
     /// A plan is sent over the lanes of its link, and received.
     Link(LinkPlan<'w>),
+    /// A case of a number is written, sent and received.
+    Generate(GenerateCase<'w>),
     /// A words file or a lane file becomes its listing.
     ListFile(ListFile<'w>),
     /// A text becomes the file of which it is the listing.
@@ -52,6 +55,7 @@ impl Command for Request<'_> {
             Request::SendPlan(send) => send.obey(alloc, store),
             Request::Receive(receive) => receive.obey(alloc, store),
             Request::Link(link) => link.obey(alloc, store),
+            Request::Generate(generate) => generate.obey(alloc, store),
             Request::ListFile(list) => list.obey(alloc, store),
             Request::AssembleText(assemble) => assemble.obey(alloc, store),
         }
@@ -89,6 +93,7 @@ fn join_of<'w>(file: &'w str) -> Request<'w>
 
 // A command with its arguments.
 fn request_for<'w>(command: Name, arguments: &Arguments<'w>) -> Request<'w>
+    requires { IsGivenTo command arguments.now }
     ensures { result ≡ request_for command arguments.now }
 {
     match command {
@@ -97,6 +102,7 @@ fn request_for<'w>(command: Name, arguments: &Arguments<'w>) -> Request<'w>
         Name::Send => Request::SendPlan(SendPlan::make(arguments.file)),
         Name::Receive => Request::Receive(Receive::make(arguments.file)),
         Name::Link => Request::Link(LinkPlan::make(arguments.file)),
+        Name::Generate => Request::Generate(GenerateCase::make(arguments.number, arguments.file)),
         Name::List => Request::ListFile(ListFile::make(arguments.file)),
         Name::Assemble => Request::AssembleText(AssembleText::make(arguments.file)),
     }

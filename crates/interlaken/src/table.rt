@@ -24,6 +24,8 @@ pub enum Name {
     Receive,
     /// A plan is sent over the lanes of its link, and received.
     Link,
+    /// A case of a number is written, sent and received.
+    Generate,
     /// A words file or a lane file becomes its listing.
     List,
     /// A text becomes the file of which it is the listing.
@@ -67,6 +69,11 @@ static ROWS: &[Row] = &[
         word: "link",
         command: Name::Link,
         rule: Rule::File,
+    },
+    Row {
+        word: "generate",
+        command: Name::Generate,
+        rule: Rule::NumberAndPrefix,
     },
     Row {
         word: "list",

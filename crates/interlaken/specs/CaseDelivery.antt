@@ -1,0 +1,45 @@
+-- The delivery theorem, of a run of `generate`.
+use Rattle.std.specs.Prelude.{◌≡◌, ℕ, List, Option, Some}
+use Rattle.lk_base.specs.declared.word.Word.{Word}
+use Rattle.lane_model.specs.Damage.{IsWithinDepth}
+use Rattle.link_laws.specs.Accidents.{no_accidents}
+use Rattle.lk_outside.specs.Files.{Files, Told}
+use Rattle.run_shell.specs.declared.status.Status.{Status}
+use Rattle.run_shell.specs.Outcome.{Outcome, IsAnswer, Holds}
+use Rattle.stream_commands.specs.Off.{NoBurstWhenOff}
+use Rattle.link_commands.specs.Linked.{IsLinkedBy}
+use Rattle.link_commands.specs.Delivery.{AllUndamaged, DeliversAll, DeliversUnmet}
+use Rattle.case_commands.specs.Asked.{Asked}
+use Rattle.case_commands.specs.Generate.{reading_for, behind_case}
+use Rattle.interlaken.specs.declared.request.Request.TheVariants.{Generate}
+use Rattle.interlaken.specs.Request.{request_of}
+use Rattle.interlaken.specs.Run.{OutcomeOf}
+
+-- the outcome that was answered, whose files stand: those of the case, and behind them those of its link; and the stream that was sent
+pub record IsCaseRun (words : List (List ℕ)) (files : Files) (a : Asked) (its_status : Status) (old new : Option Files) : Type 0 where
+  pub outcome : Outcome
+  pub is_outcome : OutcomeOf words files outcome
+  pub status : its_status ≡ outcome.status
+  pub stands : Told old new (Holds outcome.files)
+  pub linked : Outcome
+  pub behind : outcome ≡ behind_case a linked
+  pub stream : List Word
+  pub is_linked : IsLinkedBy (reading_for a) stream linked
+
+-- what is said of a run of `generate` that came to an answer
+abbrev pub OfCases : ((a : Asked) → (stream : List Word) → (o : Outcome) → IsLinkedBy (reading_for a) stream o → Type 0) → List (List ℕ) → Files → Status → Option Files → Option Files → Type 0
+OfCases Says words files status old new = (a : Asked) → request_of words ≡ Some (Generate a) → IsAnswer status →
+    (run : IsCaseRun words files a status old new) × Says a run.stream run.linked run.is_linked
+
+-- Where no accident was counted, the file of each channel is exactly the capture of the sent packets, in order, whose word
+-- positions meet no fault span that the received lane bits show.
+abbrev pub CasesDeliver : List (List ℕ) → Files → Status → Option Files → Option Files → Type 0
+CasesDeliver = OfCases (λ a stream o h. h.counts ≡ no_accidents → DeliversUnmet (reading_for a) stream o h)
+
+-- With no bit damaged and the skews within the deskew depth, no accident was counted and no span meets a packet.
+abbrev pub CasesDeliverClean : List (List ℕ) → Files → Status → Option Files → Option Files → Type 0
+CasesDeliverClean = OfCases (λ a stream o h. AllUndamaged (reading_for a).reading.plan.settings (reading_for a).schedule stream → IsWithinDepth (reading_for a).reading.plan.settings (reading_for a).schedule.skews → DeliversAll (reading_for a) stream o h)
+
+-- No burst starts on a channel whose last valid calendar entry is off.
+abbrev pub CasesWhenOn : List (List ℕ) → Files → Status → Option Files → Option Files → Type 0
+CasesWhenOn = OfCases (λ a stream o h. NoBurstWhenOff (reading_for a).reading.plan.entries (reading_for a).reading.inputs.flow stream)
