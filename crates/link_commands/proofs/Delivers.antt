@@ -57,7 +57,7 @@ use Rattle.link_commands.specs.Linked.{IsLinkedBy, sent_over}
 
 -- ---- the plan that is read, and its packets
 
-read_plan : (files : Files) (name : List ℕ) (i : LinkReading) → linked_in files name ≡ Ok i → planned_in files name ≡ Ok i.reading
+pub read_plan : (files : Files) (name : List ℕ) (i : LinkReading) → linked_in files name ≡ Ok i → planned_in files name ≡ Ok i.reading
 unfolding linked_in
 read_plan files name i e =
     let (reading, had, next) = behind_ok (planned_in files name) (with_schedule files) i e in
@@ -65,7 +65,7 @@ read_plan files name i e =
     let one : record { reading = reading; schedule = schedule } ≡ i = cc in
     subst (λ (j : LinkReading). planned_in files name ≡ Ok j.reading) one had
 
-each_packet : (files : Files) (name : List ℕ) (i : LinkReading) (stream : List Word) (o : Outcome) → AreBytes files → linked_in files name ≡ Ok i → (h : IsLinkedBy i stream o) → EachIsPacket h.setting.max_packet h.source
+pub each_packet : (files : Files) (name : List ℕ) (i : LinkReading) (stream : List Word) (o : Outcome) → AreBytes files → linked_in files name ≡ Ok i → (h : IsLinkedBy i stream o) → EachIsPacket h.setting.max_packet h.source
 each_packet files name i stream o are e h =
     let (had, read) = planned_parts files name i.reading (read_plan files name i e) in
     let fit : AreFit i.reading.plan.settings.max_packet i.reading.inputs.packets = inputs_packets files i.reading.plan i.reading.inputs are read in
@@ -121,7 +121,7 @@ module _ (link_type : ℕ) (prefix : List ℕ) (given : List Event) where
 
 -- ---- where no accident was counted
 
-listed_among : (cs : List ℕ) (channel : ℕ) → Contains cs channel → is_some (find (λ c. c == channel) cs) ≡ true
+pub listed_among : (cs : List ℕ) (channel : ℕ) → Contains cs channel → is_some (find (λ c. c == channel) cs) ≡ true
 listed_among [] channel (k, lt, e) = absurd (omega arith)
 listed_among (c ∷ cs) channel (zero, lt, e) = rw (eq-eqb c channel e) refl
 listed_among (c ∷ cs) channel (suc k, lt, e) = split (c == channel)
@@ -132,22 +132,26 @@ among_narrow : (cs : List ℕ) (channel : ℕ) → All (λ n. n ≤ 255) cs → 
 among_narrow cs channel all (k, lt, e) = subst (λ n. n ≤ 255) e (all k channel lt)
 
 module _ (i : LinkReading) (stream : List Word) (o : Outcome) (h : IsLinkedBy i stream o) where
-  what_comes : AreReceived i.reading.plan.settings (map bits_of_bytes h.lanes) h.are_events.epochs
+  pub what_comes : AreReceived i.reading.plan.settings (map bits_of_bytes h.lanes) h.are_events.epochs
   what_comes = record { lanes = h.are_events.received; bits = h.are_events.bits; are = h.are_events.are }
 
   narrow : All (λ n. n ≤ 255) h.setting.channels
   narrow = subst (λ cs. All (λ n. n ≤ 255) cs) (sym h.is_setting.channels) (narrow_in_order (numbers_in i.reading.plan))
 
-  table_there : content_of o.files (spans_name i.reading.plan.out) ≡ Some (span_table (spans (items_of h.are_events.epochs)))
+  pub shown_there : shown_spans h.events ≡ spans (items_of h.are_events.epochs)
+  shown_there =
+      let plan = i.reading.plan in
+      let rise = places_rise plan.settings plan.settings.deskew h.are_events.received h.are_events.epochs h.link.deskew_below_half h.are_events.are in
+      ap shown_spans h.are_events.shown ∙ spans_are_shown h.setting h.are_events.epochs rise
+
+  pub table_there : content_of o.files (spans_name i.reading.plan.out) ≡ Some (span_table (spans (items_of h.are_events.epochs)))
   table_there =
       let plan = i.reading.plan in
       let q : List ℕ = spans_name plan.out in
-      let rise = places_rise plan.settings plan.settings.deskew h.are_events.received h.are_events.epochs h.link.deskew_below_half h.are_events.are in
-      let shown : shown_spans h.events ≡ spans (items_of h.are_events.epochs) = ap shown_spans h.are_events.shown ∙ spans_are_shown h.setting h.are_events.epochs rise in
       ap (λ fs. content_of fs q) h.files
       ∙ behind_outs (names_of_lanes plan) h.lanes (received_files h.setting plan.link_type plan.out h.events) q (λ among. apart plan.out [] plan.settings.lanes h.link.lanes.1 q among (0, omega arith, refl))
       ∙ found_table plan.link_type plan.out h.events h.setting.channels (span_table (shown_spans h.events)) narrow
-      ∙ ap (λ ss. Some (span_table ss)) shown
+      ∙ ap (λ ss. Some (span_table ss)) shown_there
 
   capture_there : (channel : ℕ) → Contains h.setting.channels channel → content_of o.files (capture_name i.reading.plan.out channel) ≡ Some (capture_bytes i.reading.plan.link_type (packets_on channel h.events))
   capture_there channel has =
@@ -223,7 +227,7 @@ module _ (i : LinkReading) (stream : List Word) (o : Outcome) (h : IsLinkedBy i 
       subst (λ skews. AreUndamaged (sent_over i stream) 0 skews (map bits_of_bytes h.lanes)) (skews_are i.schedule s.lanes h.are_counts.skewed)
       (files_are_undamaged (sent_over i stream) (damages_from i.schedule 0 s.lanes) h.lanes lane_files)
 
-  is_clean : AllUndamaged i.reading.plan.settings i.schedule stream → IsWithinDepth i.reading.plan.settings i.schedule.skews → IsClean h.source (sent_over i stream) (map bits_of_bytes h.lanes)
+  pub is_clean : AllUndamaged i.reading.plan.settings i.schedule stream → IsWithinDepth i.reading.plan.settings i.schedule.skews → IsClean h.source (sent_over i stream) (map bits_of_bytes h.lanes)
   is_clean all within = record {
     link = h.link;
     stream = h.is_stream;

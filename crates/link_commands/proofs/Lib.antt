@@ -4,3 +4,12 @@ pub mod LinkWork
 pub mod LinkReadings
 pub mod Writing
 pub mod Delivers
+pub mod Narrow
+pub mod CleanRuns
+pub mod PremisesHold
+pub mod Missed
+pub mod FewSent
+pub mod OnChannels
+pub mod WorkedPlans
+pub mod MissingText
+pub mod DamagedHolds

@@ -1,7 +1,6 @@
 -- What is carried over a link is what it comes to.
-use Rattle.std.proofs.Common.{◌≡◌, ◌⊎◌, inl, inr, ◌↔◌, ◌<◌, ◌^◌, ℕ, All, false, List, [], ◌∷◌, ◌++◌, length, map, refl, sym, ap, ◌∙◌, subst, arith, append_assoc, append-nil, Option, Some, None, Result, Ok, Err, Contains, Vec, Global}
+use Rattle.std.proofs.Common.{◌≡◌, inl, inr, ◌↔◌, ◌<◌, ◌^◌, ℕ, All, false, List, [], ◌∷◌, ◌++◌, length, map, refl, sym, ap, ◌∙◌, subst, arith, append_assoc, append-nil, Option, Some, None, Result, Err, Contains, Vec, Global}
 use Rattle.std.specs.Prelude.{is_some}
-use Rattle.std.proofs.lemmas.List.{length-map}
 use Rattle.std.proofs.lemmas.List.Elements.{All-map}
 use Rattle.lk_base.specs.Checksum.{bits_of_bytes}
 use Rattle.lk_base.specs.Link.{Settings}
@@ -12,7 +11,6 @@ use Rattle.stream_model.specs.BurstStream.{Source, IsBurstStream, IsHeld}
 use Rattle.stream_model.proofs.OneStream.{one_stream}
 use Rattle.receiver_model.specs.Given.{AreEvents}
 use Rattle.link_laws.specs.Accidents.{Accidents, AreAccidents}
-use Rattle.link_plan.specs.Plan.{PlanValue}
 use Rattle.receive_model.specs.Events.{Event, Setting}
 use Rattle.run_shell.specs.declared.stop.Stop.{Stop}
 use Rattle.run_shell.specs.declared.stop.Finished.{Finished}
@@ -28,10 +26,10 @@ use Rattle.stream_commands.specs.Stream.{stream_text}
 use Rattle.stream_commands.specs.Text.{held_text}
 use Rattle.stream_commands.proofs.Counted.{status_by}
 use Rattle.receive_commands.specs.declared.receipt.Receipt.{Receipt}
-use Rattle.receive_commands.specs.JoinPlan.{IsSettingOf, plan_names}
-use Rattle.receive_commands.specs.Receipts.{Beginning, IsReceipt, IsStopped, closed_outcome, given_of, names_of}
+use Rattle.receive_commands.specs.JoinPlan.{IsSettingOf}
+use Rattle.receive_commands.specs.Receipts.{Beginning, IsStopped, closed_outcome, given_of, names_of}
 use Rattle.receive_commands.specs.Received.{output_names, received_files, received_text}
-use Rattle.receive_commands.specs.Receive.{AreLaneReports, lane_lines, names_of_lanes}
+use Rattle.receive_commands.specs.Receive.{lane_lines, names_of_lanes}
 use Rattle.receive_commands.specs.Held.{HeldCame, HeldStopped, held_beginning, vec_bytes}
 use Rattle.receive_commands.proofs.Firsts.{names_made}
 use Rattle.receive_commands.proofs.Joins.{plan_setting}
@@ -40,7 +38,7 @@ use Rattle.link_commands.specs.declared.carried.Carried.{Carried}
 use Rattle.link_commands.specs.Carrying.{IsCarried, counts_value}
 use Rattle.link_commands.specs.Inputs.{LinkReading}
 use Rattle.link_commands.specs.Link.{link_names}
-use Rattle.link_commands.specs.Linked.{AreReceivedFiles, IsEndedBy, IsLinked, IsLinkedBy, count_line, link_text}
+use Rattle.link_commands.specs.Linked.{AreReceivedFiles, IsEndedBy, IsLinked, IsLinkedBy, count_line, link_text, missing_among, missing_lines, sent_over}
 use Rattle.link_commands.proofs.OneLink.{one_linked}
 use Rattle.link_commands.proofs.ReceivedLanes.{one_received}
 
@@ -70,8 +68,8 @@ pub ends_by : (source : Source) (w : List Word) (held : Option ℕ) (lines text 
 ends_by source w None lines text on free e = inr (free.0 refl, e ∙ append-nil lines)
 ends_by source w (Some channel) lines text on free e = inl (channel, (on channel).0 refl, e)
 
-all_lines : (a b c d : List ℕ) → ((a ++ b) ++ c) ++ d ≡ a ++ (b ++ (c ++ d))
-all_lines a b c d = append_assoc (a ++ b) c d ∙ append_assoc a b (c ++ d)
+all_lines : (a b c d e : List ℕ) → (((a ++ b) ++ c) ++ d) ++ e ≡ a ++ (b ++ (c ++ (d ++ e)))
+all_lines a b c d e = append_assoc ((a ++ b) ++ c) d e ∙ append_assoc (a ++ b) c (d ++ e) ∙ append_assoc a b (c ++ (d ++ e))
 
 -- ---- what it comes to
 
@@ -82,9 +80,13 @@ module _ (i : LinkReading) (c : Carried) (is : IsCarried i c) (was : Option File
   abbrev b : Beginning
   b = held_beginning i.reading.plan setting lanes was
 
-  -- the text behind the lines of the lanes' reports
+  -- the lines of the packets that did not come
+  abbrev pub missing_of_link : List Event → List ℕ
+  missing_of_link events = missing_lines c.sent.items (missing_among (sent_over i is.stream) events c.sent.items)
+
+  -- the text, told the lines of the lanes' reports
   abbrev pub text_of : List ℕ → List Event → List ℕ
-  text_of reports events = (((c.lines.items ++ reports) ++ received_text setting events) ++ count_line (counts_value c.counts)) ++ held_text c.held
+  text_of reports events = ((((c.lines.items ++ reports) ++ received_text setting events) ++ count_line (counts_value c.counts)) ++ missing_of_link events) ++ held_text c.held
 
   names_are : names_of b ≡ link_names i.reading.plan
   names_are =
@@ -137,13 +139,15 @@ module _ (i : LinkReading) (c : Carried) (is : IsCarried i c) (was : Option File
       are_reports = came.are_reports;
       counts = counts_value c.counts;
       are_counts = is.counts;
+      sent = c.sent.items;
+      are_sent = is.sent;
       status = status_by is.source is.stream c.held is.held is.free;
       files = refl;
-      text = ends_by is.source is.stream c.held (link_text is.source is.stream came.reports setting came.events (counts_value c.counts)) (text_of lines came.events) is.held is.free
+      text = ends_by is.source is.stream c.held (link_text is.source is.stream came.reports setting came.events (counts_value c.counts) (missing_of_link came.events)) (text_of lines came.events) is.held is.free
           (ap (λ (ls : List ℕ). ls ++ held_text c.held)
-          (ap (λ (ls : List ℕ). ((c.lines.items ++ ls) ++ received_text setting came.events) ++ count_line (counts_value c.counts)) came.lines
-          ∙ ap (λ (ls : List ℕ). ((ls ++ lane_lines 0 came.reports) ++ received_text setting came.events) ++ count_line (counts_value c.counts)) is.lines
-          ∙ all_lines (stream_text is.source is.stream) (lane_lines 0 came.reports) (received_text setting came.events) (count_line (counts_value c.counts))));
+          (ap (λ (ls : List ℕ). (((c.lines.items ++ ls) ++ received_text setting came.events) ++ count_line (counts_value c.counts)) ++ missing_of_link came.events) came.lines
+          ∙ ap (λ (ls : List ℕ). (((ls ++ lane_lines 0 came.reports) ++ received_text setting came.events) ++ count_line (counts_value c.counts)) ++ missing_of_link came.events) is.lines
+          ∙ all_lines (stream_text is.source is.stream) (lane_lines 0 came.reports) (received_text setting came.events) (count_line (counts_value c.counts)) (missing_of_link came.events)));
     }
 
     -- it was written, or stopped

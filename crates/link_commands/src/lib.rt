@@ -8,6 +8,6 @@ mod link;
 mod reading;
 mod text;
 
-pub use law::delivery_theorem;
+pub use law::{delivery_theorem, premises_are_met};
 pub use link::LinkPlan;
 pub use reading::{LinkReading, read_link};
