@@ -29,7 +29,7 @@ KINDS = {
     "resend": ["resend"],
 }
 # The stages that bring these commands with all that they print, and these keys of plans.
-STAGES = {"burst": 4, "send": 5, "receive": 7, "link": 9}
+STAGES = {"burst": 4, "send": 5, "receive": 7, "link": 14}
 KEYS = {"schedule": 8, "wide": 15, "burst_min": 16, "oob": 18, "events": 19}
 # Listings came last, and know no plans.
 LISTINGS = 20

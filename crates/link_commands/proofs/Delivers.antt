@@ -142,16 +142,20 @@ module _ (i : LinkReading) (stream : List Word) (o : Outcome) (h : IsLinkedBy i 
   narrow : All (λ n. n ≤ 255) h.setting.channels
   narrow = subst (λ cs. All (λ n. n ≤ 255) cs) (sym h.is_setting.channels) (narrow_in_order (numbers_in i.reading.plan))
 
-  table_there : content_of o.files (spans_name i.reading.plan.out) ≡ Some (span_table (spans (items_of h.are_events.epochs)))
+  pub shown_there : shown_spans h.events ≡ spans (items_of h.are_events.epochs)
+  shown_there =
+      let plan = i.reading.plan in
+      let rise = places_rise plan.settings plan.settings.deskew h.are_events.received h.are_events.epochs h.link.deskew_below_half h.are_events.are in
+      ap shown_spans h.are_events.shown ∙ spans_are_shown h.setting h.are_events.epochs rise
+
+  pub table_there : content_of o.files (spans_name i.reading.plan.out) ≡ Some (span_table (spans (items_of h.are_events.epochs)))
   table_there =
       let plan = i.reading.plan in
       let q : List ℕ = spans_name plan.out in
-      let rise = places_rise plan.settings plan.settings.deskew h.are_events.received h.are_events.epochs h.link.deskew_below_half h.are_events.are in
-      let shown : shown_spans h.events ≡ spans (items_of h.are_events.epochs) = ap shown_spans h.are_events.shown ∙ spans_are_shown h.setting h.are_events.epochs rise in
       ap (λ fs. content_of fs q) h.files
       ∙ behind_outs (names_of_lanes plan) h.lanes (received_files h.setting plan.link_type plan.out h.events) q (λ among. apart plan.out [] plan.settings.lanes h.link.lanes.1 q among (0, omega arith, refl))
       ∙ found_table plan.link_type plan.out h.events h.setting.channels (span_table (shown_spans h.events)) narrow
-      ∙ ap (λ ss. Some (span_table ss)) shown
+      ∙ ap (λ ss. Some (span_table ss)) shown_there
 
   capture_there : (channel : ℕ) → Contains h.setting.channels channel → content_of o.files (capture_name i.reading.plan.out channel) ≡ Some (capture_bytes i.reading.plan.link_type (packets_on channel h.events))
   capture_there channel has =
@@ -231,7 +235,7 @@ module _ (i : LinkReading) (stream : List Word) (o : Outcome) (h : IsLinkedBy i 
       subst (λ skews. AreUndamaged (sent_over i stream) 0 skews (map bits_of_bytes h.lanes)) (skews_are i.schedule s.lanes h.are_counts.skewed)
       (files_are_undamaged (sent_over i stream) (damages_from i.schedule 0 s.lanes) h.lanes lane_files)
 
-  is_clean : AllUndamaged i.reading.plan.settings i.schedule stream → IsWithinDepth i.reading.plan.settings i.schedule.skews → IsClean h.source (sent_over i stream) (map bits_of_bytes h.lanes)
+  pub is_clean : AllUndamaged i.reading.plan.settings i.schedule stream → IsWithinDepth i.reading.plan.settings i.schedule.skews → IsClean h.source (sent_over i stream) (map bits_of_bytes h.lanes)
   is_clean all within = record {
     link = h.link;
     stream = h.is_stream;

@@ -1,19 +1,17 @@
 -- `link` is lawful.
-use Rattle.std.proofs.Common.{◌≡◌, ◌⊎◌, inl, inr, ℕ, ◌<◌, ◌%◌, List, ◌++◌, length, map, replicate, refl, sym, ap, ◌∙◌, subst, arith, Option, Some, None, Result, Ok, Err}
-use Rattle.std.specs.List.{range_with_len}
+use Rattle.std.proofs.Common.{◌≡◌, ◌⊎◌, inl, inr, ℕ, ◌%◌, List, ◌++◌, length, map, refl, ap, ◌∙◌, subst, arith, Option, Some, None, Result, Ok, Err}
 use Rattle.std.proofs.lemmas.List.{length-map, length-replicate}
 use Rattle.std.proofs.lemmas.List.FromFn.{length-map-range_with_len}
 use Rattle.lk_base.specs.Checksum.{bits_of_bytes}
 use Rattle.lk_base.specs.Limits.{rows_limit}
 use Rattle.lk_base.specs.Link.{Settings, IsLink, group_of}
 use Rattle.lk_base.specs.declared.word.Word.{Word}
-use Rattle.lk_outside.specs.Files.{Files, AreBytes}
+use Rattle.lk_outside.specs.Files.{Files}
 use Rattle.stream_model.specs.BurstStream.{Source, IsBurstStream, IsHeld}
 use Rattle.stream_model.proofs.OneStream.{one_stream}
 use Rattle.stream_model.proofs.SomeStream.{held_channel}
-use Rattle.receive_model.specs.Events.{Event, Setting}
 use Rattle.receiver_model.proofs.KnownEvents.{events_exist}
-use Rattle.csv_rows.specs.Rows.{Row, rows_of}
+use Rattle.csv_rows.specs.Rows.{rows_of}
 use Rattle.link_plan.specs.Plan.{PlanValue}
 use Rattle.link_plan.specs.Schedules.{ScheduleValue, schedule_by, schedule_from, schedule_of, skew_of}
 use Rattle.link_plan.specs.declared.error.PlanError.{PlanError}
@@ -25,10 +23,10 @@ use Rattle.run_shell.specs.declared.status.Status.TheVariants.{Done, Held}
 use Rattle.run_shell.specs.Meaning.{IsMeaning}
 use Rattle.run_shell.specs.Outcome.{Outcome}
 use Rattle.run_shell.specs.Outputs.{outs}
-use Rattle.run_shell.specs.Reading.{IsWork, Refusal, behind, bytes_in}
+use Rattle.run_shell.specs.Reading.{IsWork, bytes_in}
 use Rattle.run_shell.proofs.Readings.{behind_ok}
 use Rattle.run_shell.proofs.Works.{is_meaning}
-use Rattle.plan_inputs.specs.Inputs.{Reading, planned_in, plan_in, quiet, rows_by, rows_in, schedule_in}
+use Rattle.plan_inputs.specs.Inputs.{planned_in, quiet, rows_by, rows_in, schedule_in}
 use Rattle.plan_inputs.specs.Sources.{IsSourceOf}
 use Rattle.plan_inputs.proofs.PlanStream.{planned_parts, planned_stream}
 use Rattle.plan_inputs.proofs.SameSource.{same_source}
@@ -43,8 +41,7 @@ use Rattle.receive_commands.specs.Received.{received_files}
 use Rattle.receive_commands.proofs.Receives.{is_the_setting, some_reports, the_setting}
 use Rattle.link_commands.specs.Inputs.{LinkReading, linked_in, with_schedule}
 use Rattle.link_commands.specs.Link.{link_meaning, link_work}
-use Rattle.link_commands.specs.Linked.{IsEndedBy, IsLinked, IsLinkedBy, link_text, sent_over}
-use Rattle.link_commands.specs.Missing.{missing_in, missing_lines}
+use Rattle.link_commands.specs.Linked.{IsEndedBy, IsLinked, IsLinkedBy, link_text, missing_among, missing_lines, sent_over}
 use Rattle.link_commands.proofs.OneLink.{one_linked}
 use Rattle.link_commands.proofs.ReceivedLanes.{some_received}
 
@@ -99,9 +96,9 @@ module _ (i : LinkReading) (link : IsLink i.reading.plan.settings) (skews : leng
       let count : length (map bits_of_bytes lanes) ≡ s.lanes = length-map lanes bits_of_bytes ∙ many in
       let whole : length w % group_of s ≡ 0 = whole_by (form.Lanes s) source w is.shape.group stream in
       let (counts, are_counts) = accidents_are_there (sent_over i w) (map bits_of_bytes lanes) (omega (arith, long)) (omega (arith, low)) skews count whole in
-      let files = outs (names_of_lanes i.reading.plan) lanes ++ received_files setting i.reading.plan.link_type i.reading.plan.out events in
       let (sent, are_sent) = some_list w in
-      let lines = link_text source w reports setting events counts (missing_lines sent (missing_in (sent_over i w) events sent)) in
+      let files = outs (names_of_lanes i.reading.plan) lanes ++ received_files setting i.reading.plan.link_type i.reading.plan.out events in
+      let lines = link_text source w reports setting events counts (missing_lines sent (missing_among (sent_over i w) events sent)) in
       let made : (o : Outcome) → IsStatusOf source w o.status → o.files ≡ files → IsEndedBy source w lines o.text → IsLinkedBy i w o = λ o status same text. record {
         link = link;
         source = source;
@@ -149,8 +146,8 @@ status_of i o (w, h) = by h.status
           a.1 (subst (λ x. IsHeld h.source x) (one_stream h.source v w there h.is_stream) held),
     )
 
-work : (name : List ℕ) → IsWork (link_work name)
-work name = record {
+pub lawful_link : (name : List ℕ) → IsWork (link_work name)
+lawful_link name = record {
   one_made = one_linked;
   some_made = λ files bytes i is.
       let (planned, scheduled) = linked_parts files name i is in
@@ -160,4 +157,4 @@ work name = record {
 }
 
 pub link_means : (name : List ℕ) → IsMeaning (link_meaning name)
-link_means name = is_meaning (link_work name) (work name)
+link_means name = is_meaning (link_work name) (lawful_link name)

@@ -1,8 +1,7 @@
 -- What a plan comes to on a link is one outcome, and there is one.
-use Rattle.std.proofs.Common.{◌≡◌, ◌⊎◌, inl, inr, ℕ, zero, suc, ◌<◌, ◌*◌, ◌%◌, List, [], ◌∷◌, ◌++◌, length, map, take, Contains, refl, sym, ap, ◌∙◌, subst, arith, Option, Some, None, Result, Ok, Err}
-use Rattle.std.proofs.lemmas.List.{length-map}
+use Rattle.std.proofs.Common.{◌≡◌, inl, inr, ℕ, List, ◌++◌, map, take, Contains, sym, ap, ◌∙◌, subst}
 use Rattle.lk_base.specs.Checksum.{bits_of_bytes}
-use Rattle.lk_base.specs.Link.{Settings, IsLink}
+use Rattle.lk_base.specs.Link.{Settings}
 use Rattle.lk_base.specs.declared.word.Word.{Word}
 use Rattle.lk_base.specs.Least.{IsLeast}
 use Rattle.lk_base.proofs.LeastLemmas.{one_least}
@@ -15,13 +14,12 @@ use Rattle.receiver_model.proofs.KnownEvents.{events_are_determined}
 use Rattle.link_laws.specs.Accidents.{Accidents, AreAccidents}
 use Rattle.link_laws.proofs.Determined.{accidents_determined}
 use Rattle.link_reports.specs.Lines.{held_line}
-use Rattle.tx_end.specs.declared.sent.Sent.{Sent}
 use Rattle.tx_end.specs.Sources.{IsHeldOn}
+use Rattle.tx_end.specs.declared.sent.Sent.{Sent as SentPacket}
 use Rattle.tx_end.proofs.ListedSent.{one_list}
 use Rattle.run_shell.specs.declared.status.Status.{Status}
 use Rattle.run_shell.specs.Outcome.{Output, Outcome}
 use Rattle.run_shell.specs.Outputs.{outs}
-use Rattle.plan_inputs.specs.Sources.{IsSourceOf}
 use Rattle.plan_inputs.proofs.SameSource.{same_source}
 use Rattle.stream_commands.specs.Stream.{IsStatusOf}
 use Rattle.stream_commands.proofs.OneOutcome.{on_is_held}
@@ -30,8 +28,7 @@ use Rattle.receive_commands.specs.Received.{received_files}
 use Rattle.receive_commands.proofs.Joins.{plan_setting}
 use Rattle.receive_commands.proofs.Receives.{same_reports}
 use Rattle.link_commands.specs.Inputs.{LinkReading}
-use Rattle.link_commands.specs.Linked.{AreReceivedFiles, IsEndedBy, IsLinked, IsLinkedBy, link_text, sent_over}
-use Rattle.link_commands.specs.Missing.{missing_in, missing_lines}
+use Rattle.link_commands.specs.Linked.{IsEndedBy, IsLinked, IsLinkedBy, link_text, missing_among, missing_lines, sent_over}
 use Rattle.link_commands.proofs.ReceivedLanes.{one_received}
 
 module _ (source : Source) (w : List Word) where
@@ -87,20 +84,16 @@ module _ (i : LinkReading) (w : List Word) (o p : Outcome) (h : IsLinkedBy i w o
   sent_are : h.sent ≡ k.sent
   sent_are = one_list w h.sent k.sent h.are_sent k.are_sent
 
-  -- the lines of the missing packets
-  abbrev told : List Event → List Sent → List ℕ
-  told events sent = missing_lines sent (missing_in (sent_over i w) events sent)
+  abbrev missing_by : List Event → List SentPacket → List ℕ
+  missing_by events sent = missing_lines sent (missing_among (sent_over i w) events sent)
 
-  told_are : told h.events h.sent ≡ told k.events k.sent
-  told_are = ap (λ (x : List Event). told x h.sent) events_are ∙ ap (told k.events) sent_are
-
-  lines_are : link_text h.source w h.reports h.setting h.events h.counts (told h.events h.sent) ≡ link_text h.source w k.reports k.setting k.events k.counts (told k.events k.sent)
+  lines_are : link_text h.source w h.reports h.setting h.events h.counts (missing_by h.events h.sent) ≡ link_text h.source w k.reports k.setting k.events k.counts (missing_by k.events k.sent)
   lines_are =
-      ap (λ (x : List LaneReport). link_text h.source w x h.setting h.events h.counts (told h.events h.sent)) reports_are
-      ∙ ap (λ (x : Setting). link_text h.source w k.reports x h.events h.counts (told h.events h.sent)) setting_is
-      ∙ ap (λ (x : List Event). link_text h.source w k.reports k.setting x h.counts (told h.events h.sent)) events_are
-      ∙ ap (λ (x : Accidents). link_text h.source w k.reports k.setting k.events x (told h.events h.sent)) counts_are
-      ∙ ap (link_text h.source w k.reports k.setting k.events k.counts) told_are
+      ap (λ (x : List LaneReport). link_text h.source w x h.setting h.events h.counts (missing_by h.events h.sent)) reports_are
+      ∙ ap (λ (x : Setting). link_text h.source w k.reports x h.events h.counts (missing_by h.events h.sent)) setting_is
+      ∙ ap (λ (x : List Event). link_text h.source w k.reports k.setting x h.counts (missing_by x h.sent)) events_are
+      ∙ ap (λ (x : Accidents). link_text h.source w k.reports k.setting k.events x (missing_by k.events h.sent)) counts_are
+      ∙ ap (λ (x : List SentPacket). link_text h.source w k.reports k.setting k.events k.counts (missing_by k.events x)) sent_are
 
   one_by : o ≡ p
   one_by =
@@ -110,9 +103,9 @@ module _ (i : LinkReading) (w : List Word) (o p : Outcome) (h : IsLinkedBy i w o
       ∙ ap (λ (x : Setting). outs (names_of_lanes i.reading.plan) k.lanes ++ received_files x i.reading.plan.link_type i.reading.plan.out h.events) setting_is
       ∙ ap (λ (x : List Event). outs (names_of_lanes i.reading.plan) k.lanes ++ received_files k.setting i.reading.plan.link_type i.reading.plan.out x) events_are
       ∙ sym k.files)
-      (one_text h.source w (one_held_on h.source w) (link_text h.source w k.reports k.setting k.events k.counts (told k.events k.sent)) o.text p.text
+      (one_text h.source w (one_held_on h.source w) (link_text h.source w k.reports k.setting k.events k.counts (missing_by k.events k.sent)) o.text p.text
       (subst (λ (ls : List ℕ). IsEndedBy h.source w ls o.text) lines_are h.text)
-      (subst (λ (x : Source). IsEndedBy x w (link_text x w k.reports k.setting k.events k.counts (told k.events k.sent)) p.text) source_is k.text))
+      (subst (λ (x : Source). IsEndedBy x w (link_text x w k.reports k.setting k.events k.counts (missing_by k.events k.sent)) p.text) source_is k.text))
 
 pub one_linked : (i : LinkReading) (o p : Outcome) → IsLinked i o → IsLinked i p → o ≡ p
 one_linked i o p (w, h) (v, k) =

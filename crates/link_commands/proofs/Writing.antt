@@ -1,7 +1,6 @@
 -- What is carried over a link is what it comes to.
-use Rattle.std.proofs.Common.{◌≡◌, ◌⊎◌, inl, inr, ◌↔◌, ◌<◌, ◌^◌, ℕ, All, false, List, [], ◌∷◌, ◌++◌, length, map, refl, sym, ap, ap₂, ◌∙◌, subst, arith, append_assoc, append-nil, Option, Some, None, Result, Ok, Err, Contains, Vec, Global}
+use Rattle.std.proofs.Common.{◌≡◌, inl, inr, ◌↔◌, ◌<◌, ◌^◌, ℕ, All, false, List, [], ◌∷◌, ◌++◌, length, map, refl, sym, ap, ◌∙◌, subst, arith, append_assoc, append-nil, Option, Some, None, Result, Err, Contains, Vec, Global}
 use Rattle.std.specs.Prelude.{is_some}
-use Rattle.std.proofs.lemmas.List.{length-map}
 use Rattle.std.proofs.lemmas.List.Elements.{All-map}
 use Rattle.lk_base.specs.Checksum.{bits_of_bytes}
 use Rattle.lk_base.specs.Link.{Settings}
@@ -11,11 +10,7 @@ use Rattle.std.proofs.lemmas.List.FromFn.{length-map-range_with_len}
 use Rattle.stream_model.specs.BurstStream.{Source, IsBurstStream, IsHeld}
 use Rattle.stream_model.proofs.OneStream.{one_stream}
 use Rattle.receiver_model.specs.Given.{AreEvents}
-use Rattle.receive_model.specs.declared.span.Span.{Span}
-use Rattle.link_laws.specs.declared.found.Found.{Found}
-use Rattle.link_laws.specs.Accidents.{Accidents, AreAccidents, slot_place}
-use Rattle.link_laws.specs.Missing.{missing_of}
-use Rattle.link_plan.specs.Plan.{PlanValue}
+use Rattle.link_laws.specs.Accidents.{Accidents, AreAccidents}
 use Rattle.receive_model.specs.Events.{Event, Setting}
 use Rattle.run_shell.specs.declared.stop.Stop.{Stop}
 use Rattle.run_shell.specs.declared.stop.Finished.{Finished}
@@ -31,10 +26,10 @@ use Rattle.stream_commands.specs.Stream.{stream_text}
 use Rattle.stream_commands.specs.Text.{held_text}
 use Rattle.stream_commands.proofs.Counted.{status_by}
 use Rattle.receive_commands.specs.declared.receipt.Receipt.{Receipt}
-use Rattle.receive_commands.specs.JoinPlan.{IsSettingOf, plan_names}
-use Rattle.receive_commands.specs.Receipts.{Beginning, IsReceipt, IsStopped, closed_outcome, given_of, names_of}
+use Rattle.receive_commands.specs.JoinPlan.{IsSettingOf}
+use Rattle.receive_commands.specs.Receipts.{Beginning, IsStopped, closed_outcome, given_of, names_of}
 use Rattle.receive_commands.specs.Received.{output_names, received_files, received_text}
-use Rattle.receive_commands.specs.Receive.{AreLaneReports, lane_lines, names_of_lanes}
+use Rattle.receive_commands.specs.Receive.{lane_lines, names_of_lanes}
 use Rattle.receive_commands.specs.Held.{HeldCame, HeldStopped, held_beginning, vec_bytes}
 use Rattle.receive_commands.proofs.Firsts.{names_made}
 use Rattle.receive_commands.proofs.Joins.{plan_setting}
@@ -43,8 +38,7 @@ use Rattle.link_commands.specs.declared.carried.Carried.{Carried}
 use Rattle.link_commands.specs.Carrying.{IsCarried, counts_value}
 use Rattle.link_commands.specs.Inputs.{LinkReading}
 use Rattle.link_commands.specs.Link.{link_names}
-use Rattle.link_commands.specs.Linked.{AreReceivedFiles, IsEndedBy, IsLinked, IsLinkedBy, count_line, link_text, sent_over}
-use Rattle.link_commands.specs.Missing.{missing_in, missing_lines}
+use Rattle.link_commands.specs.Linked.{AreReceivedFiles, IsEndedBy, IsLinked, IsLinkedBy, count_line, link_text, missing_among, missing_lines, sent_over}
 use Rattle.link_commands.proofs.OneLink.{one_linked}
 use Rattle.link_commands.proofs.ReceivedLanes.{one_received}
 
@@ -86,13 +80,13 @@ module _ (i : LinkReading) (c : Carried) (is : IsCarried i c) (was : Option File
   abbrev b : Beginning
   b = held_beginning i.reading.plan setting lanes was
 
-  -- the lines of the missing packets
-  abbrev pub told : List Event → List ℕ
-  told events = missing_lines c.sent.items (missing_in (sent_over i is.stream) events c.sent.items)
+  -- the lines of the packets that did not come
+  abbrev pub missing_of_link : List Event → List ℕ
+  missing_of_link events = missing_lines c.sent.items (missing_among (sent_over i is.stream) events c.sent.items)
 
-  -- the text behind the lines of the lanes' reports
+  -- the text, told the lines of the lanes' reports
   abbrev pub text_of : List ℕ → List Event → List ℕ
-  text_of reports events = ((((c.lines.items ++ reports) ++ received_text setting events) ++ count_line (counts_value c.counts)) ++ told events) ++ held_text c.held
+  text_of reports events = ((((c.lines.items ++ reports) ++ received_text setting events) ++ count_line (counts_value c.counts)) ++ missing_of_link events) ++ held_text c.held
 
   names_are : names_of b ≡ link_names i.reading.plan
   names_are =
@@ -146,23 +140,15 @@ module _ (i : LinkReading) (c : Carried) (is : IsCarried i c) (was : Option File
       counts = counts_value c.counts;
       are_counts = is.counts;
       sent = c.sent.items;
-      are_sent = is.are_sent;
+      are_sent = is.sent;
       status = status_by is.source is.stream c.held is.held is.free;
       files = refl;
-      text = ends_by is.source is.stream c.held (link_text is.source is.stream came.reports setting came.events (counts_value c.counts) (told came.events)) (text_of lines came.events) is.held is.free
+      text = ends_by is.source is.stream c.held (link_text is.source is.stream came.reports setting came.events (counts_value c.counts) (missing_of_link came.events)) (text_of lines came.events) is.held is.free
           (ap (λ (ls : List ℕ). ls ++ held_text c.held)
-          (ap (λ (ls : List ℕ). (((c.lines.items ++ ls) ++ received_text setting came.events) ++ count_line (counts_value c.counts)) ++ told came.events) came.lines
-          ∙ ap (λ (ls : List ℕ). (((ls ++ lane_lines 0 came.reports) ++ received_text setting came.events) ++ count_line (counts_value c.counts)) ++ told came.events) is.lines
-          ∙ all_lines (stream_text is.source is.stream) (lane_lines 0 came.reports) (received_text setting came.events) (count_line (counts_value c.counts)) (told came.events)));
+          (ap (λ (ls : List ℕ). (((c.lines.items ++ ls) ++ received_text setting came.events) ++ count_line (counts_value c.counts)) ++ missing_of_link came.events) came.lines
+          ∙ ap (λ (ls : List ℕ). (((ls ++ lane_lines 0 came.reports) ++ received_text setting came.events) ++ count_line (counts_value c.counts)) ++ missing_of_link came.events) is.lines
+          ∙ all_lines (stream_text is.source is.stream) (lane_lines 0 came.reports) (received_text setting came.events) (count_line (counts_value c.counts)) (missing_of_link came.events)));
     }
-
-    -- its text, where the lines of the reports and of the missing packets are lent
-    pub text_is : (lent missing : List ℕ) → lent ≡ lines → missing ≡ missing_lines c.sent.items (missing_of (slot_place (sent_over i is.stream)) receipt.found.items receipt.spans c.sent.items) →
-        ((((c.lines.items ++ lent) ++ received_text setting came.events) ++ count_line (counts_value c.counts)) ++ missing) ++ held_text c.held ≡ text_of lines came.events
-    text_is lent missing same is_missing =
-        ap (λ (ls : List ℕ). ((((c.lines.items ++ ls) ++ received_text setting came.events) ++ count_line (counts_value c.counts)) ++ missing) ++ held_text c.held) same
-        ∙ ap (λ (ls : List ℕ). ((((c.lines.items ++ lines) ++ received_text setting came.events) ++ count_line (counts_value c.counts)) ++ ls) ++ held_text c.held)
-        (is_missing ∙ ap₂ (λ (fs : List Found) (ss : List Span). missing_lines c.sent.items (missing_of (slot_place (sent_over i is.stream)) fs ss c.sent.items)) came.came.found came.came.spans)
 
     -- it was written, or stopped
     pub writes_link : (r : Result Finished Stop) (later : Option Files) (text : List ℕ) → text ≡ text_of lines came.events → Writes (λ o. o ≡ closed_outcome b came.events (is_some c.held) text) (names_of b) r was later → Writes (IsLinked i) (link_names i.reading.plan) r was later

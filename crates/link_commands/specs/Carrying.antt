@@ -2,19 +2,17 @@
 use Rattle.std.specs.Prelude.{◌≡◌, ◌↔◌, ◌*◌, ◌-◌, ◌%◌, ◌<◌, ◌^◌, ℕ, List, [], length, map, get_or, All, Some, None, Vec}
 use Rattle.std.specs.declared.alloc.Global.{Global}
 use Rattle.lk_base.specs.Checksum.{bits_of_bytes}
-use Rattle.lk_base.specs.Link.{Settings}
 use Rattle.lk_base.specs.declared.word.Word.{Word}
 use Rattle.lane_model.specs.LaneBits.{IsFileOf}
 use Rattle.stream_model.specs.BurstStream.{Source, IsBurstStream, IsHeld}
+use Rattle.tx_end.specs.Sent.{AreSent}
 use Rattle.tx_end.specs.Sources.{IsHeldOn}
 use Rattle.plan_inputs.specs.Sources.{IsSourceOf}
 use Rattle.link_laws.specs.Accidents.{Accidents, AreAccidents}
 use Rattle.link_plan.specs.Schedules.{ScheduleValue}
 use Rattle.link_replay.specs.Damages.{received_of}
 use Rattle.link_replay.specs.declared.counts.Accidents.{Accidents as Counted}
-use Rattle.link_replay.specs.Missing.{HasLowSlots}
 use Rattle.stream_commands.specs.Stream.{stream_text}
-use Rattle.tx_end.specs.Sent.{AreSent}
 use Rattle.receive_commands.specs.Held.{vec_bytes}
 use Rattle.link_commands.specs.declared.carried.Carried.{Carried}
 use Rattle.link_commands.specs.Inputs.{LinkReading}
@@ -29,7 +27,8 @@ pub record AreDamaged (schedule : ScheduleValue) (sent received : List (List ℕ
 abbrev pub counts_value : Counted → Accidents
 counts_value a = record { locks = a.locks; groups = a.groups; stretches = a.stretches }
 
--- the stream of a plan was carried: its lines and the channel that holds it, the received lanes, the accidents, and its packets
+-- the stream of a plan was carried: its lines and the channel that holds it, the packets that it sends, the received lanes, and the
+-- accidents
 pub record IsCarried (i : LinkReading) (c : Carried) : Type 0 where
   pub source : Source
   pub is_source : IsSourceOf i.reading.plan i.reading.inputs source
@@ -38,9 +37,7 @@ pub record IsCarried (i : LinkReading) (c : Carried) : Type 0 where
   pub held : (channel : ℕ) → (c.held ≡ Some channel) ↔ IsHeldOn source stream channel
   pub free : (c.held ≡ None) ↔ (IsHeld source stream → ⊥)
   pub lines : c.lines.items ≡ stream_text source stream
+  pub sent : AreSent stream c.sent.items
   pub lanes : AreReceivedFiles i.reading.plan.settings i.schedule stream (map vec_bytes c.lanes.items)
   pub few : All (λ (v : Vec ℕ Global). length v.items < 2 ^ 50) c.lanes.items
   pub counts : AreAccidents (sent_over i stream) (map bits_of_bytes (map vec_bytes c.lanes.items)) (counts_value c.counts)
-  pub are_sent : AreSent stream c.sent.items
-  pub few_sent : length c.sent.items < 2 ^ 32
-  pub low_slots : All HasLowSlots c.sent.items

@@ -1,8 +1,6 @@
 //! The stream of a plan, carried over the lanes of its link.
-ghost use Rattle.std.specs.Prelude.{◌≡◌, ◌<◌, ◌^◌, length, count_by, All, IfOk};
+ghost use Rattle.std.specs.Prelude.{◌≡◌, ◌<◌, ◌^◌, length, IfOk};
 ghost use Rattle.link_plan.specs.Listing.{numbers_of};
-ghost use Rattle.tx_end.specs.Sent.{AreSent, starts};
-ghost use Rattle.link_replay.specs.Missing.{HasLowSlots};
 ghost use Rattle.plan_inputs.specs.Values.{inputs_value, FitPlan};
 ghost use Rattle.link_commands.specs.Values.{link_value};
 ghost use Rattle.link_commands.specs.Carrying.{IsCarried};
@@ -10,7 +8,7 @@ ghost use Rattle.link_commands.specs.Carrying.{IsCarried};
 use crate::lanes::received_lanes;
 use crate::reading::LinkReading;
 use link_replay::{Accidents, accidents};
-use lk_base::{OutOfMemory, Word};
+use lk_base::OutOfMemory;
 use std::alloc::Global;
 use stream_commands::{PayloadStream, plan_stream};
 use tx_end::{Sent, sent_in};
@@ -22,45 +20,31 @@ pub struct Carried {
     pub held: Option<u16>,
     /// The lines of the channels and of the slots.
     pub lines: Vec<u8>,
+    /// The packets whose SOP word is in the stream, in the order of these words.
+    pub sent: Vec<Sent>,
     /// The received lanes, by number.
     pub lanes: Vec<Vec<u8>>,
     /// What no receiver sees of them.
     pub counts: Accidents,
-    /// The packets whose SOP word is in the stream, in the order of these words.
-    pub sent: Vec<Sent>,
-}
-
-// The packets whose SOP word is among these words of a stream. 2^56 words or more, for which no machine has the memory, are told
-// as want of it.
-fn packets_in(alloc: Global, words: &[Word]) -> Result<Vec<Sent>, OutOfMemory>
-    requires { count_by starts words.now < 2 ^ 32 }
-    ensures sent { IfOk result (λ sent. AreSent words.now sent.items) }
-    ensures few { IfOk result (λ sent. length sent.items < 2 ^ 32) }
-    ensures low { IfOk result (λ sent. All HasLowSlots sent.items) }
-{
-    if words.len() >= 1 << 56 {
-        return Err(OutOfMemory);
-    }
-    let sent = sent_in(alloc, words)?;
-    Ok(sent)
 }
 
 /// Carries the stream of a plan over the lanes of its link, by its schedule.
 pub fn carry(alloc: Global, read: &LinkReading) -> Result<Carried, OutOfMemory>
     requires fit { FitPlan (numbers_of read.now.reading.plan.channels.items) (inputs_value read.now.reading.inputs) }
     requires skews { length read.now.schedule.skews.items ≡ read.now.reading.plan.link.lanes }
-    ensures { IfOk result (IsCarried (link_value read.now)) }
+    ensures carried { IfOk result (IsCarried (link_value read.now)) }
+    ensures few { IfOk result (λ carried. length carried.sent.items < 2 ^ 32) }
 {
     let link = &read.reading.plan.link;
     let PayloadStream { words, held, lines } = plan_stream(alloc, &read.reading)?;
+    let sent = sent_in(alloc, &words)?;
     let lanes = received_lanes(alloc, link, &words, &read.schedule)?;
     let counts = accidents(alloc, link, read.schedule.skews.as_slice(), &words, &lanes)?;
-    let sent = packets_in(alloc, &words)?;
     Ok(Carried {
         held,
         lines,
+        sent,
         lanes,
         counts,
-        sent,
     })
 }

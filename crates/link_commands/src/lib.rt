@@ -5,10 +5,9 @@ mod carried;
 mod lanes;
 mod law;
 mod link;
-mod missing;
 mod reading;
 mod text;
 
-pub use law::{delivery_theorem, missing_packets};
+pub use law::{delivery_theorem, premises_are_met};
 pub use link::LinkPlan;
 pub use reading::{LinkReading, read_link};

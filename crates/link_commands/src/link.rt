@@ -1,5 +1,6 @@
 //! `link FILE`: the stream of a plan is carried over the lanes of its link and received.
 ghost use Rattle.std.specs.Prelude.{◌≡◌, ◌<◌, ◌^◌, length};
+ghost use Rattle.link_laws.specs.Accidents.{lane_0};
 ghost use Rattle.link_plan.specs.Listing.{numbers_of};
 ghost use Rattle.link_plan.specs.Views.{plan_value};
 ghost use Rattle.plan_inputs.specs.Values.{inputs_value, FitPlan};
@@ -10,7 +11,6 @@ ghost use Rattle.link_commands.specs.Linked.{IsLinked};
 ghost use Rattle.link_commands.specs.Values.{link_value};
 
 use crate::carried::carry;
-use crate::missing::{first_skew, missing_text};
 use crate::reading::{LinkReading, read_link};
 use crate::text::link_text;
 use lk_outside::Store;
@@ -19,6 +19,14 @@ use run_shell::{Command, Finished, Stop};
 use std::alloc::Global;
 use std::marker::Model;
 use stream_commands::lane_names;
+
+// The skew of lane 0.
+fn first_skew(skews: &[u32]) -> u32
+    requires { 0 < length skews.now }
+    ensures { result ≡ lane_0 skews.now }
+{
+    skews[0]
+}
 
 // What a plan with its inputs and its schedule comes to.
 fn write_link<S: Store>(alloc: Global, store: &mut S, read: &LinkReading) -> Result<Finished, Stop>
@@ -33,9 +41,9 @@ fn write_link<S: Store>(alloc: Global, store: &mut S, read: &LinkReading) -> Res
     let carried = carry(alloc, read)?;
     let held = receive_held(alloc, store, plan, names, &carried.lanes)?;
     let HeldReceipt { mut receipt, lines } = held;
-    let skew = first_skew(&read.schedule);
-    let missing = missing_text(alloc, &plan.link, skew, &carried.sent, &receipt)?;
-    let text = link_text(alloc, &carried, &lines, &receipt, &missing)?;
+    let link = &plan.link;
+    let skew = first_skew(&read.schedule.skews);
+    let text = link_text(alloc, link, skew, &carried, &lines, &receipt)?;
     receipt.close(alloc, store, text, carried.held.is_some())
 }
 

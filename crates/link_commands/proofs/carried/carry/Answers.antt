@@ -1,41 +1,38 @@
-use Rattle.std.proofs.Common.{◌≡◌, ◌∙◌, ◌<◌, ◌≤◌, ◌%◌, ◌^◌, ap, refl, sym, subst, arith, All, List, ℕ, length, map, count_by, Vec, Global}
-use Rattle.std.proofs.lemmas.List.Elements.{All-map}
-use Rattle.lk_base.specs.Checksum.{bits_of_bytes}
+use Rattle.std.proofs.Common.{◌≡◌, ◌<◌, ◌%◌, ◌^◌, sym, subst, List, count_by, length, map}
 use Rattle.lk_base.specs.Link.{group_of}
 use Rattle.lk_base.specs.declared.word.Word.{Word}
-use Rattle.link_laws.specs.Accidents.{AreAccidents}
 use Rattle.link_plan.specs.ScheduleViews.{schedule_value}
 use Rattle.receive_commands.specs.Held.{vec_bytes}
 use Rattle.stream_commands.specs.declared.form.StreamForm.TheVariants as form
 use Rattle.stream_commands.proofs.PartsOfStreams.{whole_by}
+use Rattle.tx_end.specs.Sent.{AreSent, starts}
 use Rattle.link_commands.specs.Carrying.{counts_value}
 use Rattle.link_commands.specs.Linked.{AreReceivedFiles}
-use Rattle.tx_end.specs.Sent.{AreSent, starts}
-use Rattle.link_commands.proofs.FewSent.{few_starts}
+use Rattle.link_commands.proofs.FewSent.{few_sent, few_starts}
 use Rattle.link_commands.proofs.Writing.{bits_twice, few_enough}
 use Rattle.link_commands.proofs.carried.carry.Goals as goal
 
+pub sent_in-requires : goal.sent_in-requires
+sent_in-requires c =
+    let stream = c.in_ok-words.ensures in
+    subst (λ (ws : List Word). count_by starts ws < 2 ^ 32) (sym c.deref.ensures.value)
+    (few_starts stream.source c.in_ok-words.field-0.words.items c.args.read.now.reading.inputs.packets.items stream.is_source.packets stream.is.stream c.requires.fit.size)
+
 pub received_lanes-requires-clause-whole : goal.received_lanes-requires-clause-whole
 received_lanes-requires-clause-whole c =
-    subst (λ (ws : List Word). length ws % group_of c.args.read.now.reading.plan.link ≡ 0) (sym c.deref.ensures.value)
-    (whole_by (form.Lanes c.args.read.now.reading.plan.link) c.in_ok-words.ensures.source c.in_ok-words.field-0.words.items c.in_ok-words.ensures.is_source.shape.group c.in_ok-words.ensures.is.stream)
-
-pub accidents-requires-clause-few : goal.accidents-requires-clause-few
-accidents-requires-clause-few c = few_enough c.deref-3.result.now c.in_ok-lanes.lanes.items c.deref-3.ensures.value c.in_ok-lanes.ensures.few
-
-pub accidents-requires-clause-whole : goal.accidents-requires-clause-whole
-accidents-requires-clause-whole c =
     subst (λ (ws : List Word). length ws % group_of c.args.read.now.reading.plan.link ≡ 0) (sym c.deref-2.ensures.value)
     (whole_by (form.Lanes c.args.read.now.reading.plan.link) c.in_ok-words.ensures.source c.in_ok-words.field-0.words.items c.in_ok-words.ensures.is_source.shape.group c.in_ok-words.ensures.is.stream)
 
-pub packets_in-requires : goal.packets_in-requires
-packets_in-requires c =
-    let stream = c.in_ok-words.ensures in
-    subst (λ (ws : List Word). count_by starts ws < 2 ^ 32) (sym c.deref-4.ensures.value)
-    (few_starts stream.source c.in_ok-words.field-0.words.items c.args.read.now.reading.inputs.packets.items stream.is_source.packets c.requires.fit.size stream.is.stream)
+pub accidents-requires-clause-few : goal.accidents-requires-clause-few
+accidents-requires-clause-few c = few_enough c.deref-4.result.now c.in_ok-lanes.lanes.items c.deref-4.ensures.value c.in_ok-lanes.ensures.few
 
-pub returns : goal.returns
-returns c =
+pub accidents-requires-clause-whole : goal.accidents-requires-clause-whole
+accidents-requires-clause-whole c =
+    subst (λ (ws : List Word). length ws % group_of c.args.read.now.reading.plan.link ≡ 0) (sym c.deref-3.ensures.value)
+    (whole_by (form.Lanes c.args.read.now.reading.plan.link) c.in_ok-words.ensures.source c.in_ok-words.field-0.words.items c.in_ok-words.ensures.is_source.shape.group c.in_ok-words.ensures.is.stream)
+
+pub returns-clause-carried : goal.returns-clause-carried
+returns-clause-carried c =
     let link = c.args.read.now.reading.plan.link in
     let schedule = c.args.read.now.schedule in
     let words = c.in_ok-words.field-0.words.items in
@@ -48,11 +45,16 @@ returns c =
       held = stream.is.held;
       free = stream.is.free;
       lines = stream.is.lines;
-      lanes = subst (λ (ws : List Word). AreReceivedFiles link (schedule_value schedule) ws (map vec_bytes c.in_ok-lanes.lanes.items)) c.deref.ensures.value c.in_ok-lanes.ensures.are;
+      sent = subst (λ (ws : List Word). AreSent ws c.in_ok-sent.sent.items) c.deref.ensures.value c.in_ok-sent.ensures;
+      lanes = subst (λ (ws : List Word). AreReceivedFiles link (schedule_value schedule) ws (map vec_bytes c.in_ok-lanes.lanes.items)) c.deref-2.ensures.value c.in_ok-lanes.ensures.are;
       few = c.in_ok-lanes.ensures.few;
-      counts = bits_twice link c.as_slice.result.now schedule.skews.items c.deref-2.result.now words c.deref-3.result.now c.in_ok-lanes.lanes.items (counts_value c.in_ok-counts.counts)
-          c.as_slice.ensures.value c.deref-2.ensures.value c.deref-3.ensures.value c.in_ok-counts.ensures;
-      are_sent = subst (λ (ws : List Word). AreSent ws c.in_ok-sent.sent.items) c.deref-4.ensures.value c.in_ok-sent.ensures.sent;
-      few_sent = c.in_ok-sent.ensures.few;
-      low_slots = c.in_ok-sent.ensures.low;
+      counts = bits_twice link c.as_slice.result.now schedule.skews.items c.deref-3.result.now words c.deref-4.result.now c.in_ok-lanes.lanes.items (counts_value c.in_ok-counts.counts)
+          c.as_slice.ensures.value c.deref-3.ensures.value c.deref-4.ensures.value c.in_ok-counts.ensures;
     }
+
+pub returns-clause-few : goal.returns-clause-few
+returns-clause-few c =
+    let stream = c.in_ok-words.ensures in
+    let words = c.in_ok-words.field-0.words.items in
+    few_sent words c.in_ok-sent.sent.items (subst (λ (ws : List Word). AreSent ws c.in_ok-sent.sent.items) c.deref.ensures.value c.in_ok-sent.ensures)
+    (few_starts stream.source words c.args.read.now.reading.inputs.packets.items stream.is_source.packets stream.is.stream c.requires.fit.size)

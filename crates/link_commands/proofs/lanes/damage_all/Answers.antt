@@ -1,4 +1,4 @@
-use Rattle.std.proofs.Common.{◌≡◌, ◌∙◌, ◌++◌, ◌*◌, ◌-◌, ◌%◌, refl, sym, ap, subst, arith, rules, List, [], ◌∷◌, ℕ, length, map, append_assoc, append-nil, Vec, Global}
+use Rattle.std.proofs.Common.{◌≡◌, ◌∙◌, ◌++◌, ◌*◌, ◌-◌, ◌%◌, sym, ap, subst, arith, rules, List, [], ◌∷◌, ℕ, length, map, append_assoc, Vec, Global}
 use Rattle.std.proofs.lemmas.List.{length-append, length-map, map-append}
 use Rattle.lane_model.specs.LaneBits.{IsFileOf}
 use Rattle.link_replay.specs.Damages.{received_of}
