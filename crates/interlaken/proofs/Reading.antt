@@ -1,5 +1,6 @@
 -- What the parser of command lines makes of accepted words.
-use Rattle.std.proofs.Common.{arith, nat_tests, ◌≤◌, ◌≡◌, ◌∙◌, ℕ, ◌+◌, ◌<◌, length, get_or, drop, map, add-one, Bool, true, false, not, List, [], ◌∷◌, Option, Some, None, is_some, refl, sym, ap, subst, codes, nat_eq}
+use Rattle.std.proofs.Common.{arith, ◌≤◌, ◌≡◌, ◌∙◌, ℕ, ◌+◌, ◌<◌, length, get_or, drop, map, add-one, Bool, true, false, not, List, [], ◌∷◌, Option, Some, None, is_some, refl, sym, ap, subst, codes, nat_eq}
+use Rattle.std.proofs.lemmas.Bool.Decides.{nat_tests}
 use Rattle.std.specs.Str.{bytes_eq}
 use Rattle.std.specs.Char.{is_ascii_digit}
 use Rattle.std.specs.List.{list_all}
