@@ -10,10 +10,12 @@ use Rattle.link_commands.specs.Inputs.{LinkReading, linked_in}
 use Rattle.link_commands.specs.Link.{link_work}
 use Rattle.link_commands.specs.Linked.{IsLinkedBy}
 use Rattle.link_commands.proofs.Delivers.{clean_delivers, delivers, never_when_off}
+use Rattle.link_commands.proofs.Missed.{tells_missing}
+use Rattle.link_commands.proofs.Narrow.{narrow_spans}
 use Rattle.interlaken.specs.declared.request.Request.{Request}
 use Rattle.interlaken.specs.Meanings.{meaning_by as meaning_for}
 use Rattle.interlaken.specs.Run.{OutcomeOf}
-use Rattle.interlaken.specs.Delivery.{Delivers, DeliversClean, LinksWhenOn, OfLinks}
+use Rattle.interlaken.specs.Delivery.{Delivers, DeliversClean, LinksWhenOn, MissingAreTold, OfLinks, SpansAreNarrow}
 
 module _ (words : List (List ℕ)) (status : Status) (Says : (i : LinkReading) → (stream : List Word) → (o : Outcome) → IsLinkedBy i stream o → Type 0)
     (says : (files : Files) (name : List ℕ) (i : LinkReading) (stream : List Word) (o : Outcome) → AreBytes files → linked_in files name ≡ Ok i → (h : IsLinkedBy i stream o) → Says i stream o h) where
@@ -33,6 +35,12 @@ module _ (words : List (List ℕ)) (status : Status) (x y : Option Files) (found
 
   pub run_delivers_clean : IfSome x (λ files. DeliversClean words files status x y)
   run_delivers_clean = links words status _ (λ u name i stream o bytes is h whole within. clean_delivers u name i stream o bytes is h whole within) x y found settled
+
+  pub run_narrow_spans : IfSome x (λ files. SpansAreNarrow words files status x y)
+  run_narrow_spans = links words status _ (λ u name i stream o bytes is h none kept. narrow_spans u name i stream o bytes is h none kept) x y found settled
+
+  pub run_tells_missing : IfSome x (λ files. MissingAreTold words files status x y)
+  run_tells_missing = links words status _ (λ u name i stream o bytes is h. tells_missing u name i stream o bytes is h) x y found settled
 
   pub run_links_when_on : IfSome x (λ files. LinksWhenOn words files status x y)
   run_links_when_on = links words status _ (λ u name i stream o bytes is h. never_when_off i stream o h) x y found settled

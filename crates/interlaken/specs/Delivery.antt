@@ -9,7 +9,7 @@ use Rattle.run_shell.specs.Outcome.{Outcome, IsAnswer, Holds}
 use Rattle.stream_commands.specs.Off.{NoBurstWhenOff}
 use Rattle.link_commands.specs.Inputs.{LinkReading, linked_in}
 use Rattle.link_commands.specs.Linked.{IsLinkedBy}
-use Rattle.link_commands.specs.Delivery.{AllUndamaged, DeliversAll, DeliversUnmet}
+use Rattle.link_commands.specs.Delivery.{AllUndamaged, DeliversAll, DeliversUnmet, LosesNoLock, NarrowSpans, TellsMissing}
 use Rattle.interlaken.specs.declared.request.Request.TheVariants.{Link}
 use Rattle.interlaken.specs.Request.{request_of}
 use Rattle.interlaken.specs.Run.{OutcomeOf}
@@ -36,6 +36,17 @@ Delivers = OfLinks (λ i stream o h. h.counts ≡ no_accidents → DeliversUnmet
 -- With no bit damaged and the skews within the deskew depth, no accident was counted and no span meets a packet.
 abbrev pub DeliversClean : List (List ℕ) → Files → Status → Option Files → Option Files → Type 0
 DeliversClean = OfLinks (λ i stream o h. AllUndamaged i.reading.plan.settings i.schedule stream → IsWithinDepth i.reading.plan.settings i.schedule.skews → DeliversAll i stream o h)
+
+-- Where no accident was counted and no declared lock was lost, each fault span that has both ends holds a damaged word strictly
+-- between them. And where two control words or more behind the last of those were received as they were sent, the span does not end
+-- behind the second of them.
+abbrev pub SpansAreNarrow : List (List ℕ) → Files → Status → Option Files → Option Files → Type 0
+SpansAreNarrow = OfLinks (λ i stream o h. h.counts ≡ no_accidents → LosesNoLock h.reports → NarrowSpans i stream o h)
+
+-- The text tells the sent packets that did not come, in the order of their SOP words, and no other; where no accident was counted,
+-- these are the sent packets that meet a fault span, each told with the first.
+abbrev pub MissingAreTold : List (List ℕ) → Files → Status → Option Files → Option Files → Type 0
+MissingAreTold = OfLinks TellsMissing
 
 -- No burst starts on a channel whose last valid calendar entry is off.
 abbrev pub LinksWhenOn : List (List ℕ) → Files → Status → Option Files → Option Files → Type 0
