@@ -14,4 +14,4 @@ pub record Gave (old new : Lane) (bytes : List ℕ) : Type 0 where
 
 -- each round gave a byte
 abbrev pub invariant-loop-count : goal.invariant-loop-count
-invariant-loop-count l = Gave l.fn.self l.self l.bytes.items × (length l.bytes.items ≡ l._count)
+invariant-loop-count l = Gave l.initial.self l.self l.bytes.items × (length l.bytes.items ≡ l._count)
