@@ -56,21 +56,6 @@ impl BitWriter {
         Some((self.bits >> self.count & 0xFF) as u8)
     }
 
-    /// Takes the next 64 waiting bits, the first of them as the number's highest. `None` exactly where fewer than 64 wait,
-    /// which changes nothing.
-    pub fn take_64(&mut self) -> Option<u64>
-        ensures none { IsNone result ↔ length self.old < 64 }
-        ensures unchanged { IfNone result (self.new ≡ self.old) }
-        ensures some { IfSome result (λ number. self.old ≡ bits_of 64 number ++ self.new) }
-        ensures count { IfSome result (λ _. length self.old ≡ length self.new + 64) }
-    {
-        if self.count < 64 {
-            return None;
-        }
-        self.count -= 64;
-        Some((self.bits >> self.count & u64::MAX as u128) as u64)
-    }
-
     /// Takes the waiting bits, with zeros behind. Fewer than 8 bits wait. `None` exactly where no bit waits.
     pub fn pad(&mut self) -> Option<u8>
         requires { length self.old < 8 }
