@@ -1,6 +1,6 @@
 -- What stands of the lanes of a stream while they are made.
-use Rattle.std.proofs.Common.{◌≡◌, ◌≢◌, ℕ, zero, suc, ◌+◌, ◌-◌, ◌<◌, ◌≤◌, ◌==◌, List, [], ◌∷◌, ◌++◌, length, map, take, drop, get_or, refl, sym, ap, ◌∙◌, subst, arith, eqb-true, inl, inr}
-use Rattle.std.specs.Prelude.{set, sum_by, ◌^◌}
+use Rattle.std.proofs.Common.{◌≡◌, ◌≢◌, ℕ, suc, ◌+◌, ◌-◌, ◌<◌, ◌≤◌, ◌==◌, List, [], ◌∷◌, ◌++◌, length, map, take, drop, get_or, sym, ap, ◌∙◌, arith, eqb-true, inl, inr}
+use Rattle.std.specs.Prelude.{sum_by, ◌^◌}
 use Rattle.std.specs.List.{range_with_len}
 use Rattle.std.proofs.lemmas.Bool.{cases_Bool, eqb-false}
 use Rattle.std.proofs.lemmas.List.{ext_get_or, get_or-set_same, get_or-set_other, length-set, length-map, length-append, length-take-le, take-append-drop}
@@ -8,7 +8,7 @@ use Rattle.std.proofs.lemmas.List.FromFn.{length-map-range_with_len, length-rang
 use Rattle.std.proofs.lemmas.List.Sums.{sum_by-cons, sum_by_push}
 use Rattle.lk_base.specs.declared.word.Word.{Word}
 use Rattle.lk_base.specs.Link.{Settings}
-use Rattle.stream_model.specs.BurstStream.{Source, IsBurstStream}
+use Rattle.stream_model.specs.BurstStream.{Source}
 use Rattle.tx_end.specs.declared.packet.Packet.{Packet}
 use Rattle.tx_end.specs.declared.transmitter.Transmitter.{Transmitter}
 use Rattle.tx_end.specs.declared.tx_out.TxOut.{TxOut}
@@ -52,13 +52,13 @@ lanes_more n lane outs bytes lt =
     (λ i below. let within : i < n = omega (arith, below, same) in
     elim (cases_Bool (i == lane)) [
       | inl e ↦ (let here : i ≡ lane = eqb-true i lane e in
-    ap (λ k. get_or (more (lane_bytes n outs) lane bytes) k []) here
-    ∙ get_or-set_same (lane_bytes n outs) lane (get_or (lane_bytes n outs) lane [] ++ bytes) [] (omega (arith, len, lt))
-    ∙ ap (λ b. b ++ bytes) (lane_at n lane outs lt) ∙ sym (bytes_behind lane outs bytes) ∙ sym (lane_at n lane (outs ++ on_lane lane bytes) lt)
-    ∙ sym (ap (λ k. get_or (lane_bytes n (outs ++ on_lane lane bytes)) k []) here))
+          ap (λ k. get_or (more (lane_bytes n outs) lane bytes) k []) here
+          ∙ get_or-set_same (lane_bytes n outs) lane (get_or (lane_bytes n outs) lane [] ++ bytes) [] (omega (arith, len, lt))
+          ∙ ap (λ b. b ++ bytes) (lane_at n lane outs lt) ∙ sym (bytes_behind lane outs bytes) ∙ sym (lane_at n lane (outs ++ on_lane lane bytes) lt)
+          ∙ sym (ap (λ k. get_or (lane_bytes n (outs ++ on_lane lane bytes)) k []) here))
       | inr e ↦ (let other : i ≢ lane = eqb-false i lane e in
-    get_or-set_other (lane_bytes n outs) lane i (get_or (lane_bytes n outs) lane [] ++ bytes) [] other
-    ∙ lane_at n i outs within ∙ sym (bytes_apart i lane outs bytes other) ∙ sym (lane_at n i (outs ++ on_lane lane bytes) within))
+          get_or-set_other (lane_bytes n outs) lane i (get_or (lane_bytes n outs) lane [] ++ bytes) [] other
+          ∙ lane_at n i outs within ∙ sym (bytes_apart i lane outs bytes other) ∙ sym (lane_at n i (outs ++ on_lane lane bytes) within))
     ])
 
 -- contents that begin with these, one by one

@@ -1,5 +1,5 @@
 -- What stands of a stream's files while they are filled.
-use Rattle.std.proofs.Common.{◌≡◌, ℕ, ◌≤◌, ◌-◌, List, [], ◌∷◌, ◌++◌, length, map, take, drop, refl, sym, ap, ◌∙◌, subst, arith, Option, Result, Ok, Err, Contains, append-nil, append_assoc}
+use Rattle.std.proofs.Common.{◌≡◌, ℕ, ◌≤◌, ◌-◌, List, [], ◌∷◌, ◌++◌, length, map, take, drop, refl, sym, ap, ◌∙◌, subst, arith, Option, Ok, Err, Contains, append-nil, append_assoc}
 use Rattle.std.specs.Prelude.{set, get_or, is_some}
 use Rattle.std.proofs.lemmas.List.{take-append-drop, length-map}
 use Rattle.std.proofs.Math.Seq.{take-add}
@@ -13,7 +13,7 @@ use Rattle.run_shell.specs.declared.stop.Finished.{Finished}
 use Rattle.run_shell.specs.Outcome.{Output, Outcome, Holds, HoldsPart}
 use Rattle.run_shell.specs.Stops.{StoreStops, held_status}
 use Rattle.run_shell.specs.Open.{Open}
-use Rattle.run_shell.specs.Outputs.{outs, blank, Prefixes, open_names, IsOpen, Grown}
+use Rattle.run_shell.specs.Outputs.{outs, blank, Prefixes, open_names, IsOpen}
 use Rattle.run_shell.specs.Writing.{Writes, Begin}
 use Rattle.run_shell.proofs.Moves.{told_by}
 use Rattle.run_shell.proofs.Fills.{prefix_part, part_more, blank_prefixes, given_prefixes}

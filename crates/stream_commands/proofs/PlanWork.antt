@@ -1,5 +1,5 @@
 -- The stream of a plan and its inputs: what it comes to is lawful, and is what is made of its source.
-use Rattle.std.proofs.Common.{◌≡◌, ◌⊎◌, ℕ, List, refl, sym, ◌∙◌, ap, subst, Option, Result, Ok, Err}
+use Rattle.std.proofs.Common.{◌≡◌, ◌⊎◌, ℕ, List, refl, sym, ◌∙◌, subst, Option, Result, Ok, Err}
 use Rattle.lk_base.specs.declared.word.Word.{Word}
 use Rattle.lk_base.specs.Link.{Settings}
 use Rattle.tx_end.specs.Whole.{IsShapeOf}

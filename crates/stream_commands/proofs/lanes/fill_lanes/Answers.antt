@@ -1,4 +1,4 @@
-use Rattle.std.proofs.Common.{◌≡◌, ◌∙◌, ◌+◌, ◌<◌, ◌≤◌, ◌^◌, ◌++◌, refl, sym, ap, subst, arith, List, ℕ, [], length, Contains, Err}
+use Rattle.std.proofs.Common.{◌∙◌, ◌+◌, ◌^◌, ◌++◌, refl, ap, subst, arith, List, ℕ, [], Contains, Err}
 use Rattle.std.proofs.lemmas.Result.{err_from_is_err_and}
 use Rattle.lk_outside.specs.Files.{Told}
 use Rattle.tx_end.specs.LaneRows.{outs_of}
@@ -60,9 +60,9 @@ returns-in_err-put-clause-filled g c =
       lane_bytes link.lanes (i.outs ++ outs_of out),
       lanes_begin c.next_bytes.new.self link source next.0 (i.outs ++ outs_of out) next.1,
       subst (λ (ns : List (List ℕ)). Told was (g.S.Store.files c.put.new.store) (HoldsPart (outs ns (lane_bytes link.lanes (i.outs ++ outs_of out))))) i.names
-      (subst (λ (gs : List (List ℕ)). Grown {T = Unit {0}} c.loop-out.outputs c.put.new.self gs (Err c.in_err-put.field-0.0) was (g.S.Store.files c.put.new.store))
-      (ap (more (lane_bytes link.lanes i.outs) out.lane) c.as_slice.ensures.value ∙ lanes_more link.lanes out.lane i.outs out.bytes.items next.2.0)
-      (c.in_err-put.ensures.grown _ was (i.open_so_far was o))),
+          (subst (λ (gs : List (List ℕ)). Grown {T = Unit {0}} c.loop-out.outputs c.put.new.self gs (Err c.in_err-put.field-0.0) was (g.S.Store.files c.put.new.store))
+          (ap (more (lane_bytes link.lanes i.outs) out.lane) c.as_slice.ensures.value ∙ lanes_more link.lanes out.lane i.outs out.bytes.items next.2.0)
+          (c.in_err-put.ensures.grown _ was (i.open_so_far was o))),
     ))
 
 pub overflow_add-steps : goal.overflow_add-steps
@@ -117,7 +117,7 @@ returns-in_err-end_of-clause-filled g c =
       given,
       lanes_begin c.loop-out.transmitter link (source_of c.args.source.now) i.words i.outs i.sends,
       subst (λ (ns : List (List ℕ)). Told was (g.S.Store.files c.loop-out.store) (HoldsPart (outs ns given))) i.names
-      (open_part c.loop-out.outputs given given was _ (same_prefixes given) (i.open_so_far was o)),
+          (open_part c.loop-out.outputs given given was _ (same_prefixes given) (i.open_so_far was o)),
     ))
 
 pub returns-clause-filled : goal.returns-clause-filled
@@ -125,8 +125,7 @@ returns-clause-filled g c = λ was o.
     let i = c.loop-out.invariant in
     let link = c.args.link.now in
     let source = source_of c.args.source.now in
-    let all = c.next_bytes.ensures.none link source i.words i.outs i.sends c.in_default.is in
-    (
+    let all = c.next_bytes.ensures.none link source i.words i.outs i.sends c.in_default.is in (
       all.0,
       lane_bytes link.lanes i.outs,
       c.in_ok-end_of.ensures link all.0 i.outs all.1 all.2.stream,
