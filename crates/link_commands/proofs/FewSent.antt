@@ -26,14 +26,13 @@ use Rattle.tx_end.specs.SentLaw.{EachHasBytes}
 use Rattle.tx_end.specs.declared.sent.Sent.{Sent}
 use Rattle.tx_end.proofs.Finishing.{codes_length}
 use Rattle.tx_end.proofs.NumbersLaw.{starts_are_few}
+use Rattle.tx_end.proofs.Shapes.{whole_groups}
 use Rattle.link_plan.specs.Schedules.{ScheduleValue}
 use Rattle.link_replay.specs.Damages.{lane_damage}
 use Rattle.link_replay.specs.Missing.{HasLowSlots}
 use Rattle.plan_inputs.specs.Values.{packet_value, packet_values, size_of}
 use Rattle.plan_inputs.specs.declared.packet.ChannelPacket.{ChannelPacket}
 use Rattle.receive_commands.specs.Held.{vec_bytes}
-use Rattle.stream_commands.specs.declared.form.StreamForm.TheVariants as form
-use Rattle.stream_commands.proofs.PartsOfStreams.{whole_by}
 use Rattle.link_commands.specs.declared.carried.Carried.{Carried}
 use Rattle.link_commands.specs.Carrying.{IsCarried}
 use Rattle.link_commands.specs.Inputs.{LinkReading}
@@ -139,6 +138,6 @@ low_slots w sent are short k d lt =
 pub carried_low : (i : LinkReading) (c : Carried) → IsCarried i c → IsLink i.reading.plan.settings → All HasLowSlots c.sent.items
 carried_low i c is link =
     let s : Settings = i.reading.plan.settings in
-    let whole : length is.stream % group_of s ≡ 0 = whole_by (form.Lanes s) is.source is.stream is.is_source.shape.group is.is_stream in
+    let whole : length is.stream % group_of s ≡ 0 = whole_groups is.source is.stream (group_of s) is.is_stream is.is_source.shape.group in
     low_slots is.stream c.sent.items is.sent
     (short_stream s i.schedule is.stream (map vec_bytes c.lanes.items) link is.lanes (All-map (λ (bytes : List ℕ). length bytes < 2 ^ 50) vec_bytes c.lanes.items is.few) whole)

@@ -18,6 +18,7 @@ use Rattle.link_plan.specs.declared.error.PlanError.{PlanError}
 use Rattle.link_plan.specs.declared.schedule_row.ScheduleRow.{ScheduleRow}
 use Rattle.link_laws.proofs.Determined.{accidents_are_there}
 use Rattle.link_reports.specs.Lines.{held_line}
+use Rattle.tx_end.proofs.Shapes.{whole_groups}
 use Rattle.tx_end.proofs.SomeList.{some_list}
 use Rattle.run_shell.specs.declared.status.Status.TheVariants.{Done, Held}
 use Rattle.run_shell.specs.Meaning.{IsMeaning}
@@ -31,10 +32,8 @@ use Rattle.plan_inputs.specs.Sources.{IsSourceOf}
 use Rattle.plan_inputs.proofs.PlanStream.{planned_parts, planned_stream}
 use Rattle.plan_inputs.proofs.SameSource.{same_source}
 use Rattle.plan_inputs.proofs.SomeSource.{plan_limits}
-use Rattle.stream_commands.specs.declared.form.StreamForm.TheVariants as form
 use Rattle.stream_commands.specs.Plan.{IsPlanHeld}
 use Rattle.stream_commands.specs.Stream.{IsStatusOf}
-use Rattle.stream_commands.proofs.PartsOfStreams.{whole_by}
 use Rattle.stream_commands.proofs.SomeOutcome.{is_held}
 use Rattle.receive_commands.specs.Receive.{names_of_lanes}
 use Rattle.receive_commands.specs.Received.{received_files}
@@ -94,7 +93,7 @@ module _ (i : LinkReading) (link : IsLink i.reading.plan.settings) (skews : leng
       let (events, are_events) = events_exist s setting lanes (omega (arith, long)) (omega (arith, low, many)) in
       let (reports, are_reports) = some_reports s lanes in
       let count : length (map bits_of_bytes lanes) ≡ s.lanes = length-map lanes bits_of_bytes ∙ many in
-      let whole : length w % group_of s ≡ 0 = whole_by (form.Lanes s) source w is.shape.group stream in
+      let whole : length w % group_of s ≡ 0 = whole_groups source w (group_of s) stream is.shape.group in
       let (counts, are_counts) = accidents_are_there (sent_over i w) (map bits_of_bytes lanes) (omega (arith, long)) (omega (arith, low)) skews count whole in
       let (sent, are_sent) = some_list w in
       let files = outs (names_of_lanes i.reading.plan) lanes ++ received_files setting i.reading.plan.link_type i.reading.plan.out events in

@@ -3,9 +3,8 @@ use Rattle.lk_base.specs.Link.{group_of}
 use Rattle.lk_base.specs.declared.word.Word.{Word}
 use Rattle.link_plan.specs.ScheduleViews.{schedule_value}
 use Rattle.receive_commands.specs.Held.{vec_bytes}
-use Rattle.stream_commands.specs.declared.form.StreamForm.TheVariants as form
-use Rattle.stream_commands.proofs.PartsOfStreams.{whole_by}
 use Rattle.tx_end.specs.Sent.{AreSent, starts}
+use Rattle.tx_end.proofs.Shapes.{whole_groups}
 use Rattle.link_commands.specs.Carrying.{counts_value}
 use Rattle.link_commands.specs.Linked.{AreReceivedFiles}
 use Rattle.link_commands.proofs.FewSent.{few_sent, few_starts}
@@ -21,7 +20,7 @@ sent_in-requires c =
 pub received_lanes-requires-clause-whole : goal.received_lanes-requires-clause-whole
 received_lanes-requires-clause-whole c =
     subst (λ (ws : List Word). length ws % group_of c.args.read.now.reading.plan.link ≡ 0) (sym c.deref-2.ensures.value)
-    (whole_by (form.Lanes c.args.read.now.reading.plan.link) c.in_ok-words.ensures.source c.in_ok-words.field-0.words.items c.in_ok-words.ensures.is_source.shape.group c.in_ok-words.ensures.is.stream)
+    (whole_groups c.in_ok-words.ensures.source c.in_ok-words.field-0.words.items (group_of c.args.read.now.reading.plan.link) c.in_ok-words.ensures.is.stream c.in_ok-words.ensures.is_source.shape.group)
 
 pub accidents-requires-clause-few : goal.accidents-requires-clause-few
 accidents-requires-clause-few c = few_enough c.deref-4.result.now c.in_ok-lanes.lanes.items c.deref-4.ensures.value c.in_ok-lanes.ensures.few
@@ -29,7 +28,7 @@ accidents-requires-clause-few c = few_enough c.deref-4.result.now c.in_ok-lanes.
 pub accidents-requires-clause-whole : goal.accidents-requires-clause-whole
 accidents-requires-clause-whole c =
     subst (λ (ws : List Word). length ws % group_of c.args.read.now.reading.plan.link ≡ 0) (sym c.deref-3.ensures.value)
-    (whole_by (form.Lanes c.args.read.now.reading.plan.link) c.in_ok-words.ensures.source c.in_ok-words.field-0.words.items c.in_ok-words.ensures.is_source.shape.group c.in_ok-words.ensures.is.stream)
+    (whole_groups c.in_ok-words.ensures.source c.in_ok-words.field-0.words.items (group_of c.args.read.now.reading.plan.link) c.in_ok-words.ensures.is.stream c.in_ok-words.ensures.is_source.shape.group)
 
 pub returns-clause-carried : goal.returns-clause-carried
 returns-clause-carried c =
