@@ -6,8 +6,7 @@ use lk_base::OutOfMemory;
 use lk_outside::{MemSink, MemStore};
 use std::alloc::{AllocError, Global};
 
-const PLAN: &[u8] =
-    b"lanes,1\nmetaframe,32\nwarmup,4\nchannel,1,a.pcap\nchannel,2,b.pcap\nout,o\n";
+const PLAN: &[u8] = b"lanes,1\nmetaframe,32\nwarmup,4\nchannel,1,a.pcap\nchannel,2,b.pcap\nout,o\n";
 
 /// A call of the store or of the sink.
 #[derive(Clone, Copy, Debug)]
