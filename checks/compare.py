@@ -17,9 +17,9 @@ import random
 import struct
 import subprocess
 import sys
-import tempfile
 
-from rows import SECONDS, files_in, knows, left_by
+from modeled import left_by_model
+from rows import SECONDS, knows, left_by
 
 # For each kind the commands that it wants.
 KINDS = {
@@ -87,26 +87,12 @@ def stage_of(program):
     return found
 
 
-def model_leaves(words, files, stage):
-    with tempfile.TemporaryDirectory() as folder:
-        for name, data in files.items():
-            with open(os.path.join(folder, name), "wb") as file:
-                file.write(data)
-        here = os.getcwd()
-        os.chdir(folder)
-        try:
-            status, text = reference.run(words, stage)
-        finally:
-            os.chdir(here)
-        return status, text.encode(), b"", files_in(folder)
-
-
 def differences(program, words, files, stage):
     try:
         mine = left_by(program, words, files)
     except subprocess.TimeoutExpired:
         return ["the program does not end in %d seconds" % SECONDS]
-    model = model_leaves(words, files, stage)
+    model = left_by_model(reference, words, files, stage)
     told = []
     for name, a, b in zip(("status", "text", "standard error"), mine, model):
         if a != b:

@@ -11,10 +11,10 @@ import hashlib
 import os
 import random
 import sys
-import tempfile
 
 from captures import capture
-from rows import files_in, left_by
+from modeled import left_by_model
+from rows import left_by
 
 WANTED = os.path.join(os.path.dirname(os.path.abspath(__file__)), "hostile.txt")
 STAGE = 14
@@ -60,18 +60,10 @@ def lanes_with(lanes, **changed):
     return {name: data for name, data in files.items() if data is not None}
 
 
-def on_one_lane(lane):
-    """The cases of one lane, which has the words of the two captures: its metaframes have 32 words, from bit 0 on."""
-    r = random.Random(1)
+def losing_locks(lane):
+    """The same lane with wrong headers, state words and Syncs, as many as a lock stands and one more."""
     syncs, states = range(0, 1000, METAFRAME), range(1, 1000, METAFRAME)
-    cases = {
-        "no bytes": b"", "one byte": lane[:1], "zeros": bytes(2412), "ones": b"\xff" * 2412, "fifty-fives": b"\x55" * 2412,
-        "random bytes": r.randbytes(2412), "a lane between random bytes": r.randbytes(50) + lane + r.randbytes(50),
-        "a lane cut in half": lane[:1206], "a lane without its last byte": lane[:-1], "a lane without its first byte": lane[1:],
-        "a lane twice": lane + lane, "a lane that begins again": lane[:1500] + lane, "each byte reversed": bytes(int("{:08b}".format(b)[::-1], 2) for b in lane),
-        "all bits inverted": bytes(255 - b for b in lane), "bytes turned around": lane[::-1],
-        "sixty-six ones in front": Bits(lane).after_ones(66).bytes(), "four Syncs alone": lane[:67 * 97 // 8], "a thousand ones behind": lane + b"\xff" * 125,
-    }
+    cases = {}
     headers = Bits(lane)
     for word in range(110, 126):
         headers.invert(word, 1)
@@ -92,6 +84,21 @@ def on_one_lane(lane):
         cases["%d wrong Syncs in a row" % count] = damaged.bytes()
     cases["a wrong state word behind the declaring Sync"] = Bits(lane).invert(97, 5).bytes()
     cases["a bit of the state behind the declaring Sync"] = Bits(lane).invert(97, 40).bytes()
+    return cases
+
+
+def on_one_lane(lane):
+    """The cases of one lane, which has the words of the two captures: its metaframes have 32 words, from bit 0 on."""
+    r = random.Random(1)
+    cases = {
+        "no bytes": b"", "one byte": lane[:1], "zeros": bytes(2412), "ones": b"\xff" * 2412, "fifty-fives": b"\x55" * 2412,
+        "random bytes": r.randbytes(2412), "a lane between random bytes": r.randbytes(50) + lane + r.randbytes(50),
+        "a lane cut in half": lane[:1206], "a lane without its last byte": lane[:-1], "a lane without its first byte": lane[1:],
+        "a lane twice": lane + lane, "a lane that begins again": lane[:1500] + lane, "each byte reversed": bytes(int("{:08b}".format(b)[::-1], 2) for b in lane),
+        "all bits inverted": bytes(255 - b for b in lane), "bytes turned around": lane[::-1],
+        "sixty-six ones in front": Bits(lane).after_ones(66).bytes(), "four Syncs alone": lane[:67 * 97 // 8], "a thousand ones behind": lane + b"\xff" * 125,
+    }
+    cases.update(losing_locks(lane))
     cases["a word slipped by one bit"] = Bits(lane).without(67 * 130).bytes()
     cases["dark for three metaframes"] = Bits(lane).put(67 * 140, 67 * 96, 0).bytes()
     cases["two words damaged"] = Bits(lane).invert(150, 9).invert(230, 9).bytes()
@@ -165,21 +172,8 @@ def told(name, words, before, ended):
 def by_model(folder):
     """A run of the model in this folder."""
     sys.path.insert(0, folder)
-    import reference
-
-    def run(words, before):
-        here = os.getcwd()
-        with tempfile.TemporaryDirectory() as place:
-            for name, data in before.items():
-                with open(os.path.join(place, name), "wb") as file:
-                    file.write(data)
-            os.chdir(place)
-            try:
-                status, text = reference.run(words, STAGE)
-            finally:
-                os.chdir(here)
-            return status, text.encode(), b"", files_in(place)
-    return run
+    reference = __import__("reference")
+    return lambda words, before: left_by_model(reference, words, before, STAGE)
 
 
 def main():

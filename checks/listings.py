@@ -12,27 +12,13 @@ import argparse
 import os
 import random
 import sys
-import tempfile
 
-from rows import files_in, knows, left_by
+from modeled import left_by_model
+from rows import knows, left_by
 
 # The stage of the model that knows listings.
 LISTINGS = 20
 SYNC = 0x78F678F678F678F6
-
-
-def model_leaves(words, files):
-    with tempfile.TemporaryDirectory() as folder:
-        for name, data in files.items():
-            with open(os.path.join(folder, name), "wb") as file:
-                file.write(data)
-        here = os.getcwd()
-        os.chdir(folder)
-        try:
-            status, text = reference.run(words, LISTINGS)
-        finally:
-            os.chdir(here)
-        return status, text.encode(), b"", files_in(folder)
 
 
 # ---- random files
@@ -85,7 +71,7 @@ def listed_both_ways(program, seed):
     r = random.Random("listed %d" % seed)
     name, data = ("x.words", words_file(r)) if seed % 2 == 0 else ("x.0", lane(r))
     first = left_by(program, ["list", name], {name: data})
-    if first != model_leaves(["list", name], {name: data}):
+    if first != left_by_model(reference, ["list", name], {name: data}, LISTINGS):
         return "%s is not listed as the model lists it" % name
     if first[0] != 0:
         return ""
@@ -164,7 +150,7 @@ def mutated_text(r):
 def assembled_alike(program, seed):
     """What differs from the model in the assembling of a mutated text, or nothing."""
     text = mutated_text(random.Random("mutated %d" % seed))
-    mine, model = left_by(program, ["assemble", "x.txt"], {"x.txt": text}), model_leaves(["assemble", "x.txt"], {"x.txt": text})
+    mine, model = left_by(program, ["assemble", "x.txt"], {"x.txt": text}), left_by_model(reference, ["assemble", "x.txt"], {"x.txt": text}, LISTINGS)
     return "" if mine == model else "program %r, model %r" % (mine[:2], model[:2])
 
 

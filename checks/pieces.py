@@ -7,6 +7,7 @@ LIBRARY is faults/failing.c, built. A write that fails adds nothing, so what sta
     burst   of a hundred packets of 1,514 bytes: two pieces of 65,536 bytes, a rest, and the text in one write
     send    of eight lanes of 171,520 bytes: pieces of 65,536 bytes alone, then the rests in the order of creation, then the text
     receive of a lane with a hundred packets: at the last read whose failing ends the run, the capture has a piece already
+    generate of a case: each of its files is written to its end before the next, pieces and then a rest
 """
 
 import os
@@ -73,6 +74,18 @@ class Checks:
         self.holds("receive, the last read: a piece of the capture stands", PIECE <= len(held))
         self.holds("receive, the last read: its lane is told", last and last.text == b"store fault: o.lane.0\n")
 
+    def generate(self):
+        right = self.run(["generate", "7", "g"], {}).files
+        captures = sorted((name for name in right if name.startswith("g.") and name.endswith(".pcap") and ".out." not in name), key=lambda name: int(name.split(".")[1]))
+        names = captures + ["g.schedule", "g.plan"]
+        at = 1
+        for place, name in enumerate(names):
+            length = len(right[name])
+            for done in range(0, length, PIECE):
+                wanted = [len(right[n]) for n in names[:place]] + [done] + [0] * (len(names) - place - 1)
+                self.lengths(["generate", "7", "g"], {}, names, at, wanted, b"store fault: %s\n" % name.encode())
+                at += 1
+
 
 def main():
     program, library = sys.argv[1:]
@@ -82,6 +95,8 @@ def main():
     checks.send()
     if b"usage" not in subprocess.run([program, "receive", "none.plan"], capture_output=True).stdout:
         checks.receive()
+    if b"usage" not in subprocess.run([program, "generate", "0", "absent/g"], capture_output=True).stdout:
+        checks.generate()
     print("pieces: %d passed, %d failed" % (checks.passed, checks.failed))
     return 1 if checks.failed else 0
 

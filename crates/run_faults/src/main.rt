@@ -2,14 +2,13 @@
 //! bytes the outputs have then, and what was printed; or which file is no prefix of what it would hold.
 #![tactic(auto)]
 
-mod captures;
 mod trial;
 
 use interlaken::number;
 use lk_outside::MemStore;
 use std::alloc::Global;
 use std::io;
-use trial::{Call, Ended, run_failing};
+use trial::{Call, Ended, run_failing, run_whole};
 
 // No link of this program makes more calls of a kind.
 const MOST: u64 = 100;
@@ -61,8 +60,8 @@ fn print_length(rt: &HostRuntime, file: Option<&[u8]>) -> io::Result<()> {
 }
 
 // Tells how a run ended.
-fn print_ended(rt: &HostRuntime, call: Call, at: u64, ended: &Ended) -> io::Result<()> {
-    print!(rt; "{call:?} {at}: status {}, bytes", number(ended.status))?;
+fn print_ended(rt: &HostRuntime, ended: &Ended) -> io::Result<()> {
+    print!(rt; "status {}, bytes", number(ended.status))?;
     for name in OUTPUTS {
         print_length(rt, ended.store.get(name))?;
     }
@@ -83,7 +82,8 @@ fn fail_each(rt: &HostRuntime, call: Call, whole: &Ended) -> io::Result<()> {
         if ended.status == whole.status {
             return println!(rt; "{call:?}: calls {at}");
         }
-        print_ended(rt, call, at, &ended)?;
+        print!(rt; "{call:?} {at}: ")?;
+        print_ended(rt, &ended)?;
         if let Some(name) = wrong_file(&ended.store, &whole.store) {
             println!(rt; "not as it has to be: {name}")?;
         }
@@ -92,10 +92,10 @@ fn fail_each(rt: &HostRuntime, call: Call, whole: &Ended) -> io::Result<()> {
 }
 
 fn main(rt: HostRuntime) -> io::Result<()> {
-    let Ok(whole) = run_failing(rt.alloc(), Call::Write, MOST) else {
+    let Ok(whole) = run_whole(rt.alloc()) else {
         return println!(rt; "no memory");
     };
-    print_ended(&rt, Call::Write, MOST, &whole)?;
+    print_ended(&rt, &whole)?;
     fail_each(&rt, Call::Read, &whole)?;
     fail_each(&rt, Call::Create, &whole)?;
     fail_each(&rt, Call::Append, &whole)?;

@@ -1,9 +1,9 @@
 ghost use Rattle.std.specs.Prelude.{◌≡◌, IfOk};
 
-use crate::captures::capture_of;
 use interlaken::{Status, run};
 use lk_base::OutOfMemory;
 use lk_outside::{MemSink, MemStore};
+use pcap_files::{write_header, write_packet};
 use std::alloc::{AllocError, Global};
 
 const PLAN: &[u8] = b"lanes,1\nmetaframe,32\nwarmup,4\nchannel,1,a.pcap\nchannel,2,b.pcap\nout,o\n";
@@ -25,15 +25,32 @@ pub struct Ended {
     pub out: MemSink,
 }
 
-// The plan and its two captures, and which call is to fail.
-fn store_of(alloc: Global, call: Call, number: u64) -> Result<MemStore, OutOfMemory>
+// A capture of packets of 300 and of 40 bytes.
+fn capture(alloc: Global) -> Result<Vec<u8>, OutOfMemory> {
+    let mut capture = Vec::new(alloc);
+    write_header(alloc, &mut capture, 1)?;
+    write_packet(alloc, &mut capture, &[7; 300])?;
+    write_packet(alloc, &mut capture, &[9; 40])?;
+    Ok(capture)
+}
+
+// The plan and its two captures.
+fn store_of(alloc: Global) -> Result<MemStore, OutOfMemory>
     ensures { IfOk result (λ store. store.faults ≡ 0) }
 {
-    let capture = capture_of(alloc, &[300, 40])?;
+    let capture = capture(alloc)?;
     let mut store = MemStore::make(alloc);
     store.put("p.plan", PLAN)?;
     store.put("a.pcap", &capture)?;
     store.put("b.pcap", &capture)?;
+    Ok(store)
+}
+
+// The same, where the call of this kind and number is to fail.
+fn failing_store(alloc: Global, call: Call, number: u64) -> Result<MemStore, OutOfMemory>
+    ensures { IfOk result (λ store. store.faults ≡ 0) }
+{
+    let mut store = store_of(alloc)?;
     let failing = [number];
     match call {
         Call::Read => store.fail(&failing, &[], &[])?,
@@ -44,8 +61,8 @@ fn store_of(alloc: Global, call: Call, number: u64) -> Result<MemStore, OutOfMem
     Ok(store)
 }
 
-// The sink, and whether its write is to fail.
-fn sink_of(alloc: Global, call: Call, number: u64) -> Result<MemSink, OutOfMemory>
+// The sink, where the write of this number is to fail, if the call is a write.
+fn failing_sink(alloc: Global, call: Call, number: u64) -> Result<MemSink, OutOfMemory>
     ensures { IfOk result (λ out. out.faults ≡ 0) }
 {
     let mut out = MemSink::make(alloc);
@@ -63,11 +80,20 @@ fn words(alloc: Global) -> Result<Vec<String>, AllocError> {
     Ok(words)
 }
 
+/// The link of the plan, where no call fails.
+pub fn run_whole(alloc: Global) -> Result<Ended, OutOfMemory> {
+    let words = words(alloc)?;
+    let mut store = store_of(alloc)?;
+    let mut out = MemSink::make(alloc);
+    let status = run(alloc, &words, &mut store, &mut out);
+    Ok(Ended { status, store, out })
+}
+
 /// The link of the plan, where the call of this kind and number fails.
 pub fn run_failing(alloc: Global, call: Call, number: u64) -> Result<Ended, OutOfMemory> {
     let words = words(alloc)?;
-    let mut store = store_of(alloc, call, number)?;
-    let mut out = sink_of(alloc, call, number)?;
+    let mut store = failing_store(alloc, call, number)?;
+    let mut out = failing_sink(alloc, call, number)?;
     let status = run(alloc, &words, &mut store, &mut out);
     Ok(Ended { status, store, out })
 }
