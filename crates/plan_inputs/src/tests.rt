@@ -49,16 +49,6 @@ fn read_all(alloc: Global, store: &mut MemStore) -> Result<(PlanReading, Schedul
     Ok((reading, schedule))
 }
 
-// Whether the store fails at the file of this name, where this read is to fail.
-fn fails_at(alloc: Global, read: u64, name: &str) -> Result<bool, OutOfMemory> {
-    let mut store = store_of(alloc)?;
-    store.fail(&[read], &[], &[])?;
-    match read_all(alloc, &mut store) {
-        Err(Stop::Store(found)) => Ok(found.as_str() == name),
-        _ => Ok(false),
-    }
-}
-
 #[test]
 fn a_plan_and_then_its_inputs(rt: HostRuntime) -> Result<(), Fail> {
     let alloc = rt.alloc();
@@ -96,17 +86,5 @@ fn a_plan_with_its_inputs_and_its_schedule(rt: HostRuntime) -> Result<(), Fail> 
         assert_eq!(rt; (row.slot, row.channel, row.on), (6, 3, false));
     }
     assert_eq!(rt; schedule.skews.as_slice(), [0u32, 9].as_slice());
-    Ok(())
-}
-
-// Each file is read twice: its bytes, and then its end.
-#[test]
-fn a_failed_read_names_its_file(rt: HostRuntime) -> Result<(), Fail> {
-    let alloc = rt.alloc();
-    let reads = [(0, "p"), (2, "a"), (5, "b"), (6, "f"), (9, "l"), (10, "s")];
-    for (read, name) in reads {
-        assert!(rt; fails_at(alloc, read, name)?);
-    }
-    assert!(rt; !fails_at(alloc, 12, "s")?);
     Ok(())
 }

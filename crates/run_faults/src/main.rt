@@ -1,5 +1,5 @@
-//! Fails each read, create and append of a link over a store in memory in turn, and its one write, and tells of each how many
-//! bytes the outputs have then, and what was printed; or which file is no prefix of what it would hold.
+//! Runs commands over a store in memory. Fails each read, create and append of each of them in turn, and its one write, and tells
+//! how many bytes the outputs have then, and what was printed; or which file is no prefix of what it would hold.
 #![tactic(auto)]
 
 mod trial;
@@ -8,14 +8,16 @@ use interlaken::number;
 use lk_outside::MemStore;
 use std::alloc::Global;
 use std::io;
-use trial::{Call, Ended, run_failing, run_whole};
+use trial::{Call, Ended, INPUTS, run_failing, run_whole};
 
-// No link of this program makes more calls of a kind.
+// No command of this program makes more calls of a kind.
 const MOST: u64 = 100;
 
-const INPUTS: [&str; 3] = ["p.plan", "a.pcap", "b.pcap"];
+const OUTPUTS_OF_LINK: [&str; 4] = ["o.lane.0", "o.1.pcap", "o.2.pcap", "o.spans.csv"];
 
-const OUTPUTS: [&str; 4] = ["o.lane.0", "o.1.pcap", "o.2.pcap", "o.spans.csv"];
+const OUTPUTS_OF_BURST: [&str; 1] = ["o.words"];
+
+const OUTPUTS_OF_JOIN: [&str; 2] = ["w.words.0.pcap", "w.words.spans.csv"];
 
 // Whether a file is there with a prefix of its whole content, or is not there.
 fn is_prefix(file: Option<&[u8]>, whole: Option<&[u8]>) -> bool {
@@ -35,12 +37,16 @@ fn is_same(file: Option<&[u8]>, other: Option<&[u8]>) -> bool {
     }
 }
 
-// The first file that is not as it has to be: an output that is no prefix of what the link without a fault leaves, or an input
-// that was changed.
-fn wrong_file(store: &MemStore, whole: &MemStore) -> Option<&'static str> {
-    for name in OUTPUTS {
-        if !is_prefix(store.get(name), whole.get(name)) {
-            return Some(name);
+// The first file that is not as it has to be: an output that is no prefix of what the command without a fault leaves, or an
+// input that was changed.
+fn wrong_file(
+    store: &MemStore,
+    whole: &MemStore,
+    outputs: &[&'static str],
+) -> Option<&'static str> {
+    for name in outputs {
+        if !is_prefix(store.get(*name), whole.get(*name)) {
+            return Some(*name);
         }
     }
     for name in INPUTS {
@@ -60,10 +66,10 @@ fn print_length(rt: &HostRuntime, file: Option<&[u8]>) -> io::Result<()> {
 }
 
 // Tells how a run ended.
-fn print_ended(rt: &HostRuntime, ended: &Ended) -> io::Result<()> {
+fn print_ended(rt: &HostRuntime, ended: &Ended, outputs: &[&'static str]) -> io::Result<()> {
     print!(rt; "status {}, bytes", number(ended.status))?;
-    for name in OUTPUTS {
-        print_length(rt, ended.store.get(name))?;
+    for name in outputs {
+        print_length(rt, ended.store.get(*name))?;
     }
     print!(rt; ", ")?;
     match str::from_utf8(ended.out.written()) {
@@ -74,30 +80,44 @@ fn print_ended(rt: &HostRuntime, ended: &Ended) -> io::Result<()> {
 }
 
 // Fails the calls of a kind in turn, until one is not made.
-fn fail_each(rt: &HostRuntime, call: Call, whole: &Ended) -> io::Result<()> {
+fn fail_each(
+    rt: &HostRuntime,
+    words: [&str; 2],
+    call: Call,
+    whole: &Ended,
+    outputs: &[&'static str],
+) -> io::Result<()> {
     for at in 0..MOST {
-        let Ok(ended) = run_failing(rt.alloc(), call, at) else {
+        let Ok(ended) = run_failing(rt.alloc(), words, call, at) else {
             return println!(rt; "no memory");
         };
         if ended.status == whole.status {
             return println!(rt; "{call:?}: calls {at}");
         }
         print!(rt; "{call:?} {at}: ")?;
-        print_ended(rt, &ended)?;
-        if let Some(name) = wrong_file(&ended.store, &whole.store) {
+        print_ended(rt, &ended, outputs)?;
+        if let Some(name) = wrong_file(&ended.store, &whole.store, outputs) {
             println!(rt; "not as it has to be: {name}")?;
         }
     }
     println!(rt; "{call:?}: no end")
 }
 
-fn main(rt: HostRuntime) -> io::Result<()> {
-    let Ok(whole) = run_whole(rt.alloc()) else {
+// Runs a command, and then again for each of its calls, which fails.
+fn try_command(rt: &HostRuntime, words: [&str; 2], outputs: &[&'static str]) -> io::Result<()> {
+    let Ok(whole) = run_whole(rt.alloc(), words) else {
         return println!(rt; "no memory");
     };
-    print_ended(&rt, &whole)?;
-    fail_each(&rt, Call::Read, &whole)?;
-    fail_each(&rt, Call::Create, &whole)?;
-    fail_each(&rt, Call::Append, &whole)?;
-    fail_each(&rt, Call::Write, &whole)
+    println!(rt; "{} {}", words[0], words[1])?;
+    print_ended(rt, &whole, outputs)?;
+    fail_each(rt, words, Call::Read, &whole, outputs)?;
+    fail_each(rt, words, Call::Create, &whole, outputs)?;
+    fail_each(rt, words, Call::Append, &whole, outputs)?;
+    fail_each(rt, words, Call::Write, &whole, outputs)
+}
+
+fn main(rt: HostRuntime) -> io::Result<()> {
+    try_command(&rt, ["link", "p.plan"], &OUTPUTS_OF_LINK)?;
+    try_command(&rt, ["burst", "p.plan"], &OUTPUTS_OF_BURST)?;
+    try_command(&rt, ["join", "w.words"], &OUTPUTS_OF_JOIN)
 }

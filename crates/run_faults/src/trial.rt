@@ -6,7 +6,20 @@ use lk_outside::{MemSink, MemStore};
 use pcap_files::{write_header, write_packet};
 use std::alloc::{AllocError, Global};
 
-const PLAN: &[u8] = b"lanes,1\nmetaframe,32\nwarmup,4\nchannel,1,a.pcap\nchannel,2,b.pcap\nout,o\n";
+/// The files that are there before.
+pub const INPUTS: [&str; 7] = ["p.plan", "a.pcap", "b.pcap", "f", "l", "s", "w.words"];
+
+const PLAN: &[u8] =
+    b"lanes,1\nmetaframe,32\nwarmup,4\nchannel,1,a.pcap\nchannel,2,b.pcap\nflow,f\nlocal,l\nschedule,s\nout,o\n";
+
+const FLOW: &[u8] = b"5,81FFFF0000188177\n";
+
+const LOCAL: &[u8] = b"6,2,off\n";
+
+const SCHEDULE: &[u8] = b"skew,0,5\n";
+
+// An idle word.
+const WORDS: [u8; 9] = [2, 0x81, 0xFF, 0xFF, 0, 0, 0x18, 0x81, 0x77];
 
 /// A call of the store or of the sink.
 #[derive(Clone, Copy, Debug)]
@@ -34,7 +47,7 @@ fn capture(alloc: Global) -> Result<Vec<u8>, OutOfMemory> {
     Ok(capture)
 }
 
-// The plan and its two captures.
+// The plan with its two captures and its rows, and a words file.
 fn store_of(alloc: Global) -> Result<MemStore, OutOfMemory>
     ensures { IfOk result (λ store. store.faults ≡ 0) }
 {
@@ -43,6 +56,10 @@ fn store_of(alloc: Global) -> Result<MemStore, OutOfMemory>
     store.put("p.plan", PLAN)?;
     store.put("a.pcap", &capture)?;
     store.put("b.pcap", &capture)?;
+    store.put("f", FLOW)?;
+    store.put("l", LOCAL)?;
+    store.put("s", SCHEDULE)?;
+    store.put("w.words", &WORDS)?;
     Ok(store)
 }
 
@@ -72,26 +89,31 @@ fn failing_sink(alloc: Global, call: Call, number: u64) -> Result<MemSink, OutOf
     Ok(out)
 }
 
-fn words(alloc: Global) -> Result<Vec<String>, AllocError> {
+fn words_of(alloc: Global, texts: [&str; 2]) -> Result<Vec<String>, AllocError> {
     let mut words = Vec::new(alloc);
-    for text in ["link", "p.plan"] {
+    for text in texts {
         words.push(String::from_str(alloc, text)?)?;
     }
     Ok(words)
 }
 
-/// The link of the plan, where no call fails.
-pub fn run_whole(alloc: Global) -> Result<Ended, OutOfMemory> {
-    let words = words(alloc)?;
+/// The command of these words, where no call fails.
+pub fn run_whole(alloc: Global, texts: [&str; 2]) -> Result<Ended, OutOfMemory> {
+    let words = words_of(alloc, texts)?;
     let mut store = store_of(alloc)?;
     let mut out = MemSink::make(alloc);
     let status = run(alloc, &words, &mut store, &mut out);
     Ok(Ended { status, store, out })
 }
 
-/// The link of the plan, where the call of this kind and number fails.
-pub fn run_failing(alloc: Global, call: Call, number: u64) -> Result<Ended, OutOfMemory> {
-    let words = words(alloc)?;
+/// The command of these words, where the call of this kind and number fails.
+pub fn run_failing(
+    alloc: Global,
+    texts: [&str; 2],
+    call: Call,
+    number: u64,
+) -> Result<Ended, OutOfMemory> {
+    let words = words_of(alloc, texts)?;
     let mut store = failing_store(alloc, call, number)?;
     let mut out = failing_sink(alloc, call, number)?;
     let status = run(alloc, &words, &mut store, &mut out);
