@@ -23,6 +23,3 @@ pub use counting::accidents;
 pub use counts::Accidents;
 pub use damaging::damage;
 pub use missing::{MissingPacket, missing_of};
-
-#[cfg(test)]
-mod tests;

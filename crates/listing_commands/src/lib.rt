@@ -6,8 +6,6 @@ mod conversion;
 mod law;
 mod limits;
 mod list_file;
-#[cfg(test)]
-mod tests;
 
 pub use assemble_text::AssembleText;
 pub use conversion::Made;

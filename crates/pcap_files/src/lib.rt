@@ -7,8 +7,6 @@ mod error;
 mod law;
 mod order;
 mod reader;
-#[cfg(test)]
-mod tests;
 mod writer;
 
 pub use capture::{CaptureError, packets_of};

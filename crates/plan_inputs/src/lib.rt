@@ -9,8 +9,6 @@ mod packet;
 mod plan_file;
 mod reading;
 mod row_files;
-#[cfg(test)]
-mod tests;
 
 pub use inputs::{PlanInputs, PlanReading};
 pub use law::{capture_packets, one_source, plan_packets, some_plan_stream, some_source};

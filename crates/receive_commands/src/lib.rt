@@ -16,8 +16,6 @@ mod outputs;
 mod plan_words;
 mod receipt;
 mod receive;
-#[cfg(test)]
-mod tests;
 mod words;
 mod words_file;
 

@@ -26,6 +26,3 @@ pub use law::{
 };
 pub use list::list_words;
 pub use texts::assemble;
-
-#[cfg(test)]
-mod tests;

@@ -1,0 +1,20 @@
+//! The calls of `link_cases`.
+use crate::telling::{tell, text_in};
+use link_cases::generate;
+use lk_base::OutOfMemory;
+use std::alloc::Global;
+use std::io;
+
+fn a_case(alloc: Global) -> Result<String, OutOfMemory> {
+    let made = generate(alloc, 1044146, "g")?;
+    let captures = made.captures.len();
+    Ok(format!(in alloc;
+        "captures {captures}, schedule {:?}",
+        text_in(&made.schedule)
+    )?)
+}
+
+/// Tells what is drawn from a number.
+pub fn tell_all(rt: &HostRuntime) -> io::Result<()> {
+    tell(rt, "the case 1044146", a_case(rt.alloc()))
+}

@@ -1,0 +1,141 @@
+//! The calls of `plan_inputs`: plans and their inputs, read from a store in memory.
+ghost use Rattle.std.specs.Prelude.{◌≡◌, ◌<◌, ◌≤◌, ◌^◌, IfOk, length};
+
+use crate::telling::tell;
+use link_plan::{LocalRow, Plan, Schedule};
+use lk_base::OutOfMemory;
+use lk_outside::MemStore;
+use pcap_files::{write_header, write_packet};
+use plan_inputs::{
+    ChannelPacket, PlanInputs, PlanReading, read_inputs, read_plan_file, read_plan_inputs,
+    read_schedule_file,
+};
+use run_shell::Stop;
+use std::alloc::Global;
+use std::io;
+
+const PLAN: &str =
+    "lanes,2\nmetaframe,32\nchannel,7,a\nchannel,3,b\nflow,f\nlocal,l\nschedule,s\nout,o\n";
+
+// A capture of one packet.
+fn capture_of(alloc: Global, packet: &[u8]) -> Result<Vec<u8>, OutOfMemory>
+    requires least { 1 ≤ length packet.now }
+    requires most { length packet.now ≤ 262144 }
+{
+    let mut capture = Vec::new(alloc);
+    write_header(alloc, &mut capture, 1)?;
+    write_packet(alloc, &mut capture, packet)?;
+    Ok(capture)
+}
+
+// A store of a plan, two captures and three files of rows.
+fn store_of(alloc: Global) -> Result<MemStore, OutOfMemory>
+    ensures { IfOk result (λ store. store.faults ≡ 0) }
+{
+    let a = capture_of(alloc, &[1, 2, 3])?;
+    let b = capture_of(alloc, &[4])?;
+    let mut store = MemStore::make(alloc);
+    store.put("p", PLAN.as_bytes())?;
+    store.put("a", &a)?;
+    store.put("b", &b)?;
+    store.put("f", b"5,81BFFF00004B8D9D\n".as_slice())?;
+    store.put("l", b"6,3,off\n".as_slice())?;
+    store.put("s", b"skew,1,9\n".as_slice())?;
+    Ok(store)
+}
+
+// Reads the plan, and then its inputs.
+fn read_in_turn(alloc: Global, store: &mut MemStore) -> Result<(Plan, PlanInputs), Stop>
+    requires { store.old.faults < 2 ^ 60 }
+{
+    let plan = read_plan_file(alloc, store, "p")?;
+    let inputs = read_inputs(alloc, store, &plan)?;
+    Ok((plan, inputs))
+}
+
+// Reads the plan with its inputs, and its schedule.
+fn read_all(alloc: Global, store: &mut MemStore) -> Result<(PlanReading, Schedule), Stop>
+    requires { store.old.faults < 2 ^ 60 }
+{
+    let reading = read_plan_inputs(alloc, store, "p")?;
+    let schedule = read_schedule_file(alloc, store, &reading.plan)?;
+    Ok((reading, schedule))
+}
+
+// Each packet with its channel.
+fn packets_text(alloc: Global, packets: &[ChannelPacket]) -> Result<String, OutOfMemory> {
+    let mut text = String::new(alloc);
+    for packet in packets {
+        let one = format!(in alloc; " {}: {:?}", packet.channel, packet.bytes.as_slice())?;
+        text.push_str(one.as_str())?;
+    }
+    Ok(text)
+}
+
+fn inputs_text(alloc: Global, plan: &Plan, inputs: &PlanInputs) -> Result<String, OutOfMemory> {
+    let packets = packets_text(alloc, &inputs.packets)?;
+    Ok(format!(in alloc;
+        "channels {}, packets{packets}, flow rows {}, local rows {}",
+        plan.channels.len(),
+        inputs.flow.len(),
+        inputs.local.len()
+    )?)
+}
+
+fn local_text(alloc: Global, rows: &[LocalRow]) -> Result<String, OutOfMemory> {
+    let mut text = String::new(alloc);
+    for row in rows {
+        let one = format!(in alloc; " {:?}", (row.slot, row.channel, row.on))?;
+        text.push_str(one.as_str())?;
+    }
+    Ok(text)
+}
+
+fn slots_text(alloc: Global, inputs: &PlanInputs) -> Result<String, OutOfMemory> {
+    let mut text = String::new(alloc);
+    for row in &inputs.flow {
+        let one = format!(in alloc; " {}", row.slot)?;
+        text.push_str(one.as_str())?;
+    }
+    Ok(text)
+}
+
+fn reading_text(
+    alloc: Global,
+    reading: &PlanReading,
+    schedule: &Schedule,
+) -> Result<String, OutOfMemory> {
+    let slots = slots_text(alloc, &reading.inputs)?;
+    let local = local_text(alloc, &reading.inputs.local)?;
+    Ok(format!(in alloc;
+        "packets {}, slots of flow rows{slots}, local rows{local}, skews {:?}",
+        reading.inputs.packets.len(),
+        schedule.skews.as_slice()
+    )?)
+}
+
+fn in_turn(alloc: Global) -> Result<String, OutOfMemory> {
+    let mut store = store_of(alloc)?;
+    match read_in_turn(alloc, &mut store) {
+        Ok((plan, inputs)) => inputs_text(alloc, &plan, &inputs),
+        Err(stop) => Ok(format!(in alloc; "{stop:?}")?),
+    }
+}
+
+fn at_once(alloc: Global) -> Result<String, OutOfMemory> {
+    let mut store = store_of(alloc)?;
+    match read_all(alloc, &mut store) {
+        Ok((reading, schedule)) => reading_text(alloc, &reading, &schedule),
+        Err(stop) => Ok(format!(in alloc; "{stop:?}")?),
+    }
+}
+
+/// Tells what is read of a plan and the files that it names.
+pub fn tell_all(rt: &HostRuntime) -> io::Result<()> {
+    tell(rt, "a plan, and then its inputs", in_turn(rt.alloc()))?;
+    tell(
+        rt,
+        "a plan with its inputs, and its schedule",
+        at_once(rt.alloc()),
+    )
+}
