@@ -1,5 +1,5 @@
 //! The calls of `tx_end` on lanes.
-ghost use Rattle.std.specs.Prelude.{ℕ, List, [], IfOk, OnOk};
+ghost use Rattle.std.specs.Prelude.{◌≡◌, ℕ, List, [], length, IfOk, OnOk};
 ghost use Rattle.lk_base.specs.Link.{Settings};
 ghost use Rattle.lk_base.specs.declared.word.Word.{Word};
 ghost use Rattle.stream_model.specs.BurstStream.{Source};
@@ -20,15 +20,22 @@ fn link_of(lanes: u32, metaframe: u32) -> Result<Link, OutOfMemory> {
 }
 
 // Channels 1 and 2, each with a packet of 300 bytes and one of 40.
-fn two_channels(alloc: Global, link: &Link) -> Result<Transmitter, OutOfMemory>
+fn two_channels<'a>(
+    alloc: Global,
+    link: &Link,
+    long: &'a [u8],
+    short: &'a [u8],
+) -> Result<Transmitter<'a>, OutOfMemory>
+    requires long { length long.now ≡ 300 }
+    requires short { length short.now ≡ 40 }
     ensures { IfOk result (λ t. (s : Settings) × (source : Source) × Sends t s source [] []) }
 {
     let _shape = link.shape();
     let mut transmitter = Transmitter::make(alloc, link, &[1, 2], &[1, 2], &[], &[])?;
-    transmitter.packet(1, &[7; 300])?;
-    transmitter.packet(1, &[7; 40])?;
-    transmitter.packet(2, &[7; 300])?;
-    transmitter.packet(2, &[7; 40])?;
+    transmitter.packet(1, long)?;
+    transmitter.packet(1, short)?;
+    transmitter.packet(2, long)?;
+    transmitter.packet(2, short)?;
     Ok(transmitter)
 }
 
@@ -80,7 +87,7 @@ fn sent_text(alloc: Global, sent: &[Sent]) -> Result<String, OutOfMemory> {
 }
 
 fn one_lane(alloc: Global) -> Result<String, OutOfMemory> {
-    let mut transmitter = two_channels(alloc, &link_of(1, 32)?)?;
+    let mut transmitter = two_channels(alloc, &link_of(1, 32)?, &[7; 300], &[7; 40])?;
     let file = file_of(alloc, &mut transmitter, 0)?;
     let whole = file_text(alloc, &file)?;
     let start = hex_of(alloc, &file[..file.len().min(25)])?;
@@ -92,7 +99,7 @@ fn one_lane(alloc: Global) -> Result<String, OutOfMemory> {
 
 // A lane of two whose files end within a byte.
 fn one_of_two(alloc: Global, lane: u32) -> Result<String, OutOfMemory> {
-    let mut transmitter = two_channels(alloc, &link_of(2, 33)?)?;
+    let mut transmitter = two_channels(alloc, &link_of(2, 33)?, &[7; 300], &[7; 40])?;
     let file = file_of(alloc, &mut transmitter, lane)?;
     file_text(alloc, &file)
 }

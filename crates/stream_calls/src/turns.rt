@@ -1,5 +1,5 @@
 //! The calls of `burst_scheduler`.
-ghost use Rattle.std.specs.Prelude.{◌≡◌, ℕ, ◌<◌, List, [], false, IfOk, OnOk};
+ghost use Rattle.std.specs.Prelude.{◌≡◌, ℕ, ◌<◌, List, [], length, false, IfOk, OnOk};
 ghost use Rattle.burst_scheduler.specs.Asked.{Asked};
 ghost use Rattle.burst_scheduler.specs.Gives.{Gives};
 
@@ -9,8 +9,14 @@ use lk_base::{OutOfMemory, Shape, Word};
 use std::alloc::Global;
 use std::io;
 
-// Channels 1 and 2, each with a packet of 300 bytes and one of 40, on one lane with metaframes of 32 words.
-fn two_channels(alloc: Global) -> Result<Scheduler, OutOfMemory>
+// Channels 1 and 2, each with a long packet and a short one, on one lane with metaframes of 32 words.
+fn two_channels<'a>(
+    alloc: Global,
+    long: &'a [u8],
+    short: &'a [u8],
+) -> Result<Scheduler<'a>, OutOfMemory>
+    requires long { length long.now ≡ 300 }
+    requires short { length short.now ≡ 40 }
     ensures { IfOk result (λ s. (a : Asked) × Gives s a × (a.words ≡ []) × (a.closed ≡ false) × (a.waits ≡ false)) }
 {
     let shape = Shape {
@@ -20,10 +26,10 @@ fn two_channels(alloc: Global) -> Result<Scheduler, OutOfMemory>
         warmup: 4,
     };
     let mut scheduler = Scheduler::make(alloc, shape, &[1, 2], &[1, 2])?;
-    scheduler.add_packet(1, &[7; 300])?;
-    scheduler.add_packet(1, &[7; 40])?;
-    scheduler.add_packet(2, &[7; 300])?;
-    scheduler.add_packet(2, &[7; 40])?;
+    scheduler.add_packet(1, long)?;
+    scheduler.add_packet(1, short)?;
+    scheduler.add_packet(2, long)?;
+    scheduler.add_packet(2, short)?;
     Ok(scheduler)
 }
 
@@ -79,13 +85,13 @@ fn text_of(alloc: Global, shown: &Shown, held: Option<u16>) -> Result<String, Ou
 }
 
 fn both_on(alloc: Global) -> Result<String, OutOfMemory> {
-    let mut scheduler = two_channels(alloc)?;
+    let mut scheduler = two_channels(alloc, &[7; 300], &[7; 40])?;
     let shown = show(alloc, &mut scheduler)?;
     text_of(alloc, &shown, scheduler.held())
 }
 
 fn one_off(alloc: Global) -> Result<String, OutOfMemory> {
-    let mut scheduler = two_channels(alloc)?;
+    let mut scheduler = two_channels(alloc, &[7; 300], &[7; 40])?;
     scheduler.flow(0x81BF_FF00_004B_8D9D);
     let shown = show(alloc, &mut scheduler)?;
     text_of(alloc, &shown, scheduler.held())

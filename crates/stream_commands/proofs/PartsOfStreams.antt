@@ -53,17 +53,14 @@ words_together [] w = refl
 words_together (x ∷ v) w = ap (λ bs. word_bytes x ++ bs) (words_together v w) ∙ sym (append_assoc (word_bytes x) (words_file v) (words_file w))
 
 -- the bytes of the next words come behind those of the words before
-pub words_more : (words : List Word) (d e : ℕ) → d ≤ e → words_file (take d words) ++ words_file (take (e - d) (drop d words)) ≡ words_file (take e words)
-words_more words d e le =
-    let all : take d words ++ take (e - d) (drop d words) ≡ take e words = sym (take-add d (e - d) words) ∙ ap (λ n. take n words) (omega arith) in
-    sym (words_together (take d words) (take (e - d) (drop d words))) ∙ ap words_file all
+pub words_put : (before words : List Word) (bytes : List ℕ) → bytes ≡ words_file words → set (words_file before ∷ []) 0 (get_or (words_file before ∷ []) 0 [] ++ bytes) ≡ words_file (before ++ words) ∷ []
+words_put before words bytes is = ap (λ b. (words_file before ++ b) ∷ []) is ∙ ap (λ c. c ∷ []) (sym (words_together before words))
+
+pub words_before : (before words : List Word) → Prefixes (words_file before ∷ []) (words_file (before ++ words) ∷ [])
+words_before before words = ((words_file words, words_together before words), tt)
 
 pub first_words : (words : List Word) (d : ℕ) → Prefixes (words_file (take d words) ∷ []) (words_file words ∷ [])
 first_words words d = ((words_file (drop d words), sym (ap words_file (take-append-drop d words)) ∙ words_together (take d words) (drop d words)), tt)
-
--- the next bytes are given
-pub words_given : (words : List Word) (d e : ℕ) (bytes : List ℕ) → d ≤ e → bytes ≡ words_file (take (e - d) (drop d words)) → set (words_file (take d words) ∷ []) 0 (get_or (words_file (take d words) ∷ []) 0 [] ++ bytes) ≡ words_file (take e words) ∷ []
-words_given words d e bytes le is = ap (λ b. (words_file (take d words) ++ b) ∷ []) is ∙ ap (λ c. c ∷ []) (words_more words d e le)
 
 -- ---- outputs that were given nothing
 

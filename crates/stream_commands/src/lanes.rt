@@ -23,7 +23,11 @@ use std::alloc::Global;
 use tx_end::{Transmitter, count_listed};
 
 // A transmitter with the packets and rows of a source.
-fn loaded(alloc: Global, link: &Link, source: &StreamSource) -> Result<Transmitter, OutOfMemory>
+fn loaded<'a>(
+    alloc: Global,
+    link: &Link,
+    source: &StreamSource<'a>,
+) -> Result<Transmitter<'a>, OutOfMemory>
     requires kept { IsKept source.now }
     requires suits { IsShapeOf link.now source.now.shape }
     ensures { IfOk result (λ t. Sends t link.now (source_of source.now) [] []) }
@@ -81,6 +85,7 @@ pub fn fill_lanes<S: Store>(
         Filled (StreamForm.Lanes link.now) (source_of source.now) outputs.old outputs.new result was (S.files store.new) }
 {
     let mut transmitter = loaded(alloc, link, source)?;
+    // only the measure by which the loop is shown to end
     let mut steps: u64 = 0;
     while let Some(out) = transmitter.next_bytes() {
         outputs.put(alloc, store, out.lane as usize, out.bytes.as_slice())?;

@@ -50,7 +50,7 @@ packet-requires-clause-sends c =
       bytes = refl;
       count = refl;
     } in
-    asks _ 0 0 300 1 none (0, omega arith, refl) (omega arith) (omega arith)
+    rw c.requires.long (asks _ 0 0 300 1 none (0, omega arith, refl) (omega arith) (omega arith))
 
 pub packet-requires-2-clause-sends : goal.packet-requires-2-clause-sends
 packet-requires-2-clause-sends c =
@@ -64,8 +64,8 @@ packet-requires-2-clause-sends c =
       bytes = refl;
       count = refl;
     } in
-    let one = more _ _ 0 0 300 1 _ c.in_ok-packet.ensures.ok refl none (omega arith) (omega arith) in
-    asks _ 1 300 40 1 one (0, omega arith, refl) (omega arith) (omega arith)
+    let one = more _ _ 0 0 300 1 _ c.in_ok-packet.ensures.ok c.requires.long none (omega arith) (omega arith) in
+    rw c.requires.short (asks _ 1 300 40 1 one (0, omega arith, refl) (omega arith) (omega arith))
 
 pub packet-requires-3-clause-sends : goal.packet-requires-3-clause-sends
 packet-requires-3-clause-sends c =
@@ -79,9 +79,9 @@ packet-requires-3-clause-sends c =
       bytes = refl;
       count = refl;
     } in
-    let one = more _ _ 0 0 300 1 _ c.in_ok-packet.ensures.ok refl none (omega arith) (omega arith) in
-    let two = more _ _ 1 300 40 1 _ c.in_ok-packet-2.ensures.ok refl one (omega arith) (omega arith) in
-    asks _ 2 340 300 2 two (1, omega arith, refl) (omega arith) (omega arith)
+    let one = more _ _ 0 0 300 1 _ c.in_ok-packet.ensures.ok c.requires.long none (omega arith) (omega arith) in
+    let two = more _ _ 1 300 40 1 _ c.in_ok-packet-2.ensures.ok c.requires.short one (omega arith) (omega arith) in
+    rw c.requires.long (asks _ 2 340 300 2 two (1, omega arith, refl) (omega arith) (omega arith))
 
 pub packet-requires-4-clause-sends : goal.packet-requires-4-clause-sends
 packet-requires-4-clause-sends c =
@@ -95,10 +95,10 @@ packet-requires-4-clause-sends c =
       bytes = refl;
       count = refl;
     } in
-    let one = more _ _ 0 0 300 1 _ c.in_ok-packet.ensures.ok refl none (omega arith) (omega arith) in
-    let two = more _ _ 1 300 40 1 _ c.in_ok-packet-2.ensures.ok refl one (omega arith) (omega arith) in
-    let three = more _ _ 2 340 300 2 _ c.in_ok-packet-3.ensures.ok refl two (omega arith) (omega arith) in
-    asks _ 3 640 40 2 three (1, omega arith, refl) (omega arith) (omega arith)
+    let one = more _ _ 0 0 300 1 _ c.in_ok-packet.ensures.ok c.requires.long none (omega arith) (omega arith) in
+    let two = more _ _ 1 300 40 1 _ c.in_ok-packet-2.ensures.ok c.requires.short one (omega arith) (omega arith) in
+    let three = more _ _ 2 340 300 2 _ c.in_ok-packet-3.ensures.ok c.requires.long two (omega arith) (omega arith) in
+    rw c.requires.short (asks _ 3 640 40 2 three (1, omega arith, refl) (omega arith) (omega arith))
 
 pub returns : goal.returns
 returns c =
@@ -112,8 +112,8 @@ returns c =
       bytes = refl;
       count = refl;
     } in
-    let one = more _ _ 0 0 300 1 _ c.in_ok-packet.ensures.ok refl none (omega arith) (omega arith) in
-    let two = more _ _ 1 300 40 1 _ c.in_ok-packet-2.ensures.ok refl one (omega arith) (omega arith) in
-    let three = more _ _ 2 340 300 2 _ c.in_ok-packet-3.ensures.ok refl two (omega arith) (omega arith) in
-    let four = more _ _ 3 640 40 2 _ c.in_ok-packet-4.ensures.ok refl three (omega arith) (omega arith) in
+    let one = more _ _ 0 0 300 1 _ c.in_ok-packet.ensures.ok c.requires.long none (omega arith) (omega arith) in
+    let two = more _ _ 1 300 40 1 _ c.in_ok-packet-2.ensures.ok c.requires.short one (omega arith) (omega arith) in
+    let three = more _ _ 2 340 300 2 _ c.in_ok-packet-3.ensures.ok c.requires.long two (omega arith) (omega arith) in
+    let four = more _ _ 3 640 40 2 _ c.in_ok-packet-4.ensures.ok c.requires.short three (omega arith) (omega arith) in
     (four.settings, four.source, four.sends)
