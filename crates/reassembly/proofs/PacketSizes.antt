@@ -1,6 +1,6 @@
 -- Each packet that a receiver delivers has some bytes, and no more than the longest packet that is set. And what comes at a
 -- word or a fault beside the span that it closes shows no span.
-use Rattle.std.proofs.Common.{◌≡◌, ℕ, ◌+◌, ◌-◌, ◌*◌, ◌≤◌, Bool, true, false, not, ◌&&◌, ◌||◌, cond, ◌==◌, eqb-true, nat_le, List, [], ◌∷◌, ◌++◌, length, length-append, map, flat_map, filter, take, refl, sym, subst, arith, Option, Some, None, is_none, is_some}
+use Rattle.std.proofs.Common.{◌≡◌, ℕ, ◌+◌, ◌-◌, ◌*◌, ◌≤◌, Bool, true, false, not, ◌&&◌, ◌||◌, cond, ◌==◌, eqb-true, nat_le, List, [], ◌∷◌, ◌++◌, length, length-append, map, flat_map, filter, take, refl, subst, arith, Option, Some, None, is_none, is_some}
 use Rattle.std.specs.List.{AllByRecursion, cons_option}
 use Rattle.std.specs.Int.{w64, to_be_bytes}
 use Rattle.std.proofs.lemmas.Bool.{leb-true, le-leb, eqb-false}
@@ -10,7 +10,6 @@ use Rattle.lk_base.specs.declared.fault.Why.{Why}
 use Rattle.lk_base.specs.declared.fault.Why.TheVariants as whys
 use Rattle.lk_base.specs.declared.fault.DropWhy.{DropWhy}
 use Rattle.lk_base.specs.declared.fault.DropWhy.TheVariants as drops
-use Rattle.lk_base.specs.declared.word.Aligned.{Aligned}
 use Rattle.lk_base.specs.Fields.{channel_field, eop_field, has_burst, has_end, has_sop, is_control_word, is_end_format, control_field}
 use Rattle.control_words.specs.declared.fields.Eop.{Eop}
 use Rattle.control_words.specs.declared.fields.Eop.TheVariants as eops
@@ -21,7 +20,7 @@ use Rattle.receive_model.specs.Spans.{last_span}
 use Rattle.receive_model.specs.Pieces.{Burst, Packet, begins, bursts, bytes_of, first_or, goes_on, is_of_channel, next_data, next_of_last, packet_at, packet_before, packet_of, piece_words, pieces}
 use Rattle.receive_model.specs.Events.{Event, Delivered, Dropped, FaultSpan, Flow, Setting, at_either, at_end, at_fault, at_no_sop, at_sop, at_start, at_why, at_word, ended_by, ended_event, ended_piece, events_of_items, is_ended, is_listed, no_word_span, open_drop, outputs_at, outputs_from, piece_has_sop, run_at_end, span_closed_at}
 use Rattle.receive_model.proofs.Cuts.{split}
-use Rattle.reassembly.specs.SoFar.{items_so_far, outputs_so_far}
+use Rattle.reassembly.specs.SoFar.{items_so_far}
 use Rattle.reassembly.specs.OutputLaws.{IsOfSize, HasSize, PacketsFit}
 
 -- ---- verified words

@@ -1,5 +1,6 @@
 -- No packet is among the drops.
 use Rattle.std.proofs.Common.{ℕ, ◌≡◌, ◌∙◌, ◌++◌, sym, ap, subst, arith, List, filter_map, deque_capacity}
+use Rattle.reassembly.specs.Parts.{open_burst}
 use Rattle.reassembly.specs.States.{IsHeld}
 use Rattle.reassembly.specs.Steps.{dropped_out}
 use Rattle.reassembly.specs.Tables.{Table}
@@ -15,4 +16,4 @@ invariant_of-self-2 c =
     let held : IsHeld c.drop_open.new.waiting.items c.self.inside.lending c.self.inside.table.packet =
     held-failed c.self.inside.table.rows c.args.why c.self.inside.channels.items c.self.inside.waiting.items c.drop_open.new.waiting.items c.self.inside.lending c.self.inside.table.packet
     c.self.invariant.2 (c.drop_open.ensures.items ∙ ap (λ (cs : List ℕ). c.self.inside.waiting.items ++ filter_map (dropped_out c.self.inside.table.rows c.args.why) cs) c.deref.ensures.value) in
-    (omega arith, omega arith, subst (λ o. IsHeld c.drop_open.new.waiting.items c.self.inside.lending o) (sym packet) held)
+    (omega arith, omega arith, subst (λ o. IsHeld c.drop_open.new.waiting.items c.self.inside.lending o) (sym packet) held, sym (ap open_burst c.failed_run-run.ensures))
