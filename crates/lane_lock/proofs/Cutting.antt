@@ -1,4 +1,4 @@
--- A byte cut at the bit that ends a word.
+-- Bits cut at the one that ends a word.
 use Rattle.std.proofs.Common.{ℕ, ◌≡◌, sym, ap, ◌∙◌, subst, ◌+◌, ◌-◌, ◌*◌, ◌/◌, ◌%◌, ◌^◌, ◌<◌, ◌≤◌, ◌==◌, Bool, true, List, [], ◌∷◌, ◌++◌, replicate, arith, bit_and, bit_or}
 use Rattle.std.specs.Int.{bit_at}
 use Rattle.std.proofs.Math.Nat.{div-lt_iff_lt-mul}
@@ -15,38 +15,38 @@ use Rattle.lane_lock.proofs.LastWord.{held}
 use Rattle.lane_lock.proofs.Resting.{all_at_once, brings_bit, brings_both, brings_same}
 
 -- the bits before the bit at a place, this bit, and the bits behind it
-cut_at : (byte place behind : ℕ) → place + (behind + 1) ≡ 8 →
-    bits_of place (byte / 2 ^ (8 - place)) ++ ((bit_at byte behind == 1) ∷ bits_of behind (byte % 2 ^ behind)) ≡ bits_of 8 byte
-cut_at byte place behind e =
-    let f : 8 - place ≡ behind + 1 = omega arith in
+cut_at : (width x place behind : ℕ) → place + (behind + 1) ≡ width →
+    bits_of place (x / 2 ^ (width - place)) ++ ((bit_at x behind == 1) ∷ bits_of behind (x % 2 ^ behind)) ≡ bits_of width x
+cut_at width x place behind e =
+    let f : width - place ≡ behind + 1 = omega (arith, e) in
     let g : behind + 1 - 1 ≡ behind = omega arith in
-    ap (λ (n : ℕ). bits_of place (byte / 2 ^ n) ++ ((bit_at byte behind == 1) ∷ bits_of behind (byte % 2 ^ behind))) f
-    ∙ ap (λ (bits : List Bool). bits_of place (byte / 2 ^ (behind + 1)) ++ ((bit_at byte behind == 1) ∷ bits)) (bits-mod behind behind byte (omega arith))
-    ∙ ap (λ (n : ℕ). bits_of place (byte / 2 ^ (behind + 1)) ++ ((bit_at byte n == 1) ∷ bits_of n byte)) (sym g)
-    ∙ ap (λ (bits : List Bool). bits_of place (byte / 2 ^ (behind + 1)) ++ bits) (sym (first_bit (behind + 1) byte (omega arith)))
-    ∙ sym (bits-cut place (behind + 1) byte) ∙ ap (λ (n : ℕ). bits_of n byte) e
+    ap (λ (n : ℕ). bits_of place (x / 2 ^ n) ++ ((bit_at x behind == 1) ∷ bits_of behind (x % 2 ^ behind))) f
+    ∙ ap (λ (bits : List Bool). bits_of place (x / 2 ^ (behind + 1)) ++ ((bit_at x behind == 1) ∷ bits)) (bits-mod behind behind x (omega arith))
+    ∙ ap (λ (n : ℕ). bits_of place (x / 2 ^ (behind + 1)) ++ ((bit_at x n == 1) ∷ bits_of n x)) (sym g)
+    ∙ ap (λ (bits : List Bool). bits_of place (x / 2 ^ (behind + 1)) ++ bits) (sym (first_bit (behind + 1) x (omega arith)))
+    ∙ sym (bits-cut place (behind + 1) x) ∙ ap (λ (n : ℕ). bits_of n x) e
 
 -- the bits before, the last bit of the word, and the bits behind
-pub cut_brings : (v u w : LaneState) (byte place behind : ℕ) (x : LaneStep) (b : Bool) → v.watching ≡ true → place ≡ v.at + 66 - v.taken → behind ≡ 7 - place → place < 8 →
-    byte / 2 ^ (8 - place) < 2 ^ place → b ≡ (bit_at byte behind == 1) →
-    ((s : Settings) (bits : List Bool) → Stands (with_bits v place (byte / 2 ^ (8 - place))) s bits → Stands u s (bits ++ b ∷ []) × IsStep s (bits ++ b ∷ []) x) →
-    Brings u w (bits_of behind (byte % 2 ^ behind)) (replicate behind steps.Nothing) →
-    Brings v w (bits_of 8 byte) (replicate place steps.Nothing ++ x ∷ replicate (7 - place) steps.Nothing)
-cut_brings v u w byte place behind x b ew at e lt low is goes rest = λ s bits own st are. (
+pub cut_brings : (v u w : LaneState) (width all place behind : ℕ) (x : LaneStep) (b : Bool) → v.watching ≡ true → place ≡ v.at + 66 - v.taken → behind ≡ width - 1 - place → place < width →
+    all / 2 ^ (width - place) < 2 ^ place → b ≡ (bit_at all behind == 1) →
+    ((s : Settings) (bits : List Bool) → Stands (with_bits v place (all / 2 ^ (width - place))) s bits → Stands u s (bits ++ b ∷ []) × IsStep s (bits ++ b ∷ []) x) →
+    Brings u w (bits_of behind (all % 2 ^ behind)) (replicate behind steps.Nothing) →
+    Brings v w (bits_of width all) (replicate place steps.Nothing ++ x ∷ replicate (width - 1 - place) steps.Nothing)
+cut_brings v u w width all place behind x b ew at e lt low is goes rest = λ s bits own st are. (
     let h = (held v s bits st ew).short in
     let count = st.count in
     let short : v.taken + place < v.at + 67 = omega (arith, at, h, count) in
-    let before = all_at_once v place (byte / 2 ^ (8 - place)) ew short low in
-    let one = brings_bit (with_bits v place (byte / 2 ^ (8 - place))) u b x goes in
-    let all = brings_both v (with_bits v place (byte / 2 ^ (8 - place))) w (bits_of place (byte / 2 ^ (8 - place))) ((b ∷ []) ++ bits_of behind (byte % 2 ^ behind))
+    let before = all_at_once v place (all / 2 ^ (width - place)) ew short low in
+    let one = brings_bit (with_bits v place (all / 2 ^ (width - place))) u b x goes in
+    let joined = brings_both v (with_bits v place (all / 2 ^ (width - place))) w (bits_of place (all / 2 ^ (width - place))) ((b ∷ []) ++ bits_of behind (all % 2 ^ behind))
     (replicate place steps.Nothing) ((x ∷ []) ++ replicate behind steps.Nothing) before
-    (brings_both (with_bits v place (byte / 2 ^ (8 - place))) u w (b ∷ []) (bits_of behind (byte % 2 ^ behind)) (x ∷ []) (replicate behind steps.Nothing) one rest) in
-    brings_same v w (bits_of place (byte / 2 ^ (8 - place)) ++ (b ∷ bits_of behind (byte % 2 ^ behind))) (bits_of 8 byte)
-    (replicate place steps.Nothing ++ x ∷ replicate behind steps.Nothing) (replicate place steps.Nothing ++ x ∷ replicate (7 - place) steps.Nothing)
-    (ap (λ (c : Bool). bits_of place (byte / 2 ^ (8 - place)) ++ (c ∷ bits_of behind (byte % 2 ^ behind))) is ∙ cut_at byte place behind (omega (arith, e, lt)))
-    (ap (λ (n : ℕ). replicate place steps.Nothing ++ x ∷ replicate n steps.Nothing) e) all s bits own st are)
+    (brings_both (with_bits v place (all / 2 ^ (width - place))) u w (b ∷ []) (bits_of behind (all % 2 ^ behind)) (x ∷ []) (replicate behind steps.Nothing) one rest) in
+    brings_same v w (bits_of place (all / 2 ^ (width - place)) ++ (b ∷ bits_of behind (all % 2 ^ behind))) (bits_of width all)
+    (replicate place steps.Nothing ++ x ∷ replicate behind steps.Nothing) (replicate place steps.Nothing ++ x ∷ replicate (width - 1 - place) steps.Nothing)
+    (ap (λ (c : Bool). bits_of place (all / 2 ^ (width - place)) ++ (c ∷ bits_of behind (all % 2 ^ behind))) is ∙ cut_at width all place behind (omega (arith, e, lt)))
+    (ap (λ (n : ℕ). replicate place steps.Nothing ++ x ∷ replicate n steps.Nothing) e) joined s bits own st are)
 
--- ---- bits of a byte as numbers
+-- ---- bits as numbers
 
 -- the shift of the window
 pub pushed_is : (window bits count : ℕ) → window < 2 ^ 67 → count ≤ 56 → bits < 2 ^ count → bit_and (bit_or (window * 2 ^ count % 2 ^ 128) bits) (2 ^ 67 - 1) ≡ (window * 2 ^ count + bits) % 2 ^ 67
@@ -54,14 +54,14 @@ pushed_is window bits count low most few =
     let whole = shl_whole window 67 count 128 low (omega arith) in
     ap (λ (x : ℕ). bit_and (bit_or x bits) (2 ^ 67 - 1)) whole ∙ ap (λ (x : ℕ). bit_and x (2 ^ 67 - 1)) (or_shifted window count bits few) ∙ and_mask (window * 2 ^ count + bits) 67
 
-pub first_below : (byte count : ℕ) → byte < 256 → count ≤ 8 → byte / 2 ^ (8 - count) < 2 ^ count
-first_below byte count low most =
-    let e : count + (8 - count) ≡ 8 = omega arith in
-    let whole : byte < 2 ^ count * 2 ^ (8 - count) = subst (λ (n : ℕ). byte < n) (sym (ap (λ (n : ℕ). 2 ^ n) e) ∙ pow-add 2 count (8 - count)) low in
-    (div-lt_iff_lt-mul {k = 2 ^ (8 - count)} {x = byte} {y = 2 ^ count} (pow_pos (8 - count))).1 whole
+pub first_below : (x width count : ℕ) → x < 2 ^ width → count ≤ width → x / 2 ^ (width - count) < 2 ^ count
+first_below x width count low most =
+    let e : count + (width - count) ≡ width = omega (arith, most) in
+    let whole : x < 2 ^ count * 2 ^ (width - count) = subst (λ (n : ℕ). x < n) (sym (ap (λ (n : ℕ). 2 ^ n) e) ∙ pow-add 2 count (width - count)) low in
+    (div-lt_iff_lt-mul {k = 2 ^ (width - count)} {x = x} {y = 2 ^ count} (pow_pos (width - count))).1 whole
 
-pub masked : (byte count : ℕ) → count ≤ 8 → bit_and byte (1 * 2 ^ count % 2 ^ 64 - 1) ≡ byte % 2 ^ count
-masked byte count most =
-    let one : 1 * 2 ^ count % 2 ^ 64 ≡ 1 * 2 ^ count = shl_whole 1 1 count 64 (omega arith) (omega arith) in
+pub masked : (x count : ℕ) → count ≤ 56 → bit_and x (1 * 2 ^ count % 2 ^ 64 - 1) ≡ x % 2 ^ count
+masked x count most =
+    let one : 1 * 2 ^ count % 2 ^ 64 ≡ 1 * 2 ^ count = shl_whole 1 1 count 64 (omega arith) (omega (arith, most)) in
     let e : 1 * 2 ^ count ≡ 2 ^ count = omega arith in
-    ap (λ m. bit_and byte (m - 1)) (one ∙ e) ∙ and_mask byte count
+    ap (λ m. bit_and x (m - 1)) (one ∙ e) ∙ and_mask x count

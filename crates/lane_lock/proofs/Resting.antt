@@ -177,7 +177,7 @@ pub record Sought (v w : LaneState) (count bits k : ℕ) : Type 0 where
 pub sought_none : (v : LaneState) (count bits : ℕ) → Rests v count → Sought v v count bits 0
 sought_none v count bits rests = record { taken = omega arith; rests = λ ew. (let h = rests ew in omega (arith, h)); stands = brings_none v }
 
-pub sought_more : (v w w' : LaneState) (count bits k : ℕ) (b : Bool) → k < count → count ≤ 8 → Sought v w count bits k → b ≡ (bit_at bits (count - 1 - k) == 1) → w'.taken ≡ w.taken + 1 →
+pub sought_more : (v w w' : LaneState) (count bits k : ℕ) (b : Bool) → k < count → count ≤ 56 → Sought v w count bits k → b ≡ (bit_at bits (count - 1 - k) == 1) → w'.taken ≡ w.taken + 1 →
     ((n : ℕ) → n ≤ 66 → Rests w (n + 1) → Rests w' n) →
     ((s : Settings) (given : List Bool) → Stands w s given → Stands w' s (given ++ b ∷ []) × IsStep s (given ++ b ∷ []) steps.Nothing) → Sought v w' count bits (k + 1)
 sought_more v w w' count bits k b lt most sought e taken rests goes = record {

@@ -8,10 +8,14 @@ use Rattle.lane_lock.specs.declared.completed.Completed.{Completed}
 use Rattle.lane_lock.specs.Lane.{LaneState}
 use Rattle.lane_lock.specs.Standing.{Stands}
 
--- the steps of the eight bits of a byte, one for each, where a word of a word lock ends within it or none does
+-- the steps of so many bits, one for each, where a word of a word lock ends within them or none does
+abbrev pub steps_of_bits : ℕ → Option Completed → List LaneStep
+steps_of_bits n None = replicate n steps.Nothing
+steps_of_bits n (Some c) = replicate c.place steps.Nothing ++ c.step ∷ replicate (n - 1 - c.place) steps.Nothing
+
+-- those of the eight bits of a byte
 abbrev pub steps_of_byte : Option Completed → List LaneStep
-steps_of_byte None = replicate 8 steps.Nothing
-steps_of_byte (Some c) = replicate c.place steps.Nothing ++ c.step ∷ replicate (7 - c.place) steps.Nothing
+steps_of_byte completed = steps_of_bits 8 completed
 
 -- these bits complete these steps, one for each, whatever bits came before
 abbrev pub Brings : LaneState → LaneState → List Bool → List LaneStep → Type 0

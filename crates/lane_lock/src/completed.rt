@@ -1,10 +1,10 @@
 use lock_model::LaneStep;
 
-/// The word of a word lock that ends within a byte.
+/// The word of a word lock that ends within some bytes.
 #[derive(Clone, Copy, Debug, PartialEq, Eq)]
 pub struct Completed {
-    /// The bit of the byte that ends it, counted from the highest: 0..=7.
+    /// The bit of theirs that ends it, counted from the first, the highest of the first byte.
     pub place: u32,
-    /// The step that this bit completes. The other bits of the byte complete none.
+    /// The step that this bit completes. Their other bits complete none.
     pub step: LaneStep,
 }

@@ -1,5 +1,7 @@
--- The steps of the eight bits of a round, one by one.
-use Rattle.std.proofs.Common.{ℕ, zero, suc, ◌≡◌, refl, ap, ◌+◌, ◌-◌, ◌<◌, ◌∷◌, ◌++◌, length, get_or, replicate, arith}
+-- The steps of the bits of the last bytes, one by one.
+use Rattle.std.proofs.Common.{ℕ, zero, suc, ◌≡◌, refl, sym, ap, ◌∙◌, ◌+◌, ◌-◌, ◌<◌, ◌≤◌, ◌==◌, true, false, List, [], ◌∷◌, ◌++◌, length, get_or, replicate, arith, inl, inr, eqb-true}
+use Rattle.std.specs.Prelude.{nat_lt}
+use Rattle.std.proofs.lemmas.Bool.{cases_Bool, cases_lt, eq-eqb, lt-ltb, le-ltb}
 use Rattle.std.proofs.lemmas.List.{get_or-replicate, length-append, length-replicate}
 use Rattle.lock_model.specs.declared.types.LaneStep.{LaneStep}
 use Rattle.lock_model.specs.declared.types.LaneStep.TheVariants as steps
@@ -18,12 +20,31 @@ elsewhere zero n (suc k) x lt ne = get_or-replicate n k steps.Nothing steps.Ende
 elsewhere (suc place) n zero x lt ne = refl
 elsewhere (suc place) n (suc k) x lt ne = elsewhere place n k x (omega (arith, lt)) (λ e. ne (ap suc e))
 
-pub count : (f : Found) → IsWithin f → length (steps_found f) ≡ 8
-count founds.End within = refl
-count founds.Quiet within = refl
-count (founds.Step place step) within =
-    let a = length-append (replicate place steps.Nothing) (step ∷ replicate (7 - place) steps.Nothing) in
+count_step : (width place : ℕ) (step : LaneStep) → place < width → length (steps_found width (founds.Step place step)) ≡ width
+count_step width place step lt =
+    let a = length-append (replicate place steps.Nothing) (step ∷ replicate (width - 1 - place) steps.Nothing) in
     let b = length-replicate place steps.Nothing in
-    let c = length-replicate (7 - place) steps.Nothing in
-    let lt = within.0 in
+    let c = length-replicate (width - 1 - place) steps.Nothing in
     omega (arith, a, b, c, lt)
+
+pub count : (width : ℕ) (f : Found) → IsWithin width f → length (steps_found width f) ≡ width
+count width founds.End within = length-replicate width steps.Ended
+count width founds.Quiet within = length-replicate width steps.Nothing
+count width (founds.Step place step) within = count_step width place step within.0
+
+-- behind all steps
+pub behind : (xs : List LaneStep) (k : ℕ) → length xs ≤ k → get_or xs k steps.Ended ≡ steps.Ended
+behind [] k le = refl
+behind (x ∷ xs) zero le = absurd (omega (arith, le))
+behind (x ∷ xs) (suc k) le = behind xs k (omega (arith, le))
+
+-- the step of bit k, told by two tests
+pub step_there : (place width k : ℕ) (x r : LaneStep) → place < width → ((place == k) ≡ true → r ≡ x) → ((place == k) ≡ false → nat_lt k width ≡ true → r ≡ steps.Nothing) →
+    ((place == k) ≡ false → nat_lt k width ≡ false → r ≡ steps.Ended) → r ≡ get_or (steps_found width (founds.Step place x)) k steps.Ended
+step_there place width k x r within here elsewhere_is behind_is = elim (cases_Bool (place == k)) [
+  | inl e ↦ here e ∙ sym (ap (λ (n : ℕ). get_or (steps_found width (founds.Step place x)) n steps.Ended) (sym (eqb-true place k e)) ∙ there place (width - 1 - place) x)
+  | inr e ↦ elim (cases_lt k width) [
+    | inl lt ↦ elsewhere_is e (lt-ltb k width lt) ∙ sym (elsewhere place (width - 1 - place) k x (omega (arith, lt, within)) (λ is. (let f : true ≡ false = sym (eq-eqb place k (sym is)) ∙ e in cc)))
+    | inr le ↦ behind_is e (le-ltb k width le) ∙ sym (behind (steps_found width (founds.Step place x)) k (let n = count_step width place x within in omega (arith, n, le)))
+  ]
+]

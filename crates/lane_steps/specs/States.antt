@@ -6,5 +6,5 @@ use Rattle.lane_lock.specs.Lane.{LaneState}
 pub record StepsState : Type 0 where
   -- the locks of the bytes that came
   pub lock : LaneState
-  -- the steps of the last byte, one for each of its bits
+  -- the steps of the last bytes, one for each of their bits
   pub shown : List LaneStep

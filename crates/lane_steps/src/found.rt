@@ -1,5 +1,5 @@
 ghost use Rattle.std.specs.Prelude.{◌≡◌, ◌<◌, ◌≤◌, ◌+◌, ◌^◌, ℕ, IfSome, get_or, true, false};
-ghost use Rattle.lane_lock.specs.Bytes.{steps_of_byte};
+ghost use Rattle.lane_lock.specs.Bytes.{steps_of_bits};
 ghost use Rattle.lock_model.specs.Low.{is_low};
 ghost use Rattle.lock_model.specs.declared.types.LaneStep.TheVariants as variants;
 ghost use Rattle.lane_steps.specs.Founds.{IsWithin, steps_found};
@@ -12,18 +12,18 @@ use lock_model::LaneStep;
 pub enum Found {
     /// Its end.
     End,
-    /// A byte of which no bit completes a step.
+    /// Bytes of which no bit completes a step.
     Quiet,
-    /// A byte of which this bit, counted from the highest, completes this step.
+    /// Bytes of which this bit, counted from the first, completes this step.
     Step(u32, LaneStep),
 }
 
-/// A byte within which a word ends, or none does.
-pub fn found_of(completed: Option<Completed>) -> Found
-    requires place { IfSome completed (λ c. c.place < 8) }
+/// Bytes of so many bits within which a word ends, or none does.
+pub fn found_of(completed: Option<Completed>, width: u32) -> Found
+    requires place { IfSome completed (λ c. c.place < width) }
     requires low { IfSome completed (λ c. is_low c.step) }
-    ensures value { steps_found result ≡ steps_of_byte completed }
-    ensures within { IsWithin result }
+    ensures value { steps_found width result ≡ steps_of_bits width completed }
+    ensures within { IsWithin width result }
 {
     match completed {
         None => Found::Quiet,
@@ -32,51 +32,60 @@ pub fn found_of(completed: Option<Completed>) -> Found
 }
 
 impl Found {
-    /// The step of bit k: k is below 8.
-    pub fn step(self, k: u32) -> LaneStep
-        requires place { k < 8 }
-        requires within { IsWithin self }
-        ensures value { result ≡ get_or (steps_found self) k variants.Ended }
+    /// The step of bit k of so many; behind them it has ended.
+    pub fn step(self, k: u32, width: u32) -> LaneStep
+        requires { IsWithin width self }
+        ensures value { result ≡ get_or (steps_found width self) k variants.Ended }
         ensures low { is_low result }
     {
         match self {
             Found::End => LaneStep::Ended,
-            Found::Quiet => LaneStep::Nothing,
-            Found::Step(place, step) => step_if(place == k, step),
+            Found::Quiet => step_if(false, k < width, LaneStep::Nothing),
+            Found::Step(place, step) => step_if(place == k, k < width, step),
         }
     }
 
-    /// How many of the bits from bit k on complete no step, up to the next that does: k is below 8.
-    pub fn quiet(self, k: u32) -> u32
-        requires place { k < 8 }
-        requires within { IsWithin self }
-        ensures most { result + k ≤ 8 }
-        ensures quiet { (j : ℕ) → k ≤ j → j < result + k → get_or (steps_found self) j variants.Ended ≡ variants.Nothing }
+    /// How many of so many bits from bit k on complete no step, up to the next that does, or to this end.
+    pub fn quiet(self, k: u32, end: u32, width: u32) -> u32
+        requires order { k ≤ end }
+        requires within { IsWithin width self }
+        ensures most { result + k ≤ end }
+        ensures quiet { (j : ℕ) → k ≤ j → j < result + k → get_or (steps_found width self) j variants.Ended ≡ variants.Nothing }
     {
         match self {
             Found::End => 0,
-            Found::Quiet => 8 - k,
-            Found::Step(place, _) => before(place, k),
+            Found::Quiet => end.min(width).saturating_sub(k),
+            Found::Step(place, _) => before(place, k, end.min(width)),
         }
     }
 }
 
-// The step, or none.
-fn step_if(here: bool, step: LaneStep) -> LaneStep
+// The step, or none; behind the bits it has ended.
+fn step_if(here: bool, within: bool, step: LaneStep) -> LaneStep
     requires { is_low step }
     ensures here { here ≡ true → result ≡ step }
-    ensures elsewhere { here ≡ false → result ≡ variants.Nothing }
+    ensures elsewhere { here ≡ false → within ≡ true → result ≡ variants.Nothing }
+    ensures behind { here ≡ false → within ≡ false → result ≡ variants.Ended }
     ensures low { is_low result }
 {
-    if here { step } else { LaneStep::Nothing }
+    if here {
+        step
+    } else if within {
+        LaneStep::Nothing
+    } else {
+        LaneStep::Ended
+    }
 }
 
-// How many bits from bit k on come before the one at this place, or are left where it is over.
-fn before(place: u32, k: u32) -> u32
-    requires place { place < 8 }
-    requires bit { k < 8 }
-    ensures most { result + k ≤ 8 }
+// How many bits from bit k on come before the one at this place, or are left up to this end where it is over.
+fn before(place: u32, k: u32, end: u32) -> u32
+    ensures most { k ≤ end → result + k ≤ end }
+    ensures none { end ≤ k → result ≡ 0 }
     ensures never { (j : ℕ) → k ≤ j → j < result + k → j ≡ place → ⊥ }
 {
-    if place < k { 8 - k } else { place - k }
+    if place < k {
+        end.saturating_sub(k)
+    } else {
+        place.min(end).saturating_sub(k)
+    }
 }

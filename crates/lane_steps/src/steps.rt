@@ -13,34 +13,38 @@ use lock_model::{LaneReport, LaneStep};
 use std::alloc::Global;
 use std::marker::Model;
 
-/// The locks of one lane, which takes its bytes one by one or several at once, and the steps of the last one's bits.
+/// The locks of one lane, which takes its bytes one by one or several at once, and the steps of the bits of the last ones.
 #[derive(Drop)]
 pub struct LaneSteps {
     lock: LaneLock,
-    /// What the last byte shows: the end before the first.
+    /// What the last bytes show: the end before the first.
     found: Found,
+    /// How many bits they have: 8..=56.
+    width: u32,
 }
 
 impl Model for LaneSteps {
+    ghost use Rattle.std.specs.Prelude.{◌≤◌};
     ghost use Rattle.lane_steps.specs.Founds.{IsWithin, steps_found};
     ghost use Rattle.lane_steps.specs.States.{StepsState};
 
     ghost Value = { StepsState };
 
-    ghost view = { λ a. record { lock = a.lock; shown = steps_found a.found } };
+    ghost view = { λ a. record { lock = a.lock; shown = steps_found a.width a.found } };
 
-    ghost invariant = { λ a. IsWithin a.found };
+    ghost invariant = { λ a. (8 ≤ a.width) × (a.width ≤ 56) × IsWithin a.width a.found };
 }
 
 impl LaneSteps {
     /// A lane of which no byte came. It takes memory here, and none after.
     pub fn make(alloc: Global, link: &Link) -> Result<LaneSteps, OutOfMemory>
-        ensures { IfOk result (λ v. Stands v.lock link.now [] × (v.lock.taken ≡ 0)) }
+        ensures { IfOk result (λ v. Stands v.lock link.now [] × (v.lock.taken ≡ 0) × (length v.shown ≡ 8)) }
     {
         let lock = LaneLock::make(alloc, link)?;
         Ok(LaneSteps {
             lock,
             found: Found::End,
+            width: 8,
         })
     }
 
@@ -51,7 +55,8 @@ impl LaneSteps {
         ensures count { length self.new.shown ≡ 8 }
         ensures stands { Brings self.old.lock self.new.lock (bits_of 8 byte) self.new.shown }
     {
-        self.found = found_of(self.lock.byte(byte));
+        self.found = found_of(self.lock.byte(byte), 8);
+        self.width = 8;
     }
 
     /// Finds it at its end: it has ended at each of the next eight bits.
@@ -60,6 +65,21 @@ impl LaneSteps {
         ensures shown { self.new.shown ≡ replicate 8 variants.Ended }
     {
         self.found = Found::End;
+        self.width = 8;
+    }
+
+    /// Takes so many bytes at once: the number is that of their bits, the first of them highest. At most 2^60 bits come in all.
+    pub fn take(&mut self, bits: u64, count: u32)
+        requires some { 1 ≤ count }
+        requires most { count ≤ 7 }
+        requires bits { bits < 2 ^ (8 * count) }
+        requires few { self.old.lock.taken + 8 * count ≤ 2 ^ 60 }
+        ensures taken { self.new.lock.taken ≡ self.old.lock.taken + 8 * count }
+        ensures count { length self.new.shown ≡ 8 * count }
+        ensures stands { Brings self.old.lock self.new.lock (bits_of (8 * count) bits) self.new.shown }
+    {
+        self.found = found_of(self.lock.take_bytes(bits, count), 8 * count);
+        self.width = 8 * count;
     }
 
     /// How many whole bytes can come at once, of which it shows nothing: at most 7.
@@ -83,15 +103,15 @@ impl LaneSteps {
     {
         self.lock.bytes(bits, count);
         self.found = Found::Quiet;
+        self.width = 8;
     }
 
-    /// The step of bit k of the last byte, counted from the highest: k is below 8.
+    /// The step of bit k of the last bytes, counted from the first, the highest of the first byte; behind them it has ended.
     pub fn step(&self, k: u32) -> LaneStep
-        requires { k < 8 }
         ensures value { result ≡ get_or self.now.shown k variants.Ended }
         ensures low { is_low result }
     {
-        self.found.step(k)
+        self.found.step(k, self.width)
     }
 
     /// How many of the bits of the last byte from bit k on show nothing, up to the next that shows something: k is below 8.
@@ -100,7 +120,16 @@ impl LaneSteps {
         ensures most { result + k ≤ 8 }
         ensures quiet { (j : ℕ) → k ≤ j → j < result + k → get_or self.now.shown j variants.Ended ≡ variants.Nothing }
     {
-        self.found.quiet(k)
+        self.quiet_up_to(k, 8)
+    }
+
+    /// How many of the bits of the last bytes from bit k on show nothing, up to the next that shows something, or to this end.
+    pub fn quiet_up_to(&self, k: u32, end: u32) -> u32
+        requires { k ≤ end }
+        ensures most { result + k ≤ end }
+        ensures quiet { (j : ℕ) → k ≤ j → j < result + k → get_or self.now.shown j variants.Ended ≡ variants.Nothing }
+    {
+        self.found.quiet(k, end, self.width)
     }
 
     /// The report over the bytes so far.

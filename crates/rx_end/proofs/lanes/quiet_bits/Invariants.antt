@@ -6,6 +6,6 @@ use Rattle.rx_end.proofs.lanes.quiet_bits.Given as goal
 
 abbrev pub invariant-loop-lane : goal.invariant-loop-lane
 invariant-loop-lane l = record {
-  most : l.quiet + l.k ≤ 8;
+  most : l.quiet + l.k ≤ l.end;
   quiet : (j : ℕ) → l.k ≤ j → j < l.quiet + l.k → All (λ v. step_at j v ≡ Nothing) (take l.lane-index l.lanes);
 }

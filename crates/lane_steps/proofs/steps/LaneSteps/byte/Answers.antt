@@ -9,9 +9,9 @@ use Rattle.lane_steps.proofs.Founds.{count}
 use Rattle.lane_steps.proofs.steps.LaneSteps.byte.Goals as goal
 
 pub returns-clause-count : goal.returns-clause-count
-returns-clause-count c = count c.found_of-self-inside.result c.found_of-self-inside.ensures.within
+returns-clause-count c = count 8 c.found_of-self-inside.result c.found_of-self-inside.ensures.within
 
 pub returns-clause-stands : goal.returns-clause-stands
 returns-clause-stands c =
-    subst (λ (v : StepsState). Brings v.lock c.byte.new.self (bits_of 8 c.args.byte) (steps_found c.found_of-self-inside.result)) c.self.view_is
+    subst (λ (v : StepsState). Brings v.lock c.byte.new.self (bits_of 8 c.args.byte) (steps_found 8 c.found_of-self-inside.result)) c.self.view_is
     (subst (λ (g : List LaneStep). Brings c.self.inside.lock c.byte.new.self (bits_of 8 c.args.byte) g) (sym c.found_of-self-inside.ensures.value) c.byte.ensures.stands)
