@@ -24,7 +24,7 @@ loop-place-preserved c = record {
       let block = c.loop-place.block in
       let next = c.next_word.ensures.some source (words ++ take place block) c.in-Some.word (c.loop-place.invariant.streams source words k) c.in-Some.is in
       subst (λ (v : List Word). Streams c.next_word.new.self source v)
-          (append_assoc words (take place block) (c.in-Some.word ∷ []) ∙ ap (λ (v : List Word). words ++ v) (sym (take_set block place c.in-Some.word (omega arith)))) next;
+      (append_assoc words (take place block) (c.in-Some.word ∷ []) ∙ ap (λ (v : List Word). words ++ v) (sym (take_set block place c.in-Some.word (omega arith)))) next;
 }
 
 pub returns-in-None-clause-given : goal.returns-in-None-clause-given
