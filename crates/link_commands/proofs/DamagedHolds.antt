@@ -1,5 +1,5 @@
 -- The premises of the delivery theorem with damage are met.
-use Rattle.std.proofs.Common.{ℕ, zero, suc, ◌≡◌, ◌<◌, ◌+◌, ◌*◌, ◌%◌, inl, inr, refl, sym, ap, ap₂, ◌∙◌, subst, true, false, All, Bool, List, [], ◌∷◌, length, map, filter, take, arith, lit<, lit≤, Contains, Some, None}
+use Rattle.std.proofs.Common.{ℕ, zero, suc, ◌≡◌, ◌<◌, ◌+◌, ◌*◌, ◌%◌, inl, inr, refl, sym, ap, ap₂, ◌∙◌, subst, true, false, List, [], ◌∷◌, length, map, filter, take, arith, lit<, lit≤, Contains, Some, None}
 use lib.Chars.{codes}
 use Rattle.std.specs.Fmt.{digits}
 use Rattle.std.proofs.lemmas.Bool.{ltb-true}
@@ -12,7 +12,6 @@ use Rattle.lane_model.specs.Framing.{role_of}
 use Rattle.lane_model.specs.LaneWords.{framed_at}
 use Rattle.lk_outside.specs.Files.{AreBytes}
 use Rattle.stream_model.specs.BurstStream.{Source, IsBurstStream}
-use Rattle.stream_model.proofs.Free.{free_is_not_held}
 use Rattle.stream_model.proofs.OneStream.{one_stream}
 use Rattle.lock_model.specs.Tracks.{Track}
 use Rattle.receive_model.specs.Positions.{Epoch}
@@ -24,11 +23,10 @@ use Rattle.delivery_laws.specs.Law.{meets_none}
 use Rattle.delivery_laws.specs.SentPackets.{sent_packets_at}
 use Rattle.epoch_model.specs.Groups.{IsGroup, IsBehind, IsNextGroup, SyncAt, goes_on, is_there, metaframes_on, name_of}
 use Rattle.epoch_model.specs.GroupLaw.{HasAttempts, tracks_received}
-use Rattle.epoch_model.specs.KnownLaw.{epoch_of}
-use Rattle.epoch_model.specs.SoFar.{EpochSoFar, EpochsSoFar, GoesAsFar, LaneSoFar, last_group}
+use Rattle.epoch_model.specs.SoFar.{EpochsSoFar, GoesAsFar, LaneSoFar, last_group}
 use Rattle.epoch_model.proofs.Names.{contains_cons, contains_none}
 use Rattle.epoch_model.proofs.Ranges.{all_range-true}
-use Rattle.link_laws.specs.Accidents.{Accidents, accidents_in, no_accidents, slot_place}
+use Rattle.link_laws.specs.Accidents.{accidents_in, no_accidents, slot_place}
 use Rattle.link_laws.specs.PremisesMet.{behind_warmup, channel_1, two_lanes, wide_packet, wide_sent, wide_words}
 use Rattle.link_laws.specs.Received.{AreGrouped, AreReceived, bits_of_lanes, whole_lane}
 use Rattle.link_laws.proofs.OfBits.{epochs_determined, grouped_epochs, grouped_same}
@@ -39,9 +37,7 @@ use Rattle.link_reports.specs.Table.{span_table}
 use Rattle.pcap_files.specs.Written.{capture_bytes, header_bytes, record_head}
 use Rattle.plan_inputs.specs.Sources.{IsSourceOf}
 use Rattle.plan_inputs.proofs.SameSource.{same_source}
-use Rattle.run_shell.specs.declared.status.Status.TheVariants.{Done}
 use Rattle.run_shell.specs.Outcome.{Outcome, content_of}
-use Rattle.stream_commands.specs.Stream.{IsStatusOf}
 use Rattle.receive_commands.specs.Received.{capture_name, spans_name}
 use Rattle.receive_commands.specs.WordsLaw as words_law
 use Rattle.receive_commands.proofs.Joins.{plan_setting}
@@ -53,7 +49,7 @@ use Rattle.link_commands.specs.Delivery.{DeliversUnmet, LosesNoLock, sent_on}
 use Rattle.link_commands.specs.Linked.{IsLinkedBy, missing_among, missing_lines, sent_over}
 use Rattle.link_commands.specs.PremisesMet.{plan_name, skewed_plan}
 use Rattle.link_commands.proofs.CleanRuns.{HaveBytes, files_of_bytes, reports_kept}
-use Rattle.link_commands.proofs.DamagedLocks.{AllKept, have_locks}
+use Rattle.link_commands.proofs.DamagedLocks.{have_locks}
 use Rattle.link_commands.proofs.Delivers.{delivers, what_comes}
 use Rattle.link_commands.proofs.LinkWork.{lawful_link}
 use Rattle.link_commands.proofs.PremisesHold.{done_by, is_wide}

@@ -1,5 +1,5 @@
 -- The received lanes of the damaged plan have their locks: lane 0 those of a clean lane, and lane 1 the same but for one word.
-use Rattle.std.proofs.Common.{ℕ, ◌≡◌, refl, sym, ap, ap₂, ◌∙◌, subst, ◌+◌, ◌-◌, ◌*◌, ◌/◌, ◌<◌, Bool, true, false, All, List, [], ◌∷◌, ◌++◌, length, length-append, map, get_or, replicate, slice_set, arith, lit<, lit≤, append_assoc, None, inl, inr}
+use Rattle.std.proofs.Common.{ℕ, ◌≡◌, refl, sym, ap, ap₂, ◌∙◌, subst, ◌+◌, ◌-◌, ◌*◌, ◌/◌, ◌<◌, Bool, true, false, All, List, [], ◌∷◌, ◌++◌, length, length-append, map, replicate, slice_set, arith, lit<, lit≤, append_assoc, None, inl, inr}
 use Rattle.std.specs.List.{range_with_len}
 use Rattle.std.proofs.lemmas.Bool.{and_right, cases_lt}
 use Rattle.std.proofs.lemmas.List.{ext_get_or, length-replicate}
@@ -9,14 +9,13 @@ use Rattle.lk_base.specs.Checksum.{bits_of_bytes}
 use Rattle.lk_base.specs.Words.{as_sent}
 use Rattle.lk_base.specs.declared.word.RxWord.{RxWord}
 use Rattle.lk_base.specs.declared.word.RxWord.TheVariants.{Bad}
-use Rattle.lane_model.specs.Coding.{is_legal}
 use Rattle.lane_model.specs.Damage.{received_bits}
 use Rattle.lane_model.specs.Key.{first_state, start_of}
 use Rattle.lane_model.specs.LaneBits.{IsFileOf, stream_lane_bits}
 use Rattle.lane_model.specs.LaneWords.{framed_at}
 use Rattle.lane_model.specs.Striping.{lane_payload}
-use Rattle.lock_model.specs.LockLaw.{CleanLane, clean_bits, one_attempt}
-use Rattle.lock_model.specs.Locks.{Attempt, AreAttempts, code_at, has_illegal, has_word, word_at}
+use Rattle.lock_model.specs.LockLaw.{CleanLane, clean_bits}
+use Rattle.lock_model.specs.Locks.{Attempt, AreAttempts, has_illegal, has_word, word_at}
 use Rattle.lock_model.specs.Received.{covered_count, received_at, received_words}
 use Rattle.lock_model.specs.Report.{report_of}
 use Rattle.lock_model.specs.Tracks.{Track, tracks_of}

@@ -1,7 +1,7 @@
 -- The premises of the delivery theorem with damage are met by a plan with its files: by the one whose lanes are 31 bits apart, where
 -- the schedule inverts a bit of lane 1 besides. By it a data word of the packet has a damaged header. No accident is counted, a fault
 -- span that has both ends holds the word, and the one packet, which meets it, is lost.
-use Rattle.std.specs.Prelude.{ℕ, ◌≡◌, ◌+◌, ◌*◌, true, false, Bool, List, [], ◌∷◌, map, filter, slice_set, codes, Some, None, Ok}
+use Rattle.std.specs.Prelude.{ℕ, ◌≡◌, ◌+◌, ◌*◌, true, false, List, [], ◌∷◌, map, filter, slice_set, codes, Some, None, Ok}
 use Rattle.std.specs.List.{range_with_len}
 use Rattle.std.specs.FinMap.{from_entries}
 use Rattle.lk_base.specs.Checksum.{bits_of_bytes}
