@@ -52,10 +52,10 @@ files_of_bytes es all q bytes e = entry_bytes es q bytes all (sym (get-from_entr
 
 -- ---- lanes without damage
 
-abbrev skewed_only : ℕ → LaneDamage
+abbrev pub skewed_only : ℕ → LaneDamage
 skewed_only skew = record { skew = skew; flips = []; darks = [] }
 
-bits_stay : (skew n : ℕ) (bits : List Bool) → map (received_bit (skewed_only skew)) (enumerate_from n bits) ≡ bits
+pub bits_stay : (skew n : ℕ) (bits : List Bool) → map (received_bit (skewed_only skew)) (enumerate_from n bits) ≡ bits
 bits_stay skew n [] = refl
 bits_stay skew n (b ∷ bits) = ap (λ rest. b ∷ rest) (bits_stay skew (n + 1) bits)
 
@@ -69,7 +69,7 @@ same_lost : (s : Settings) (bits : List Bool) (lane : HasAttempts s.metaframe) �
 same_lost s bits lane e = subst (λ (b : List Bool). (attempts : List Attempt) → AreAttempts s.metaframe b attempts → (report_of s b attempts).lost ≡ (report_of s lane.bits lane.attempts).lost) e
     (λ attempts are. ap (λ (x : List Attempt). (report_of s lane.bits x).lost) (determined s.metaframe lane.bits attempts lane.attempts are lane.are))
 
-reports_kept : (s : Settings) (files : List (List ℕ)) (reports : List LaneReport) (lanes : List (HasAttempts s.metaframe)) → bits_of_lanes lanes ≡ map bits_of_bytes files → AreLaneReports s files reports →
+pub reports_kept : (s : Settings) (files : List (List ℕ)) (reports : List LaneReport) (lanes : List (HasAttempts s.metaframe)) → bits_of_lanes lanes ≡ map bits_of_bytes files → AreLaneReports s files reports →
     All (λ (x : HasAttempts s.metaframe). (report_of s x.bits x.attempts).lost ≡ 0) lanes → LosesNoLock reports
 reports_kept s [] [] lanes e are kept = λ k d lt. absurd (omega arith)
 reports_kept s [] (report ∷ reports) lanes e are kept = absurd are

@@ -12,4 +12,7 @@ pub mod FewSent
 pub mod OnChannels
 pub mod WorkedPlans
 pub mod MissingText
+pub mod ChangedCode
+pub mod FlippedLane
+pub mod DamagedLocks
 pub mod DamagedHolds

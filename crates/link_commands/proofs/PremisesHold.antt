@@ -19,6 +19,7 @@ use Rattle.link_laws.specs.Accidents.{slot_place}
 use Rattle.link_laws.specs.PremisesMet.{behind_warmup, two_lanes, wide_words}
 use Rattle.link_laws.proofs.PremisesHold.{premises_met}
 use Rattle.link_laws.proofs.WideStream.{wide_stream}
+use Rattle.run_shell.specs.declared.status.Status.{Status}
 use Rattle.run_shell.specs.declared.status.Status.TheVariants.{Done, Held}
 use Rattle.plan_inputs.specs.Sources.{IsSourceOf}
 use Rattle.plan_inputs.proofs.SameSource.{same_source}
@@ -40,9 +41,14 @@ skewed_bytes = (refl, (refl, (refl, tt)))
 skewed_link : IsCleanLink skewed_files skewed_reading
 skewed_link = clean_link skewed_files skewed_reading (files_of_bytes skewed_entries skewed_bytes) skewed_read (λ stream. undamaged_by two_lanes (469 ∷ 500 ∷ []) stream) premises_met.clean.within
 
-is_wide : IsSourceOf skewed_reading.reading.plan skewed_reading.reading.inputs behind_warmup
+pub is_wide : IsSourceOf skewed_reading.reading.plan skewed_reading.reading.inputs behind_warmup
 unfolding channels_in_order
 is_wide = record { shape = record { burst_max = refl; burst_short = refl; group = refl; warmup = refl }; channels = refl; entries = refl; packets = refl; flow = refl; local = refl }
+
+-- what a source without flow control comes to is done
+pub done_by : (source : Source) (w : List Word) (status : Status) → source.flow ≡ [] → IsStatusOf source w status → status ≡ Done
+done_by source w status free (inl a) = absurd (free_is_not_held source w free a.1)
+done_by source w status free (inr a) = a.0
 
 pub skewed_meets : SkewedLinkMeets
 skewed_meets =
@@ -53,16 +59,12 @@ skewed_meets =
     record {
       clean = skewed_link;
       stream = words;
-      done = by h.source skewed_link.stream skewed_link.outcome.status h.is_source.flow h.status;
+      done = done_by h.source skewed_link.stream skewed_link.outcome.status h.is_source.flow h.status;
       sent =
           ap (λ (x : Source). sent_packets_at (slot_place (sent_over skewed_reading skewed_link.stream)) x 1 skewed_link.stream) source
           ∙ ap (λ (w : List Word). sent_packets_at (slot_place (sent_over skewed_reading w)) behind_warmup 1 w) words
           ∙ premises_met.sent;
     }
-  where
-    by : (source : Source) (w : List Word) (status : _) → source.flow ≡ [] → IsStatusOf source w status → status ≡ Done
-    by source w status free (inl a) = absurd (free_is_not_held source w free a.1)
-    by source w status free (inr a) = a.0
 
 -- ---- the stream is held
 

@@ -29,8 +29,9 @@ use Rattle.link_plan.specs.Timed.{flow_of, local_of}
 use Rattle.run_shell.specs.Reading.{Refusal, behind, bytes_by, bytes_in, plan_bytes}
 use Rattle.run_shell.specs.Reading as reading
 use Rattle.plan_inputs.specs.Inputs.{Inputs, inputs_in, numbers_in, on_channel, packets_by, packets_in, plan_by, plan_in, planned_in, rows_by, rows_in, schedule_in, with_inputs}
+use Rattle.link_commands.specs.DamagedMet.{damaged_entries, damaged_files, damaged_reading, damaged_text}
 use Rattle.link_commands.specs.Inputs.{LinkReading, linked_in, with_schedule}
-use Rattle.link_commands.specs.PremisesMet.{flow_text, off_entries, off_files, off_reading, off_text, one_capture, one_to_eight, plan_name, skewed_entries, skewed_files, skewed_reading, skewed_text, skews_text}
+use Rattle.link_commands.specs.PremisesMet.{flow_text, off_entries, off_files, off_reading, off_text, one_capture, one_to_eight, plan_name, skewed_entries, skewed_files, skewed_plan, skewed_reading, skewed_text, skews_text}
 
 then_at : {A B : Type 0} (r : Result A Refusal) (x : A) (next : A → Result B Refusal) → r ≡ Ok x → behind r next ≡ next x
 then_at r x next e = ap (λ q. behind q next) e
@@ -68,25 +69,41 @@ packets_read entries there =
 
 -- ---- the plan whose lanes are skewed
 
-skewed_plan_read : plan_in skewed_files plan_name ≡ Ok skewed_reading.reading.plan
-unfolding plan_in next_record records_from strip_bom is_utf8 chars encode place_in item_of number_of decimal_from told.first_fault told.later_fault told.value_of told.text_of keys.keys keys.place keys.number plans.plan_of plans.missing plans.clashes plans.first_clash plans.plan_from channels_in_order
-skewed_plan_read =
-    then_at (plan_bytes skewed_files plan_name plan_limit) skewed_text (λ bytes. plan_by (plan_of (rows_of bytes))) (ap (reading.plan_by plan_limit) (file_at skewed_entries plan_name))
+module _ (entries : List (List ℕ × List ℕ)) where
+  skewed_plan_read : find (slice_cmp nat_cmp) plan_name entries ≡ Some skewed_text → plan_in (from_entries entries) plan_name ≡ Ok skewed_plan
+  unfolding plan_in next_record records_from strip_bom is_utf8 chars encode place_in item_of number_of decimal_from told.first_fault told.later_fault told.value_of told.text_of keys.keys keys.place keys.number plans.plan_of plans.missing plans.clashes plans.first_clash plans.plan_from channels_in_order
+  skewed_plan_read there =
+      then_at (plan_bytes (from_entries entries) plan_name plan_limit) skewed_text (λ bytes. plan_by (plan_of (rows_of bytes))) (ap (reading.plan_by plan_limit) (file_at entries plan_name ∙ there))
 
-skewed_inputs_read : inputs_in skewed_files skewed_reading.reading.plan ≡ Ok skewed_reading.reading.inputs
-unfolding inputs_in
-skewed_inputs_read =
-    then_at (packets_in skewed_files 262144 capture_limit skewed_reading.reading.plan.channels) ((1, one_to_eight) ∷ [])
-    (λ ps. behind (rows_in skewed_files [] flow_of None) (λ flow. behind (rows_in skewed_files [] (local_of (numbers_in skewed_reading.reading.plan)) None) (λ local. Ok (record { packets = ps; flow = flow; local = local }))))
-    (packets_read skewed_entries refl)
+  skewed_inputs_read : find (slice_cmp nat_cmp) (codes "a") entries ≡ Some one_capture → inputs_in (from_entries entries) skewed_plan ≡ Ok skewed_reading.reading.inputs
+  unfolding inputs_in
+  skewed_inputs_read there =
+      then_at (packets_in (from_entries entries) 262144 capture_limit skewed_plan.channels) ((1, one_to_eight) ∷ [])
+      (λ ps. behind (rows_in (from_entries entries) [] flow_of None) (λ flow. behind (rows_in (from_entries entries) [] (local_of (numbers_in skewed_plan)) None) (λ local. Ok (record { packets = ps; flow = flow; local = local }))))
+      (packets_read entries there)
 
-skewed_schedule_read : schedule_in skewed_files skewed_reading.reading.plan ≡ Ok skewed_reading.schedule
-unfolding schedule_in next_record records_from strip_bom is_utf8 chars encode number_of decimal_from said_behind schedule_behind schedule_row
-skewed_schedule_read =
-    then_at (bytes_in skewed_files (codes "s") rows_limit) skews_text (λ bytes. rows_by (codes "s") (schedule_of 2 (rows_of bytes))) (ap (bytes_by (codes "s") rows_limit) (file_at skewed_entries (codes "s")))
+  -- the schedule in the file that this plan names
+  schedule_read : (rows : List ℕ) (schedule : ScheduleValue) → find (slice_cmp nat_cmp) (codes "s") entries ≡ Some rows → bytes_by (codes "s") rows_limit (Some rows) ≡ Ok rows →
+      rows_by (codes "s") (schedule_of 2 (rows_of rows)) ≡ Ok schedule → schedule_in (from_entries entries) skewed_plan ≡ Ok schedule
+  unfolding schedule_in
+  schedule_read rows schedule there small e =
+      then_at (bytes_in (from_entries entries) (codes "s") rows_limit) rows (λ bytes. rows_by (codes "s") (schedule_of 2 (rows_of bytes))) (ap (bytes_by (codes "s") rows_limit) (file_at entries (codes "s") ∙ there) ∙ small) ∙ e
+
+skews_read : rows_by (codes "s") (schedule_of 2 (rows_of skews_text)) ≡ Ok skewed_reading.schedule
+unfolding next_record records_from strip_bom is_utf8 chars encode number_of decimal_from said_behind schedule_behind schedule_row
+skews_read = refl
 
 pub skewed_read : linked_in skewed_files plan_name ≡ Ok skewed_reading
-skewed_read = read_by skewed_entries skewed_reading skewed_plan_read skewed_inputs_read skewed_schedule_read
+skewed_read = read_by skewed_entries skewed_reading (skewed_plan_read skewed_entries refl) (skewed_inputs_read skewed_entries refl) (schedule_read skewed_entries skews_text skewed_reading.schedule refl refl skews_read)
+
+-- ---- the same plan with a flip
+
+flip_read : rows_by (codes "s") (schedule_of 2 (rows_of damaged_text)) ≡ Ok damaged_reading.schedule
+unfolding next_record records_from strip_bom is_utf8 chars encode number_of decimal_from said_behind schedule_behind schedule_row
+flip_read = refl
+
+pub damaged_read : linked_in damaged_files plan_name ≡ Ok damaged_reading
+damaged_read = read_by damaged_entries damaged_reading (skewed_plan_read damaged_entries refl) (skewed_inputs_read damaged_entries refl) (schedule_read damaged_entries damaged_text damaged_reading.schedule refl refl flip_read)
 
 -- ---- the plan whose channel is off
 
