@@ -1,8 +1,8 @@
 -- Lanes that are held: where they begin, and what is known of their outputs.
-use Rattle.std.proofs.Common.{◌≡◌, ◌≢◌, ℕ, zero, suc, ◌<◌, ◌≤◌, ◌^◌, All, List, [], ◌∷◌, ◌++◌, length, map, get_or, refl, sym, ap, ◌∙◌, subst, arith, Option, Some, IsTrue, Vec, Global}
+use Rattle.std.proofs.Common.{◌≡◌, ℕ, zero, suc, ◌<◌, ◌≤◌, ◌^◌, All, List, [], ◌∷◌, ◌++◌, length, map, get_or, refl, sym, ◌∙◌, subst, arith, Option, IsTrue, Vec, Global}
 use Rattle.std.proofs.lemmas.List.{length-map}
 use Rattle.std.proofs.lemmas.List.FromFn.{length-map-range_with_len}
-use Rattle.lk_base.specs.Link.{Settings, IsLink}
+use Rattle.lk_base.specs.Link.{Settings}
 use Rattle.lk_outside.specs.Files.{Files}
 use Rattle.link_plan.specs.Plan.{PlanValue}
 use Rattle.receive_model.specs.Events.{Setting, is_rising}

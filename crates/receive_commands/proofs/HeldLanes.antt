@@ -1,12 +1,11 @@
 -- Lanes that are held are fed on, and their events come.
-use Rattle.std.proofs.Common.{◌≡◌, ℕ, zero, suc, ◌+◌, ◌-◌, ◌*◌, ◌<◌, ◌≤◌, Bool, true, false, ◌&&◌, List, [], ◌∷◌, ◌++◌, length, length-append, map, set, get_or, slice_get, refl, sym, ap, ap₂, ◌∙◌, subst, append_assoc, append-nil, arith, Option, Some, None}
+use Rattle.std.proofs.Common.{◌≡◌, ℕ, zero, suc, ◌+◌, ◌*◌, ◌<◌, ◌≤◌, Bool, true, false, ◌&&◌, List, [], ◌∷◌, ◌++◌, length, length-append, map, set, get_or, slice_get, refl, sym, ap, ap₂, ◌∙◌, subst, append_assoc, arith, Option, Some, None}
 use Rattle.std.proofs.lemmas.List.{length-map}
-use Rattle.lk_base.specs.Checksum.{bits_of_bytes}
 use Rattle.lk_base.specs.Link.{Settings}
 use Rattle.lk_outside.specs.Files.{Files}
 use Rattle.lock_model.specs.declared.types.LaneReport.{LaneReport}
 use Rattle.receive_model.specs.Events.{Event, Setting}
-use Rattle.receiver_model.specs.Fed.{AllBegin, AllGo, Fed, Goes, all_finished, whole}
+use Rattle.receiver_model.specs.Fed.{AllBegin, Fed, all_finished}
 use Rattle.receiver_model.specs.Given.{AreEvents}
 use Rattle.rx_end.specs.Calls.{IsReportOf, bytes_at, fed_more, finished_at, is_unfinished, nothing_fed}
 use Rattle.receiver_model.proofs.Clocks.{AreShort, short_at_end}

@@ -28,7 +28,7 @@ use Rattle.run_shell.specs.Writing.{Writes}
 use Rattle.run_shell.proofs.Works.{is_meaning, behind_stops}
 use Rattle.run_shell.proofs.Readings.{first_stops, second_reads}
 use Rattle.receive_commands.specs.Received.{output_names, received_outcome}
-use Rattle.receive_commands.specs.Words.{words_by, words_in, vec_words}
+use Rattle.receive_commands.specs.Words.{words_by, words_in}
 use Rattle.receive_commands.specs.JoinWords.{join_setting, join_words_work, join_words_meaning}
 use Rattle.receive_commands.specs.JoinPlan.{IsJoined, IsReadFor, IsSettingOf, PlanWords, join_plan_work, join_plan_meaning, plan_names, plan_words_in, with_words, words_name}
 use Rattle.receive_commands.specs.PlanWords.{words_value}
@@ -116,13 +116,13 @@ join_plan_means name = is_meaning (join_plan_work name) (plan_work name)
 -- ---- a words file
 
 -- what reading answered
-abbrev Answers : List ℕ → Result (Vec RxWord Global) WordsError → Type 0
-Answers bytes answer = MatchResult answer (λ words. words_of_file bytes ≡ Ok words.items) (λ why. words_of_file bytes ≡ Err why)
+abbrev Answers : List ℕ → Result (List RxWord) WordsError → Type 0
+Answers bytes answer = MatchResult answer (λ words. words_of_file bytes ≡ Ok words) (λ why. words_of_file bytes ≡ Err why)
 
-pub words_read : (file : List ℕ) (answer : Result (Vec RxWord Global) WordsError) (words : Vec RxWord Global) → answer ≡ Ok words → Answers file answer → words_of_file file ≡ Ok words.items
+pub words_read : (file : List ℕ) (answer : Result (List RxWord) WordsError) (words : List RxWord) → answer ≡ Ok words → Answers file answer → words_of_file file ≡ Ok words
 words_read file answer words e h = subst (Answers file) e h
 
-refusal_read : (file : List ℕ) (answer : Result (Vec RxWord Global) WordsError) (why : WordsError) → answer ≡ Err why → Answers file answer → words_of_file file ≡ Err why
+refusal_read : (file : List ℕ) (answer : Result (List RxWord) WordsError) (why : WordsError) → answer ≡ Err why → Answers file answer → words_of_file file ≡ Err why
 refusal_read file answer why e h = subst (Answers file) e h
 
 -- no more words than bytes
@@ -133,32 +133,32 @@ module _ (name : List ℕ) (x : Option Files) where
   abbrev In : Files → Result (List RxWord) Refusal
   In files = words_in files name
 
-  pub no_bytes : (s : Stop) → IfSome x (λ files. Reads vec_items (λ n. n ≡ name) (Err s) (bytes_in files name 1073741824)) → IfSome x (λ files. Reads vec_words (λ n. n ≡ name) (Err s) (words_in files name))
+  pub no_bytes : (s : Stop) → IfSome x (λ files. Reads vec_items (λ n. n ≡ name) (Err s) (bytes_in files name 1073741824)) → IfSome x (λ files. Reads (λ (ws : List RxWord). ws) (λ n. n ≡ name) (Err s) (words_in files name))
   no_bytes s h =
-      first_stops (List ℕ) (List RxWord) (Vec ℕ Global) (Vec RxWord Global) (λ files. bytes_in files name 1073741824) (λ files bytes. words_by name (words_of_file bytes)) vec_items vec_words (λ files n. n ≡ name) (λ files n. n ≡ name) s x (λ u q n. n) h
+      first_stops (List ℕ) (List RxWord) (Vec ℕ Global) (List RxWord) (λ files. bytes_in files name 1073741824) (λ files bytes. words_by name (words_of_file bytes)) vec_items (λ (ws : List RxWord). ws) (λ files n. n ≡ name) (λ files n. n ≡ name) s x (λ u q n. n) h
 
-  had_bytes : (bytes file : List ℕ) (r : Result (Vec RxWord Global) Stop) → file ≡ bytes → IfSome x (λ files. bytes_in files name 1073741824 ≡ Ok bytes) → Reads vec_words (λ n. n ≡ name) r (words_by name (words_of_file file)) → IfSome x (λ files. Reads vec_words (λ n. n ≡ name) r (words_in files name))
+  had_bytes : (bytes file : List ℕ) (r : Result (List RxWord) Stop) → file ≡ bytes → IfSome x (λ files. bytes_in files name 1073741824 ≡ Ok bytes) → Reads (λ (ws : List RxWord). ws) (λ n. n ≡ name) r (words_by name (words_of_file file)) → IfSome x (λ files. Reads (λ (ws : List RxWord). ws) (λ n. n ≡ name) r (words_in files name))
   had_bytes bytes file r same had h =
-      second_reads (List ℕ) (List RxWord) (Vec ℕ Global) (Vec RxWord Global) (λ files. bytes_in files name 1073741824) (λ files bs. words_by name (words_of_file bs)) vec_words (λ files n. n ≡ name) (λ files n. n ≡ name) bytes r x x refl (λ u q is n. n) had
-      (by x (subst (λ bs. Reads vec_words (λ n. n ≡ name) r (words_by name (words_of_file bs))) same h))
+      second_reads (List ℕ) (List RxWord) (Vec ℕ Global) (List RxWord) (λ files. bytes_in files name 1073741824) (λ files bs. words_by name (words_of_file bs)) (λ (ws : List RxWord). ws) (λ files n. n ≡ name) (λ files n. n ≡ name) bytes r x x refl (λ u q is n. n) had
+      (by x (subst (λ bs. Reads (λ (ws : List RxWord). ws) (λ n. n ≡ name) r (words_by name (words_of_file bs))) same h))
     where
-      by : (y : Option Files) → Reads vec_words (λ n. n ≡ name) r (words_by name (words_of_file bytes)) → IfSome y (λ files. Reads vec_words (λ n. n ≡ name) r (words_by name (words_of_file bytes)))
+      by : (y : Option Files) → Reads (λ (ws : List RxWord). ws) (λ n. n ≡ name) r (words_by name (words_of_file bytes)) → IfSome y (λ files. Reads (λ (ws : List RxWord). ws) (λ n. n ≡ name) r (words_by name (words_of_file bytes)))
       by None k = tt
       by (Some u) k = k
 
-  pub words_there : (bytes file : List ℕ) (answer : Result (Vec RxWord Global) WordsError) (words : Vec RxWord Global) → file ≡ bytes → IfSome x (λ files. bytes_in files name 1073741824 ≡ Ok bytes) → answer ≡ Ok words → Answers file answer → IfSome x (λ files. words_in files name ≡ Ok words.items)
+  pub words_there : (bytes file : List ℕ) (answer : Result (List RxWord) WordsError) (words : List RxWord) → file ≡ bytes → IfSome x (λ files. bytes_in files name 1073741824 ≡ Ok bytes) → answer ≡ Ok words → Answers file answer → IfSome x (λ files. words_in files name ≡ Ok words)
   words_there bytes file answer words same had e h = had_bytes bytes file (Ok words) same had (ap (words_by name) (words_read file answer words e h))
 
-  pub words_memory : (bytes file : List ℕ) → file ≡ bytes → IfSome x (λ files. bytes_in files name 1073741824 ≡ Ok bytes) → IfSome x (λ files. Reads {T = Vec RxWord Global} vec_words (λ n. n ≡ name) (Err stop.OutOfMemory) (words_in files name))
+  pub words_memory : (bytes file : List ℕ) → file ≡ bytes → IfSome x (λ files. bytes_in files name 1073741824 ≡ Ok bytes) → IfSome x (λ files. Reads {T = List RxWord} (λ (ws : List RxWord). ws) (λ n. n ≡ name) (Err stop.OutOfMemory) (words_in files name))
   words_memory bytes file same had = had_bytes bytes file (Err stop.OutOfMemory) same had tt
 
-  pub words_refused : (bytes file : List ℕ) (answer : Result (Vec RxWord Global) WordsError) (why : WordsError) (s : Stop) → file ≡ bytes → IfSome x (λ files. bytes_in files name 1073741824 ≡ Ok bytes) → answer ≡ Err why → Answers file answer → IsOfInput name (refused.Words why) s → IfSome x (λ files. Reads {T = Vec RxWord Global} vec_words (λ n. n ≡ name) (Err s) (words_in files name))
+  pub words_refused : (bytes file : List ℕ) (answer : Result (List RxWord) WordsError) (why : WordsError) (s : Stop) → file ≡ bytes → IfSome x (λ files. bytes_in files name 1073741824 ≡ Ok bytes) → answer ≡ Err why → Answers file answer → IsOfInput name (refused.Words why) s → IfSome x (λ files. Reads {T = List RxWord} (λ (ws : List RxWord). ws) (λ n. n ≡ name) (Err s) (words_in files name))
   words_refused bytes file answer why s same had e h is = had_bytes bytes file (Err s) same had (by s is)
     where
       refusal : words_by name (words_of_file file) ≡ Err (of_input name (refused.Words why))
       refusal = ap (words_by name) (refusal_read file answer why e h)
 
-      by : (t : Stop) → IsOfInput name (refused.Words why) t → Reads {T = Vec RxWord Global} vec_words (λ n. n ≡ name) (Err t) (words_by name (words_of_file file))
+      by : (t : Stop) → IsOfInput name (refused.Words why) t → Reads {T = List RxWord} (λ (ws : List RxWord). ws) (λ n. n ≡ name) (Err t) (words_by name (words_of_file file))
       by (stop.Plan p) k = absurd k
       by (stop.Input n w) k = rw (k.0, k.1) refusal
       by (stop.Store n) k = absurd k
@@ -186,17 +186,17 @@ module _ (file : List ℕ) where
 
     module _ (name : List ℕ) (named : name ≡ words_name (plan_value plan).out) where
       -- the words were refused, or reading them stopped
-      pub no_words : (s : Stop) → IfSome y (λ files. Reads vec_words (λ n. n ≡ name) (Err s) (words_in files name)) → IfSome x (λ files. Reads words_value (IsReadFor file files) (Err s) (plan_words_in files file))
+      pub no_words : (s : Stop) → IfSome y (λ files. Reads (λ (ws : List RxWord). ws) (λ n. n ≡ name) (Err s) (words_in files name)) → IfSome x (λ files. Reads words_value (IsReadFor file files) (Err s) (plan_words_in files file))
       no_words s h =
           second_reads PlanValue PlanWords Plan code.PlanWords (λ files. plan_in files file) with_words words_value (IsReadFor file) (IsReadFor file) (plan_value plan) (Err s) x y same (λ u q is n. n) had
           (subst (λ z. IfSome z (λ files. Reads words_value (IsReadFor file files) (Err s) (with_words files (plan_value plan)))) (sym same)
-          (by x had (subst (λ z. IfSome z (λ files. Reads vec_words (λ n. n ≡ name) (Err s) (words_in files name))) same h)))
+          (by x had (subst (λ z. IfSome z (λ files. Reads (λ (ws : List RxWord). ws) (λ n. n ≡ name) (Err s) (words_in files name))) same h)))
         where
-          by : (z : Option Files) → IfSome z (λ files. plan_in files file ≡ Ok (plan_value plan)) → IfSome z (λ files. Reads vec_words (λ n. n ≡ name) (Err s) (words_in files name)) → IfSome z (λ files. Reads words_value (IsReadFor file files) (Err s) (with_words files (plan_value plan)))
+          by : (z : Option Files) → IfSome z (λ files. plan_in files file ≡ Ok (plan_value plan)) → IfSome z (λ files. Reads (λ (ws : List RxWord). ws) (λ n. n ≡ name) (Err s) (words_in files name)) → IfSome z (λ files. Reads words_value (IsReadFor file files) (Err s) (with_words files (plan_value plan)))
           by None is k = tt
           by (Some u) is k =
               subst (λ m. Reads words_value (IsReadFor file u) (Err s) (behind (words_in u m) (λ words. Ok (record { plan = plan_value plan; words = words })))) named
-              (behind_stops (List RxWord) PlanWords (Vec RxWord Global) code.PlanWords (words_in u name) (λ words. Ok (record { plan = plan_value plan; words = words })) vec_words words_value (λ n. n ≡ name) (IsReadFor file u) s (λ q n. named_for plan name u q named is n) k)
+              (behind_stops (List RxWord) PlanWords (List RxWord) code.PlanWords (words_in u name) (λ words. Ok (record { plan = plan_value plan; words = words })) (λ (ws : List RxWord). ws) words_value (λ n. n ≡ name) (IsReadFor file u) s (λ q n. named_for plan name u q named is n) k)
 
       -- both were read
       pub both_read : (words : List RxWord) → IfSome y (λ files. words_in files name ≡ Ok words) → IfSome x (λ files. plan_words_in files file ≡ Ok (record { plan = plan_value plan; words = words }))

@@ -1,5 +1,5 @@
 -- What lanes that are held in memory come to, behind outputs that hold them.
-use Rattle.std.specs.Prelude.{◌≡◌, ℕ, true, List, ◌++◌, Option, Result, Ok, Err, Contains, map, Vec}
+use Rattle.std.specs.Prelude.{◌≡◌, ℕ, true, List, ◌++◌, Option, Result, Ok, Err, Contains, Vec}
 use Rattle.std.specs.declared.alloc.Global.{Global}
 use Rattle.lk_base.specs.Link.{Settings, IsLink}
 use Rattle.lk_outside.specs.Files.{Files, Told}

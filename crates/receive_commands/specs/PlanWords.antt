@@ -4,4 +4,4 @@ use Rattle.receive_commands.specs.declared.plan_words.PlanWords as code
 use Rattle.receive_commands.specs.JoinPlan.{PlanWords}
 
 abbrev pub words_value : code.PlanWords → PlanWords
-words_value read = record { plan = plan_value read.plan; words = read.words.items }
+words_value read = record { plan = plan_value read.plan; words = read.words }

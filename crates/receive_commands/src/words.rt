@@ -1,16 +1,17 @@
 //! Words are received: captures and a span table.
-ghost use Rattle.std.specs.Prelude.{◌≡◌, ◌<◌, ◌≤◌, ◌^◌, ◌++◌, ◌∷◌, [], IsTrue, List, true, false, Bool, Option, length, slice_get, IfOk, OnOk};
+ghost use Rattle.std.specs.Prelude.{◌≡◌, ◌<◌, ◌≤◌, ◌^◌, ◌++◌, ◌∷◌, [], IsTrue, List, true, false, Bool, not, Option, length, slice_get, IfOk, OnOk};
 ghost use Rattle.lk_base.specs.declared.word.Aligned.{Aligned};
 ghost use Rattle.lk_base.specs.Limits.{longest_packet};
 ghost use Rattle.lk_outside.specs.Files.{Files};
 ghost use Rattle.receive_model.specs.Events.{Setting, Event, Delivered, is_rising, word_events};
+ghost use Rattle.receive_model.specs.Behind.{comes_behind};
 ghost use Rattle.reassembly.specs.OutputLaws.{IsOfSize, HasSize};
-ghost use Rattle.reassembly.specs.States.{NothingWaits, TellsLength, event_of, is_packet};
+ghost use Rattle.reassembly.specs.States.{NothingWaits, TellsLength, event_of, gives_nothing, is_packet};
 ghost use Rattle.run_shell.specs.Stops.{StopCount};
 ghost use Rattle.run_shell.specs.Writing.{Writes};
 ghost use Rattle.receive_commands.specs.Received.{output_names, received_outcome};
 ghost use Rattle.receive_commands.specs.Receipts.{Beginning, IsReceipt, Receives, MayCome};
-ghost use Rattle.receive_commands.specs.Going.{IsAt, IsFor, Takes, item_by};
+ghost use Rattle.receive_commands.specs.Going.{IsAt, IsFor, Takes, item_by, outputs_of};
 
 use crate::receipt::Receipt;
 use link_laws::Found;
@@ -19,6 +20,7 @@ use lk_outside::Store;
 use reassembly::{Out, Reassembly};
 use run_shell::{Finished, Stop};
 use std::alloc::Global;
+use words_files::WordsFile;
 
 // The bytes of the packet that is lent.
 fn lent_packet(alloc: Global, reassembly: &Reassembly, size: u32) -> Result<Vec<u8>, OutOfMemory>
@@ -127,8 +129,43 @@ fn take_outputs<S: Store>(
     Ok(())
 }
 
+// Whether the item leaves outputs to be given: a control word and the end of the words may, and no other.
+fn may_give(item: Aligned) -> bool
+    ensures { result ≡ not (gives_nothing item) }
+{
+    match item {
+        Aligned::Group(_) | Aligned::Word(_, RxWord::Data(_) | RxWord::Bad) => false,
+        Aligned::Word(_, RxWord::Control(_)) | Aligned::Break(..) => true,
+    }
+}
+
+// Puts an item, and takes its outputs.
+fn take_item<S: Store>(
+    alloc: Global,
+    store: &mut S,
+    receipt: &mut Receipt,
+    reassembly: &mut Reassembly,
+    item: Aligned,
+) -> Result<(), Stop>
+    requires count { S.faults store.old < 2 ^ 60 }
+    requires waits { NothingWaits reassembly.old }
+    requires at { (b : Beginning) × (put : List Aligned) × (comes_behind put item ≡ true) × IsAt b put false (outputs_of b put false) reassembly.old receipt.old (S.files store.old) }
+    ensures cause { StopCount result (S.faults store.old) (S.faults store.new) }
+    ensures waits { OnOk result (NothingWaits reassembly.new) }
+    ensures takes { (b : Beginning) (put : List Aligned) → comes_behind put item ≡ true → IsAt b put false (outputs_of b put false) reassembly.old receipt.old (S.files store.old) →
+        Takes b (put ++ item ∷ []) false result reassembly.new receipt.new (S.files store.new) }
+{
+    let gives = may_give(item);
+    reassembly.put(item);
+    if gives {
+        take_outputs(alloc, store, receipt, reassembly)
+    } else {
+        Ok(())
+    }
+}
+
 // What is put at this number: the word, or behind all of them the end.
-fn item_at(words: &[RxWord], index: usize) -> Aligned
+fn item_at(words: &WordsFile, index: usize) -> Aligned
     requires { index < 2 ^ 32 }
     ensures { result ≡ item_by index (slice_get words.now index) }
 {
@@ -137,7 +174,7 @@ fn item_at(words: &[RxWord], index: usize) -> Aligned
         index: index as u32,
     };
     match words.get(index) {
-        Some(word) => Aligned::Word(at, *word),
+        Some(word) => Aligned::Word(at, word),
         None => Aligned::Break(at, Why::End),
     }
 }
@@ -148,7 +185,7 @@ fn take_words<S: Store>(
     store: &mut S,
     receipt: &mut Receipt,
     reassembly: &mut Reassembly,
-    words: &[RxWord],
+    words: &WordsFile,
 ) -> Result<(), Stop>
     requires count { S.faults store.old < 2 ^ 60 }
     requires few { length words.now < 2 ^ 32 }
@@ -160,8 +197,7 @@ fn take_words<S: Store>(
 {
     let mut index = 0;
     while index <= words.len() {
-        reassembly.put(item_at(words, index));
-        take_outputs(alloc, store, receipt, reassembly)?;
+        take_item(alloc, store, receipt, reassembly, item_at(words, index))?;
         index += 1;
     }
     reassembly.finish();
@@ -179,7 +215,7 @@ pub fn receive_words<S: Store>(
     channels: &[u16],
     max_packet: u32,
     link_type: u32,
-    words: &[RxWord],
+    words: &WordsFile,
 ) -> Result<Finished, Stop>
     requires count { S.faults store.old < 2 ^ 60 }
     requires in_order { IsTrue (is_rising channels.now) }

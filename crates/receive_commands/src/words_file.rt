@@ -2,30 +2,30 @@
 ghost use Rattle.std.specs.Prelude.{◌≡◌, ◌<◌, ◌≤◌, ◌^◌, IfOk, IfSome, length, Result};
 ghost use Rattle.run_shell.specs.Stops.{StopCount};
 ghost use Rattle.run_shell.specs.Reading.{Reads};
-ghost use Rattle.receive_commands.specs.Words.{words_in, vec_words};
+ghost use Rattle.receive_commands.specs.Words.{words_in};
 
 use link_reports::InputError;
-use lk_base::{RxWord, WORDS_LIMIT};
+use lk_base::WORDS_LIMIT;
 use lk_outside::Store;
 use run_shell::{Stop, input_stop, read_input};
 use std::alloc::Global;
-use words_files::read_words;
+use words_files::WordsFile;
 
-/// The words of the file of this name. It is refused exactly where it is absent, has more than 1,073,741,824 bytes, or is no
+/// The words file of this name. It is refused exactly where it is absent, has more than 1,073,741,824 bytes, or is no
 /// words file, but for faults of the store and want of memory. The files are as they were.
 pub fn read_words_file<S: Store>(
     alloc: Global,
     store: &mut S,
     name: &str,
-) -> Result<Vec<RxWord>, Stop>
+) -> Result<WordsFile, Stop>
     requires { S.faults store.old < 2 ^ 60 }
     ensures cause { StopCount result (S.faults store.old) (S.faults store.new) }
     ensures unchanged { S.files store.new ≡ S.files store.old }
-    ensures few { IfOk result (λ words. length words.items < 2 ^ 32) }
-    ensures reads { IfSome (S.files store.old) (λ files. Reads vec_words (λ n. n ≡ name.now) result (words_in files name.now)) }
+    ensures few { IfOk result (λ words. length words < 2 ^ 32) }
+    ensures reads { IfSome (S.files store.old) (λ files. Reads (λ words. words) (λ n. n ≡ name.now) result (words_in files name.now)) }
 {
     let bytes = read_input(alloc, store, name, WORDS_LIMIT)?;
-    match read_words(alloc, &bytes)? {
+    match WordsFile::make(bytes) {
         Ok(words) => Ok(words),
         Err(why) => Err(input_stop(alloc, name, InputError::Words(why))),
     }

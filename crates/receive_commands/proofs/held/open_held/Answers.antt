@@ -1,4 +1,4 @@
-use Rattle.std.proofs.Common.{◌≡◌, ◌++◌, ◌∙◌, ◌≤◌, ap, sym, subst, refl, arith, All, List, ℕ, length, map, string_bytes, true}
+use Rattle.std.proofs.Common.{◌≡◌, ◌++◌, ◌∙◌, ◌≤◌, ap, sym, subst, arith, All, List, ℕ, map, string_bytes, true}
 use Rattle.std.proofs.lemmas.Result.{err_from_is_err_and}
 use Rattle.link_plan.specs.Listing.{channels_in_order, numbers_of}
 use Rattle.link_plan.specs.Views.{plan_value}

@@ -1,11 +1,11 @@
-use Rattle.std.proofs.Common.{◌≡◌, ◌∙◌, ◌≤◌, ap, sym, subst, refl, arith, List, [], ℕ, length, map, replicate, Option, Some, Result, Ok, Err}
+use Rattle.std.proofs.Common.{◌≡◌, ◌∙◌, ap, subst, arith, List, [], ℕ, length, map, replicate, Option, Some}
 use Rattle.std.proofs.lemmas.Result.{err_from_is_err_and}
 use Rattle.link_plan.specs.Views.{plan_value}
 use Rattle.receive_model.specs.Events.{Setting}
 use Rattle.rx_end.specs.Calls.{nothing_fed}
 use Rattle.run_shell.specs.declared.stop.Stop.TheVariants as stop
 use Rattle.receive_commands.specs.Receipts.{Beginning}
-use Rattle.receive_commands.specs.Feeding.{IsTaking, offset_of}
+use Rattle.receive_commands.specs.Feeding.{IsTaking}
 use Rattle.receive_commands.specs.Held.{HeldCame, HeldStopped, held_beginning, vec_bytes}
 use Rattle.receive_commands.specs.Holding.{AllHeld}
 use Rattle.receive_commands.proofs.HeldEnds.{as_many_lanes, begins_so, lanes_of_held, none_opened}

@@ -1,11 +1,10 @@
-use Rattle.std.proofs.Common.{◌≡◌, ◌∙◌, ◌<◌, ◌≤◌, ◌+◌, ◌^◌, ℕ, List, [], All, Vec, Global, length, map, get_or, refl, sym, subst, ap, arith, Some}
+use Rattle.std.proofs.Common.{◌≡◌, ◌∙◌, ◌<◌, ◌^◌, ℕ, List, [], All, Vec, Global, length, map, get_or, refl, sym, subst, ap, arith, Some}
 use Rattle.std.proofs.lemmas.Result.{err_from_is_err_and}
 use Rattle.std.proofs.lemmas.List.{get_or-map, length-map}
-use Rattle.run_shell.proofs.Creating.{named}
-use Rattle.receive_commands.specs.Feeding.{IsTaking, fed_next}
+use Rattle.receive_commands.specs.Feeding.{fed_next}
 use Rattle.receive_commands.specs.Held.{vec_bytes}
 use Rattle.receive_commands.specs.Holding.{IsHeldPiece, left_in}
-use Rattle.receive_commands.proofs.HeldLanes.{all_held, cut_held, less_held, offset_within, piece_cut, piece_held, receiving, unfinished}
+use Rattle.receive_commands.proofs.HeldLanes.{all_held, cut_held, less_held, offset_within, piece_cut, piece_held, receiving}
 use Rattle.receive_commands.proofs.LaneOffsets.{open_below}
 use Rattle.receive_commands.proofs.ReceiveLanes.{fed_taking, lane_counted, lane_empty, lane_open}
 use Rattle.receive_commands.proofs.held_lanes.take_held.Goals as goal

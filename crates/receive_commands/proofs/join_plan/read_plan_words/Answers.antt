@@ -23,4 +23,4 @@ returns-in_err-words-clause-reads g c =
 
 pub returns-clause-reads : goal.returns-clause-reads
 returns-clause-reads g c =
-    both_read c.args.file.now _ _ c.in_ok-plan.ensures.unchanged c.in_ok-plan.plan c.in_ok-plan.ensures.reads c.as_str-2.result.now (c.as_str-2.ensures.value ∙ c.in_ok-name.ensures ∙ ap words_name c.as_str.ensures.value) c.in_ok-words.words.items c.in_ok-words.ensures.reads
+    both_read c.args.file.now _ _ c.in_ok-plan.ensures.unchanged c.in_ok-plan.plan c.in_ok-plan.ensures.reads c.as_str-2.result.now (c.as_str-2.ensures.value ∙ c.in_ok-name.ensures ∙ ap words_name c.as_str.ensures.value) c.in_ok-words.words c.in_ok-words.ensures.reads

@@ -1,12 +1,10 @@
 use Rattle.std.proofs.Common.{◌∙◌, ◌≤◌, ap, sym, subst, List, ℕ, length}
 use Rattle.std.proofs.lemmas.Result.{err_from_is_err_and}
-use Rattle.lk_base.specs.declared.word.RxWord.{RxWord}
 use Rattle.link_plan.specs.Listing.{channels_in_order, numbers_of}
 use Rattle.link_plan.specs.Views.{plan_value}
 use Rattle.link_plan.proofs.Whole.{order-few}
-use Rattle.run_shell.specs.Writing.{Writes}
 use Rattle.run_shell.proofs.Writing.{none_writes}
-use Rattle.receive_commands.specs.JoinPlan.{IsJoined, plan_names}
+use Rattle.receive_commands.specs.JoinPlan.{plan_names}
 use Rattle.receive_commands.proofs.Joins.{order_rises, plan_order, plan_writes}
 use Rattle.receive_commands.proofs.join_plan.write_plan_words.Goals as goal
 
@@ -26,5 +24,4 @@ pub returns-clause-writes : goal.returns-clause-writes
 returns-clause-writes g c =
     let plan = c.args.read.now.plan in
     let order = plan_order plan c.deref.result.now (c.deref.ensures.value ∙ c.in_ok-channels.ensures ∙ ap (λ cs. channels_in_order (numbers_of cs)) c.as_slice.ensures.value) in
-    subst (λ (words : List RxWord). Writes (IsJoined (record { plan = plan_value plan; words = words })) (plan_names (plan_value plan)) c.receive_words.result (g.S.Store.files c.args.store.now) (g.S.Store.files c.receive_words.new.store)) c.deref-2.ensures.value
-    (plan_writes (plan_value plan) c.deref-2.result.now c.as_str.result.now c.deref.result.now c.max_packet.result c.as_str.ensures.value order c.max_packet.ensures.value c.receive_words.result _ _ (order_rises _ c.deref.result.now (c.deref.ensures.value ∙ c.in_ok-channels.ensures)) c.receive_words.ensures.writes)
+    plan_writes (plan_value plan) c.args.read.now.words c.as_str.result.now c.deref.result.now c.max_packet.result c.as_str.ensures.value order c.max_packet.ensures.value c.receive_words.result _ _ (order_rises _ c.deref.result.now (c.deref.ensures.value ∙ c.in_ok-channels.ensures)) c.receive_words.ensures.writes

@@ -1,4 +1,4 @@
-use Rattle.std.proofs.Common.{◌≡◌, subst, sym, string_bytes, map}
+use Rattle.std.proofs.Common.{string_bytes, map}
 use Rattle.std.proofs.lemmas.Result.{err_from_is_err_and}
 use Rattle.receive_commands.proofs.Firsts.{not_created}
 use Rattle.receive_commands.proofs.outputs.create_firsts.Goals as goal

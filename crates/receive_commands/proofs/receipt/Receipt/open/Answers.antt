@@ -1,4 +1,4 @@
-use Rattle.std.proofs.Common.{◌≡◌, ◌++◌, ◌∙◌, ap, sym, subst, List, ℕ, [], map, string_bytes, false}
+use Rattle.std.proofs.Common.{◌++◌, sym, subst, [], map, string_bytes, false}
 use Rattle.run_shell.specs.Outputs.{Differ, outs}
 use Rattle.receive_commands.specs.Received.{output_names}
 use Rattle.receive_commands.specs.Receipts.{Opens}
