@@ -1,10 +1,11 @@
 -- The bits of a number in two parts.
 use Rattle.std.proofs.Common.{ℕ, zero, suc, ◌≡◌, refl, sym, ap, ◌∙◌, ◌+◌, ◌-◌, ◌*◌, ◌/◌, ◌%◌, ◌^◌, ◌<◌, ◌≤◌, ◌==◌, false, [], ◌∷◌, ◌++◌, length, replicate, arith, subst, bit_and, bit_or}
-use Rattle.std.specs.Int.{bit_at}
+use Rattle.std.specs.Int.{bit_at, byte_at, bytes_high_first}
 use Rattle.std.proofs.Math.Pow.{mod-mod-pow}
-use Rattle.std.proofs.lemmas.Nat.{field_of, shr-shr, shr_high, mod_low, mod-pow-add, shl-shr, and_mask, or_shifted, pow_pos}
+use Rattle.std.proofs.Math.Nat.{div-one, pow-suc}
+use Rattle.std.proofs.lemmas.Nat.{field_of, shr-shr, shr_high, mod_low, mod-pow-add, shl-shr, and_mask, or_shifted, pow-add, pow_pos}
 use Rattle.std.proofs.lemmas.Nat.Bits.{bit_at-zero}
-use Rattle.lk_base.specs.Checksum.{bits_of}
+use Rattle.lk_base.specs.Checksum.{bits_of, bits_of_bytes}
 use Rattle.lane_model.proofs.Numbers.{length-bits_of}
 
 one_bit : (n x : ℕ) → bits_of (suc n) x ≡ (bit_at x n == 1) ∷ bits_of n x
@@ -76,6 +77,13 @@ taken count bits h =
     ∙ bits-cut 8 (count - 8) bits
     ∙ ap (λ b. b ++ bits_of (count - 8) bits) (sym (ap (bits_of 8) (and_mask (bits / 2 ^ (count - 8)) 8) ∙ bits-mod 8 8 (bits / 2 ^ (count - 8)) (omega arith)))
 
+pub taken_64 : (count bits : ℕ) → 64 ≤ count → bits_of count bits ≡ bits_of 64 (bit_and (bits / 2 ^ (count - 64)) 18446744073709551615) ++ bits_of (count - 64) bits
+taken_64 count bits h =
+    let e : count ≡ 64 + (count - 64) = omega arith in
+    ap (λ n. bits_of n bits) e
+    ∙ bits-cut 64 (count - 64) bits
+    ∙ ap (λ b. b ++ bits_of (count - 64) bits) (sym (ap (bits_of 64) (and_mask (bits / 2 ^ (count - 64)) 64) ∙ bits-mod 64 64 (bits / 2 ^ (count - 64)) (omega arith)))
+
 pub padded : (count bits : ℕ) → count < 8 → bits_of 8 (bit_and (bits * 2 ^ (8 - count) % 2 ^ 128) 255) ≡ bits_of count bits ++ replicate (8 - length (bits_of count bits)) false
 padded count bits h =
     let y = bits * 2 ^ (8 - count) in
@@ -94,3 +102,22 @@ padded count bits h =
 
 pub empty_is : (count bits : ℕ) → bits_of count bits ≡ [] → count ≡ 0
 empty_is count bits e = sym (length-bits_of count bits) ∙ ap length e
+
+-- ---- the bytes of a number
+
+pow_bytes : (k : ℕ) → 256 ^ k ≡ 2 ^ (8 * k)
+pow_bytes zero = refl
+pow_bytes (suc k) =
+    let e : 8 * suc k ≡ 8 * k + 8 = omega arith in
+    pow-suc 256 k ∙ ap (λ m. m * 256) (pow_bytes k) ∙ sym (pow-add 2 (8 * k) 8) ∙ ap (λ m. 2 ^ m) (sym e)
+
+-- so many of its lowest bytes, the highest first, have its bits
+pub bits_of_bytes_high : (k n : ℕ) → bits_of_bytes (bytes_high_first k n) ≡ bits_of (8 * k) n
+bits_of_bytes_high zero n = sym (no_bits n)
+bits_of_bytes_high (suc k) n =
+    let e : 8 * suc k ≡ 8 + 8 * k = omega arith in
+    rw e (ap (λ b. b ++ bits_of_bytes (bytes_high_first k n)) (byte_bits k n) ∙ ap (λ b. bits_of 8 (n / 2 ^ (8 * k)) ++ b) (bits_of_bytes_high k n) ∙ sym (bits-cut 8 (8 * k) n))
+  where
+    byte_bits : (k n : ℕ) → bits_of 8 (byte_at k n) ≡ bits_of 8 (n / 2 ^ (8 * k))
+    byte_bits zero n = bits-mod 8 8 n (omega arith) ∙ ap (bits_of 8) (sym (div-one n))
+    byte_bits (suc k) n = bits-mod 8 8 (n / 256 ^ suc k) (omega arith) ∙ ap (λ m. bits_of 8 (n / m)) (pow_bytes (suc k))

@@ -1,4 +1,4 @@
-ghost use Rattle.std.specs.Prelude.{◌≡◌, ◌↔◌, ◌+◌, ◌-◌, ◌^◌, ◌<◌, List, [], ◌++◌, false, length, replicate, IsNone, IfSome, IfNone};
+ghost use Rattle.std.specs.Prelude.{◌≡◌, ◌↔◌, ◌+◌, ◌-◌, ◌^◌, ◌<◌, ◌≤◌, List, [], ◌++◌, false, length, replicate, IsNone, IfSome, IfNone};
 ghost use Rattle.lk_base.specs.Checksum.{bits_of};
 
 use std::marker::Model;
@@ -54,6 +54,16 @@ impl BitWriter {
         }
         self.count -= 8;
         Some((self.bits >> self.count & 0xFF) as u8)
+    }
+
+    /// Takes the next 64 waiting bits, the first of them as the number's highest. At least so many wait.
+    pub fn take_64(&mut self) -> u64
+        requires { 64 ≤ length self.old }
+        ensures bits { self.old ≡ bits_of 64 result ++ self.new }
+        ensures count { length self.old ≡ length self.new + 64 }
+    {
+        self.count -= 64;
+        (self.bits >> self.count & u64::MAX as u128) as u64
     }
 
     /// Takes the waiting bits, with zeros behind. Fewer than 8 bits wait. `None` exactly where no bit waits.

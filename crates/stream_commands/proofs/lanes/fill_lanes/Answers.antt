@@ -1,7 +1,7 @@
-use Rattle.std.proofs.Common.{◌∙◌, ◌+◌, ◌^◌, ◌++◌, refl, ap, subst, arith, List, ℕ, [], Contains, Err}
+use Rattle.std.proofs.Common.{◌∙◌, ◌+◌, ◌^◌, ◌++◌, refl, ap, subst, arith, List, ℕ, [], Contains, Err, take}
 use Rattle.std.proofs.lemmas.Result.{err_from_is_err_and}
 use Rattle.lk_outside.specs.Files.{Told}
-use Rattle.tx_end.specs.LaneRows.{outs_of}
+use Rattle.tx_end.specs.LaneRows.{outs_in}
 use Rattle.run_shell.specs.declared.stop.Stop.TheVariants as stop
 use Rattle.run_shell.specs.Outcome.{HoldsPart}
 use Rattle.run_shell.specs.Stops.{StoreStops}
@@ -17,8 +17,8 @@ returns-in_err-transmitter-clause-filled g c =
     let p = err_from_is_err_and c.from_residual.result c.from_residual.ensures.1 in
     rw p.1 (λ was o. none_filled (form.Lanes c.args.link.now) (source_of c.args.source.now) c.args.outputs.now stop.OutOfMemory was _ c.requires.one_each o)
 
-pub loop-out-init : goal.loop-out-init
-loop-out-init g c = record {
+pub loop-piece-init : goal.loop-piece-init
+loop-piece-init g c = record {
   same_faults = refl;
   names = refl;
   words = [];
@@ -28,104 +28,113 @@ loop-out-init g c = record {
   open_so_far = λ was o. subst (λ (gs : List (List ℕ)). IsOpen c.args.outputs.now gs was (g.S.Store.files c.args.store.now)) (lanes_blank c.args.outputs.now c.args.link.now.lanes c.requires.one_each) o;
 }
 
+pub first-requires : goal.first-requires
+first-requires g c =
+    let i = c.loop-piece.invariant in
+    let r = c.in-Some.ensures.some c.args.link.now (source_of c.args.source.now) i.words i.outs c.in-Some.piece i.sends refl in
+    r.2.2
+
 pub put-requires-clause-place : goal.put-requires-clause-place
 put-requires-clause-place g c =
-    let i = c.loop-out.invariant in
-    let r = c.in-Some.ensures.some c.args.link.now (source_of c.args.source.now) i.words i.outs c.in-Some.out i.sends refl in
+    let i = c.loop-piece.invariant in
+    let r = c.in-Some.ensures.some c.args.link.now (source_of c.args.source.now) i.words i.outs c.in-Some.piece i.sends refl in
     let there = r.2.0 in
-    let many = as_many_opens c.loop-out.outputs c.args.outputs.now i.names ∙ c.requires.one_each in
+    let many = as_many_opens c.loop-piece.outputs c.args.outputs.now i.names ∙ c.requires.one_each in
     omega (arith, there, many)
 
 pub put-requires-clause-open : goal.put-requires-clause-open
 put-requires-clause-open g c =
     let (was, o) = c.requires.open in
-    (lane_bytes c.args.link.now.lanes c.loop-out.invariant.outs, was, c.loop-out.invariant.open_so_far was o)
+    (lane_bytes c.args.link.now.lanes c.loop-piece.invariant.outs, was, c.loop-piece.invariant.open_so_far was o)
 
 pub returns-in_err-put-clause-stops : goal.returns-in_err-put-clause-stops
 returns-in_err-put-clause-stops g c =
     let r = c.from_residual-in_err-put in
     let p = err_from_is_err_and r.result r.ensures.1 in
-    rw (p.1, p.2) (subst (λ (ns : List (List ℕ)). StoreStops {T = Unit {0}} (Contains ns) (Err c.in_err-put.field-0.0)) c.loop-out.invariant.names c.in_err-put.ensures.stops)
+    rw (p.1, p.2) (subst (λ (ns : List (List ℕ)). StoreStops {T = Unit {0}} (Contains ns) (Err c.in_err-put.field-0.0)) c.loop-piece.invariant.names c.in_err-put.ensures.stops)
 
 pub returns-in_err-put-clause-filled : goal.returns-in_err-put-clause-filled
 returns-in_err-put-clause-filled g c =
     let r = c.from_residual-in_err-put in
     let p = err_from_is_err_and r.result r.ensures.1 in
-    let i = c.loop-out.invariant in
+    let i = c.loop-piece.invariant in
     let link = c.args.link.now in
     let source = source_of c.args.source.now in
-    let out = c.in-Some.out in
-    let next = c.in-Some.ensures.some link source i.words i.outs out i.sends refl in
+    let piece = c.in-Some.piece in
+    let bytes : List ℕ = c.next_piece.new.bytes in
+    let next = c.in-Some.ensures.some link source i.words i.outs piece i.sends refl in
     rw p.1 (λ was o. (
-      lane_bytes link.lanes (i.outs ++ outs_of out),
-      lanes_begin c.next_bytes.new.self link source next.0 (i.outs ++ outs_of out) next.1,
-      subst (λ (ns : List (List ℕ)). Told was (g.S.Store.files c.put.new.store) (HoldsPart (outs ns (lane_bytes link.lanes (i.outs ++ outs_of out))))) i.names
-          (subst (λ (gs : List (List ℕ)). Grown {T = Unit {0}} c.loop-out.outputs c.put.new.self gs (Err c.in_err-put.field-0.0) was (g.S.Store.files c.put.new.store))
-          (ap (more (lane_bytes link.lanes i.outs) out.lane) c.as_slice.ensures.value ∙ lanes_more link.lanes out.lane i.outs out.bytes.items next.2.0)
+      lane_bytes link.lanes (i.outs ++ outs_in piece bytes),
+      lanes_begin c.next_piece.new.self link source next.0 (i.outs ++ outs_in piece bytes) next.1,
+      subst (λ (ns : List (List ℕ)). Told was (g.S.Store.files c.put.new.store) (HoldsPart (outs ns (lane_bytes link.lanes (i.outs ++ outs_in piece bytes))))) i.names
+          (subst (λ (gs : List (List ℕ)). Grown {T = Unit {0}} c.loop-piece.outputs c.put.new.self gs (Err c.in_err-put.field-0.0) was (g.S.Store.files c.put.new.store))
+          (ap (more (lane_bytes link.lanes i.outs) piece.lane) c.first.ensures ∙ lanes_more link.lanes piece.lane i.outs (take piece.count bytes) next.2.0)
           (c.in_err-put.ensures.grown _ was (i.open_so_far was o))),
     ))
 
 pub overflow_add-steps : goal.overflow_add-steps
 overflow_add-steps g c =
-    let i = c.loop-out.invariant in
-    let few = steps_few c.loop-out.transmitter c.args.link.now (source_of c.args.source.now) i.words i.outs c.loop-out.steps i.sends i.steps in
+    let i = c.loop-piece.invariant in
+    let few = steps_few c.loop-piece.transmitter c.args.link.now (source_of c.args.source.now) i.words i.outs c.loop-piece.steps i.sends i.steps in
     omega (arith, few)
 
-pub loop-out-smaller : goal.loop-out-smaller
-loop-out-smaller g c =
-    let i = c.loop-out.invariant in
+pub loop-piece-smaller : goal.loop-piece-smaller
+loop-piece-smaller g c =
+    let i = c.loop-piece.invariant in
     let link = c.args.link.now in
     let source = source_of c.args.source.now in
-    let out = c.in-Some.out in
-    let next = c.in-Some.ensures.some link source i.words i.outs out i.sends refl in
-    nearer (2 ^ 60) c.loop-out.steps (steps_few c.next_bytes.new.self link source next.0 (i.outs ++ outs_of out) (c.loop-out.steps + 1) next.1 (step_given link i.outs out c.loop-out.steps next.2 i.steps))
+    let piece = c.in-Some.piece in
+    let bytes : List ℕ = c.next_piece.new.bytes in
+    let next = c.in-Some.ensures.some link source i.words i.outs piece i.sends refl in
+    nearer (2 ^ 60) c.loop-piece.steps (steps_few c.next_piece.new.self link source next.0 (i.outs ++ outs_in piece bytes) (c.loop-piece.steps + 1) next.1 (step_given link i.outs piece bytes c.loop-piece.steps next.2 c.next_piece.array_long i.steps))
 
-pub loop-out-preserved : goal.loop-out-preserved
-loop-out-preserved g c =
-    let i = c.loop-out.invariant in
+pub loop-piece-preserved : goal.loop-piece-preserved
+loop-piece-preserved g c =
+    let i = c.loop-piece.invariant in
     let link = c.args.link.now in
     let source = source_of c.args.source.now in
-    let out = c.in-Some.out in
-    let next = c.in-Some.ensures.some link source i.words i.outs out i.sends refl in
+    let piece = c.in-Some.piece in
+    let bytes : List ℕ = c.next_piece.new.bytes in
+    let next = c.in-Some.ensures.some link source i.words i.outs piece i.sends refl in
     record {
       same_faults = c.in_ok-put.ensures.cause ∙ i.same_faults;
       names = c.in_ok-put.ensures.names ∙ i.names;
       words = next.0;
-      outs = i.outs ++ outs_of out;
+      outs = i.outs ++ outs_in piece bytes;
       sends = next.1;
-      steps = step_given link i.outs out c.loop-out.steps next.2 i.steps;
+      steps = step_given link i.outs piece bytes c.loop-piece.steps next.2 c.next_piece.array_long i.steps;
       open_so_far = λ was o. subst (λ (gs : List (List ℕ)). IsOpen c.put.new.self gs was (g.S.Store.files c.put.new.store))
-          (ap (more (lane_bytes link.lanes i.outs) out.lane) c.as_slice.ensures.value ∙ lanes_more link.lanes out.lane i.outs out.bytes.items next.2.0)
+          (ap (more (lane_bytes link.lanes i.outs) piece.lane) c.first.ensures ∙ lanes_more link.lanes piece.lane i.outs (take piece.count bytes) next.2.0)
           (c.in_ok-put.ensures.grown _ was (i.open_so_far was o));
     }
 
 pub end_of-requires-clause-whole : goal.end_of-requires-clause-whole
 end_of-requires-clause-whole g c =
-    let i = c.loop-out.invariant in
+    let i = c.loop-piece.invariant in
     let source = source_of c.args.source.now in
-    let all = c.next_bytes.ensures.none c.args.link.now source i.words i.outs i.sends c.in_default.is in
+    let all = c.next_piece.ensures.none c.args.link.now source i.words i.outs i.sends c.in_default.is in
     (c.args.link.now, all.0, i.outs, all.1, all.2.stream)
 
 pub returns-in_err-end_of-clause-filled : goal.returns-in_err-end_of-clause-filled
 returns-in_err-end_of-clause-filled g c =
     let r = c.from_residual-in_err-end_of in
     let p = err_from_is_err_and r.result r.ensures.1 in
-    let i = c.loop-out.invariant in
+    let i = c.loop-piece.invariant in
     let link = c.args.link.now in
     let given = lane_bytes link.lanes i.outs in
     rw p.1 (λ was o. (
       given,
-      lanes_begin c.loop-out.transmitter link (source_of c.args.source.now) i.words i.outs i.sends,
-      subst (λ (ns : List (List ℕ)). Told was (g.S.Store.files c.loop-out.store) (HoldsPart (outs ns given))) i.names
-          (open_part c.loop-out.outputs given given was _ (same_prefixes given) (i.open_so_far was o)),
+      lanes_begin c.loop-piece.transmitter link (source_of c.args.source.now) i.words i.outs i.sends,
+      subst (λ (ns : List (List ℕ)). Told was (g.S.Store.files c.loop-piece.store) (HoldsPart (outs ns given))) i.names
+          (open_part c.loop-piece.outputs given given was _ (same_prefixes given) (i.open_so_far was o)),
     ))
 
 pub returns-clause-filled : goal.returns-clause-filled
 returns-clause-filled g c = λ was o.
-    let i = c.loop-out.invariant in
+    let i = c.loop-piece.invariant in
     let link = c.args.link.now in
     let source = source_of c.args.source.now in
-    let all = c.next_bytes.ensures.none link source i.words i.outs i.sends c.in_default.is in (
+    let all = c.next_piece.ensures.none link source i.words i.outs i.sends c.in_default.is in (
       all.0,
       lane_bytes link.lanes i.outs,
       c.in_ok-end_of.ensures link all.0 i.outs all.1 all.2.stream,
