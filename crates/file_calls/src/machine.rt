@@ -40,7 +40,7 @@ fn tell_absent(rt: &HostRuntime) -> io::Result<()> {
     println!(rt; "a folder: read {folder:?}")
 }
 
-// A file that is created, grows, is read and is created again.
+// A file that is created, grows and is read.
 fn tell_file(rt: &HostRuntime) -> io::Result<()> {
     let mut store = HostStore::make(rt);
     let mut buf = [0; 8];
@@ -50,7 +50,13 @@ fn tell_file(rt: &HostRuntime) -> io::Result<()> {
     println!(rt; "a file: create {created:?}, append {first:?}, append {second:?}")?;
     let read = store.read_at(NAME, 1, &mut buf);
     let text = text_in(&buf[..4]);
-    println!(rt; "the file from 1: read {read:?} {text}")?;
+    println!(rt; "the file from 1: read {read:?} {text}")
+}
+
+// The same file, read behind its end and created again.
+fn tell_again(rt: &HostRuntime) -> io::Result<()> {
+    let mut store = HostStore::make(rt);
+    let mut buf = [0; 8];
     let behind = store.read_at(NAME, 9, &mut buf);
     println!(rt; "the file from 9: read {behind:?}")?;
     let again = store.create(NAME);
@@ -101,6 +107,7 @@ pub fn tell_all(rt: &HostRuntime) -> io::Result<()> {
     fs::create_dir(rt, FOLDER)?;
     tell_absent(rt)?;
     tell_file(rt)?;
+    tell_again(rt)?;
     fs::remove_dir_all(rt, FOLDER)?;
     tell(rt, "an output of three bytes", narrow_output(rt.alloc()))?;
     let mut out = HostSink::make(rt);

@@ -1,4 +1,6 @@
 //! The calls of `link_plan`.
+ghost use Rattle.std.specs.Prelude.{◌<◌, ◌^◌, length};
+
 use crate::telling::tell;
 use link_plan::{
     FlowRow, Key, LocalRow, Plan, PlanError, Schedule, read_flow, read_local, read_plan,
@@ -40,14 +42,18 @@ fn flow_text(alloc: Global, rows: &[FlowRow]) -> Result<String, OutOfMemory> {
     }
 }
 
-fn flow_of(alloc: Global, bytes: &[u8]) -> Result<String, OutOfMemory> {
+fn flow_of(alloc: Global, bytes: &[u8]) -> Result<String, OutOfMemory>
+    requires { length bytes.now < 2 ^ 32 }
+{
     match read_flow(alloc, bytes) {
         Ok(rows) => flow_text(alloc, &rows),
         Err(why) => refusal_text(alloc, &why),
     }
 }
 
-fn local_rows(alloc: Global, bytes: &[u8]) -> Result<Vec<LocalRow>, PlanError> {
+fn local_rows(alloc: Global, bytes: &[u8]) -> Result<Vec<LocalRow>, PlanError>
+    requires { length bytes.now < 2 ^ 32 }
+{
     let plan = read_plan(alloc, PLAN)?;
     read_local(alloc, bytes, &plan)
 }
@@ -62,14 +68,18 @@ fn local_text(alloc: Global, rows: &[LocalRow]) -> Result<String, OutOfMemory> {
     }
 }
 
-fn local_of(alloc: Global, bytes: &[u8]) -> Result<String, OutOfMemory> {
+fn local_of(alloc: Global, bytes: &[u8]) -> Result<String, OutOfMemory>
+    requires { length bytes.now < 2 ^ 32 }
+{
     match local_rows(alloc, bytes) {
         Ok(rows) => local_text(alloc, &rows),
         Err(why) => refusal_text(alloc, &why),
     }
 }
 
-fn schedule_in(alloc: Global, bytes: &[u8]) -> Result<Schedule, PlanError> {
+fn schedule_in(alloc: Global, bytes: &[u8]) -> Result<Schedule, PlanError>
+    requires { length bytes.now < 2 ^ 32 }
+{
     let plan = read_plan(alloc, PLAN)?;
     read_schedule(alloc, bytes, &plan)
 }
@@ -87,7 +97,9 @@ fn schedule_text(alloc: Global, schedule: &Schedule) -> Result<String, OutOfMemo
     )?)
 }
 
-fn schedule_of(alloc: Global, bytes: &[u8]) -> Result<String, OutOfMemory> {
+fn schedule_of(alloc: Global, bytes: &[u8]) -> Result<String, OutOfMemory>
+    requires { length bytes.now < 2 ^ 32 }
+{
     match schedule_in(alloc, bytes) {
         Ok(schedule) => schedule_text(alloc, &schedule),
         Err(why) => refusal_text(alloc, &why),

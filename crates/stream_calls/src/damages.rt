@@ -11,20 +11,8 @@ use std::alloc::Global;
 use std::io;
 use tx_end::lanes_of;
 
-// What happens to two lanes; some rows name one bit, or bits beyond the lane's end.
-fn schedule(alloc: Global) -> Result<Schedule, OutOfMemory>
-    ensures { IfOk result (λ s. length s.skews.items ≡ 2) }
-{
-    let flips = [
-        Flip { lane: 1, bit: 1 },
-        Flip { lane: 1, bit: 2 },
-        Flip { lane: 0, bit: 4 },
-        Flip { lane: 1, bit: 2 },
-        Flip { lane: 1, bit: 6 },
-        Flip { lane: 1, bit: 19 },
-        Flip { lane: 1, bit: 25 },
-    ];
-    let darks = [
+fn darks() -> [Dark; 4] {
+    [
         Dark {
             lane: 1,
             first: 7,
@@ -45,11 +33,26 @@ fn schedule(alloc: Global) -> Result<Schedule, OutOfMemory>
             first: 18,
             count: 40,
         },
+    ]
+}
+
+// What happens to two lanes; some rows name one bit, or bits beyond the lane's end.
+fn schedule(alloc: Global) -> Result<Schedule, OutOfMemory>
+    ensures { IfOk result (λ s. length s.skews.items ≡ 2) }
+{
+    let flips = [
+        Flip { lane: 1, bit: 1 },
+        Flip { lane: 1, bit: 2 },
+        Flip { lane: 0, bit: 4 },
+        Flip { lane: 1, bit: 2 },
+        Flip { lane: 1, bit: 6 },
+        Flip { lane: 1, bit: 19 },
+        Flip { lane: 1, bit: 25 },
     ];
     Ok(Schedule {
         skews: Vec::from_array(alloc, [9, 3])?,
         flips: Vec::from_array(alloc, flips)?,
-        darks: Vec::from_array(alloc, darks)?,
+        darks: Vec::from_array(alloc, darks())?,
     })
 }
 

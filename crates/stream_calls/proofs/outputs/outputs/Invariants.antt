@@ -3,4 +3,4 @@ use Rattle.reassembly.specs.States.{NothingWaits}
 use Rattle.stream_calls.proofs.outputs.outputs.Given as goal
 
 abbrev pub invariant-loop-number : goal.invariant-loop-number
-invariant-loop-number g l = NothingWaits l.reassembly
+invariant-loop-number l = NothingWaits l.reassembly

@@ -3,4 +3,4 @@ use Rattle.burst_scheduler.specs.Asked.{flow_added}
 use Rattle.stream_calls.proofs.turns.one_off.Goals as goal
 
 pub show-requires : goal.show-requires
-show-requires g c = let made = c.in_ok-scheduler.ensures {u = tt} in (flow_added made.0 _, c.flow.ensures made.0 made.1 made.3, made.2, refl)
+show-requires c = let made = c.in_ok-scheduler.ensures {u = tt} in (flow_added made.0 _, c.flow.ensures made.0 made.1 made.3, made.2, refl)
