@@ -1,0 +1,5 @@
+use Rattle.std.proofs.Common.{[]}
+use Rattle.stream_calls.proofs.transmitters.one_lane.Goals as goal
+
+pub file_of-requires : goal.file_of-requires
+file_of-requires c = let made = c.in_ok-transmitter.ensures {u = tt} in (made.0, made.1, [], [], made.2)
