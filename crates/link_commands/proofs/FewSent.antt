@@ -1,10 +1,10 @@
 -- A stream that is carried sends few packets, whose slots are low.
-use Rattle.std.proofs.Common.{◌≡◌, ℕ, ◌+◌, ◌-◌, ◌*◌, ◌/◌, ◌%◌, ◌<◌, ◌≤◌, ◌^◌, refl, sym, ap, ap₂, ◌∙◌, subst, arith, Bool, true, false, cond, All, List, [], ◌∷◌, ◌++◌, length, length-append, map, take, count_by, get_or, replicate, Option, Some, None, MatchOption, IfSome}
+use Rattle.std.proofs.Common.{◌≡◌, ℕ, suc, ◌+◌, ◌-◌, ◌*◌, ◌/◌, ◌%◌, ◌<◌, ◌≤◌, ◌^◌, refl, sym, ap, ap₂, ◌∙◌, subst, arith, Bool, true, false, cond, All, List, [], ◌∷◌, ◌++◌, length, length-append, map, take, count_by, get_or, replicate, Option, Some, None, MatchOption, IfSome}
 use Rattle.std.specs.List.{enumerate_from}
 use Rattle.std.proofs.Math.Nat.{div-add-mod, mul-le-mul_left}
 use Rattle.std.proofs.Math.Seq.{take-length}
 use Rattle.std.proofs.lemmas.List.{length-map, length-replicate}
-use Rattle.std.proofs.lemmas.List.Elements.{All-map}
+use Rattle.std.proofs.lemmas.List.Elements.{All-append, All-map}
 use Rattle.std.proofs.lemmas.List.FromFn.{length-enumerate_from, length-map-range_with_len}
 use Rattle.std.proofs.lemmas.List.Sums.{sum_by-cons}
 use Rattle.std.proofs.lemmas.Nat.{mul-le}
@@ -30,8 +30,10 @@ use Rattle.tx_end.proofs.Shapes.{whole_groups}
 use Rattle.link_plan.specs.Schedules.{ScheduleValue}
 use Rattle.link_replay.specs.Damages.{lane_damage}
 use Rattle.link_replay.specs.Missing.{HasLowSlots}
-use Rattle.plan_inputs.specs.Values.{packet_value, packet_values, size_of}
-use Rattle.plan_inputs.specs.declared.packet.ChannelPacket.{ChannelPacket}
+use Rattle.plan_inputs.specs.Inputs.{on_channel}
+use Rattle.plan_inputs.specs.Values.{packets_of, packet_values, size_of}
+use Rattle.plan_inputs.specs.declared.channel_packets.CapturePackets.{CapturePackets}
+use Rattle.plan_inputs.proofs.Places.{packets_sized}
 use Rattle.receive_commands.specs.Held.{vec_bytes}
 use Rattle.link_commands.specs.declared.carried.Carried.{Carried}
 use Rattle.link_commands.specs.Carrying.{IsCarried}
@@ -40,24 +42,28 @@ use Rattle.link_commands.specs.Linked.{AreReceivedFiles}
 
 -- ---- few packets
 
-have_bytes : (packets : List ChannelPacket) → All (λ (p : ℕ × List ℕ). 1 ≤ length p.1) (packet_values packets)
-have_bytes packets = All-map (λ (p : ℕ × List ℕ). 1 ≤ length p.1) packet_value packets (λ k d lt. (get_or packets k d).some)
+have_bytes : (captures : List CapturePackets) → All (λ (p : ℕ × List ℕ). 1 ≤ length p.1) (packet_values captures)
+have_bytes [] = λ k d lt. absurd (omega arith)
+have_bytes (c ∷ captures) =
+    All-append (λ (p : ℕ × List ℕ). 1 ≤ length p.1) (on_channel c.channel (packets_of c)) (packet_values captures)
+    (All-map (λ (p : ℕ × List ℕ). 1 ≤ length p.1) (λ (p : List ℕ). (c.channel, p)) (packets_of c) (λ k d lt. (packets_sized c k d lt).0))
+    (have_bytes captures)
 
-within_size : (packets : List ChannelPacket) → length (packet_values packets) ≤ size_of (packet_values packets)
-within_size [] = omega arith
-within_size (p ∷ packets) =
-    let total = sum_by-cons (λ (q : ℕ × List ℕ). length q.1) (packet_value p) (packet_values packets) in
-    let rest = within_size packets in
-    let some : 1 ≤ length p.bytes.items = p.some in
+within_size : (packets : List (ℕ × List ℕ)) → All (λ (p : ℕ × List ℕ). 1 ≤ length p.1) packets → length packets ≤ size_of packets
+within_size [] all = omega arith
+within_size (p ∷ packets) all =
+    let total = sum_by-cons (λ (q : ℕ × List ℕ). length q.1) p packets in
+    let rest = within_size packets (λ k d lt. all (suc k) d (omega arith)) in
+    let some : 1 ≤ length p.1 = all 0 p (omega arith) in
     omega (arith, total, rest, some)
 
-pub few_starts : (source : Source) (w : List Word) (packets : List ChannelPacket) → source.packets ≡ packet_values packets → IsBurstStream source w → size_of (packet_values packets) ≤ capture_limit → count_by starts w < 2 ^ 32
-few_starts source w packets same stream size =
-    let each : EachHasBytes source = subst (λ (ps : List (ℕ × List ℕ)). All (λ (p : ℕ × List ℕ). 1 ≤ length p.1) ps) (sym same) (have_bytes packets) in
+pub few_starts : (source : Source) (w : List Word) (captures : List CapturePackets) → source.packets ≡ packet_values captures → IsBurstStream source w → size_of (packet_values captures) ≤ capture_limit → count_by starts w < 2 ^ 32
+few_starts source w captures same stream size =
+    let each : EachHasBytes source = subst (λ (ps : List (ℕ × List ℕ)). All (λ (p : ℕ × List ℕ). 1 ≤ length p.1) ps) (sym same) (have_bytes captures) in
     let few : count_by starts (take (length w) w) ≤ length source.packets = starts_are_few source w (length w) each stream in
     let all : count_by starts (take (length w) w) ≡ count_by starts w = ap (count_by starts) (take-length w) in
-    let many : length source.packets ≡ length (packet_values packets) = ap length same in
-    let within = within_size packets in
+    let many : length source.packets ≡ length (packet_values captures) = ap length same in
+    let within = within_size (packet_values captures) (have_bytes captures) in
     omega (arith, few, all, many, within, size)
 
 length_slots : (test : Word → Bool) (n : ℕ) (w : List Word) → length (slots_where test n w) ≡ count_by test w

@@ -3,3 +3,4 @@ pub mod Again
 pub mod Hex
 pub mod Stand
 pub mod Sizes
+pub mod Placed

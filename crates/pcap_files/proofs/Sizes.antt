@@ -43,12 +43,12 @@ not_ended false false false true w x y z q e = absurd cc
 not_ended false false false false w x y z q e = absurd cc
 
 -- the packet of a record
-record IsPacketAt (p : Place) (packet : List ℕ) : Type 0 where
-  within : IsWithin p.most packet
-  space : 16 + length packet ≤ length p.rest
-  part : take (size_at p) (drop 16 p.rest) ≡ packet
+pub record IsPacketAt (p : Place) (packet : List ℕ) : Type 0 where
+  pub within : IsWithin p.most packet
+  pub space : 16 + length packet ≤ length p.rest
+  pub part : take (size_at p) (drop 16 p.rest) ≡ packet
 
-packet-at : (p : Place) (packet : List ℕ) → packet_at p ≡ Ok (Some packet) → IsPacketAt p packet
+pub packet-at : (p : Place) (packet : List ℕ) → packet_at p ≡ Ok (Some packet) → IsPacketAt p packet
 unfolding packet_at
 packet-at p packet e =
     let h = passed _ _ _ _ _ _ _ _ _ _ packet e in

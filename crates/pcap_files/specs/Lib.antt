@@ -1,6 +1,7 @@
 pub mod Numbers
 pub mod Capture
 pub mod Records
+pub mod Places
 pub mod Written
 pub mod Texts
 pub mod Examples

@@ -6,11 +6,15 @@ mod capture;
 mod error;
 mod law;
 mod order;
+mod place;
+mod places;
 mod reader;
 mod writer;
 
 pub use capture::{CaptureError, packets_of};
 pub use error::{PcapError, refusal_text};
 pub use law::{examples, packets_fit, records_stand, written_is_read};
+pub use place::PacketPlace;
+pub use places::places_of;
 pub use reader::PcapReader;
 pub use writer::{write_header, write_packet};

@@ -1,6 +1,7 @@
 -- The captures of channels, one after the other.
 use Rattle.std.proofs.Common.{◌≡◌, ℕ, zero, suc, ◌+◌, ◌-◌, ◌<◌, ◌≤◌, List, [], ◌∷◌, ◌++◌, length, map, drop, get_or, refl, sym, ap, ◌∙◌, arith, append_assoc, Option, Some, None, IfSome, Result, Ok, Err, Contains, Vec, Global, string_bytes, add-one}
 use Rattle.std.proofs.lemmas.List.{append-nil, drop_all}
+use Rattle.std.proofs.lemmas.List.Concat.{flat_map-append}
 use Rattle.std.proofs.Math.Seq.{drop-cons}
 use Rattle.lk_base.specs.Limits.{capture_limit}
 use Rattle.lk_outside.specs.Files.{Files}
@@ -17,22 +18,22 @@ use Rattle.run_shell.specs.Reading.{Refusal, of_plan, of_input, behind, bytes_in
 use Rattle.run_shell.proofs.Readings.{first_stops, told_back}
 use Rattle.plan_inputs.specs.Inputs.{packets_by, capture_at, on_channel, packets_then, packets_in, IsCapture}
 use Rattle.plan_inputs.specs.Steps.{AddsCapture}
-use Rattle.plan_inputs.specs.Values.{packet_values}
-use Rattle.plan_inputs.specs.declared.packet.ChannelPacket.{ChannelPacket}
+use Rattle.plan_inputs.specs.Values.{packets_of, packet_values}
+use Rattle.plan_inputs.specs.declared.channel_packets.CapturePackets.{CapturePackets}
 
 -- ---- one capture
 
 -- its bytes could not be had
-pub capture_not_read : (x : Option Files) (name : List ℕ) (room most channel : ℕ) (s : Stop) (old new : List ChannelPacket) → IfSome x (λ files. Reads vec_items (λ n. n ≡ name) (Err s) (bytes_in files name room)) → IfSome x (λ files. AddsCapture files name room most channel (Err s) old new)
+pub capture_not_read : (x : Option Files) (name : List ℕ) (room most channel : ℕ) (s : Stop) (old new : List CapturePackets) → IfSome x (λ files. Reads vec_items (λ n. n ≡ name) (Err s) (bytes_in files name room)) → IfSome x (λ files. AddsCapture files name room most channel (Err s) old new)
 capture_not_read x name room most channel s old new h =
     first_stops (List ℕ) (List (List ℕ)) (Vec ℕ Global) (List (List ℕ)) (λ files. bytes_in files name room) (λ files bytes. packets_by name (capture_of bytes most)) vec_items (λ ps. ps) (λ files n. n ≡ name) (λ files n. n ≡ name) s x (λ u q e. e) h
 
-pub capture_had : (x : Option Files) (name v w : List ℕ) (room most channel size : ℕ) (packets : List (List ℕ)) (old new : List ChannelPacket) → w ≡ v → size ≡ length v → IfSome x (λ files. bytes_in files name room ≡ Ok v) → capture_of w most ≡ Ok packets → packet_values new ≡ packet_values old ++ on_channel channel packets → IfSome x (λ files. AddsCapture files name room most channel (Ok size) old new)
+pub capture_had : (x : Option Files) (name v w : List ℕ) (room most channel size : ℕ) (packets : List (List ℕ)) (old new : List CapturePackets) → w ≡ v → size ≡ length v → IfSome x (λ files. bytes_in files name room ≡ Ok v) → capture_of w most ≡ Ok packets → packet_values new ≡ packet_values old ++ on_channel channel packets → IfSome x (λ files. AddsCapture files name room most channel (Ok size) old new)
 capture_had None name v w room most channel size packets old new is n h e added = tt
 capture_had (Some u) name v w room most channel size packets old new is n h e added =
     (v, packets, h, ap (λ b. capture_of b most) (sym is) ∙ e, n, added)
 
-refused_capture : (files : Files) (name bytes : List ℕ) (room most channel : ℕ) (why : PcapError) (s : Stop) (old new : List ChannelPacket) → bytes_in files name room ≡ Ok bytes → capture_of bytes most ≡ Err why → IsOfInput name (Pcap why) s → AddsCapture files name room most channel (Err s) old new
+refused_capture : (files : Files) (name bytes : List ℕ) (room most channel : ℕ) (why : PcapError) (s : Stop) (old new : List CapturePackets) → bytes_in files name room ≡ Ok bytes → capture_of bytes most ≡ Err why → IsOfInput name (Pcap why) s → AddsCapture files name room most channel (Err s) old new
 refused_capture files name bytes room most channel why (stop.Plan p) old new b e of = absurd of
 refused_capture files name bytes room most channel why (stop.Input n w) old new b e of =
     let named : name ≡ string_bytes n = sym of.0 in
@@ -41,16 +42,22 @@ refused_capture files name bytes room most channel why (stop.Store n) old new b 
 refused_capture files name bytes room most channel why stop.StoreNoMemory old new b e of = absurd of
 refused_capture files name bytes room most channel why stop.OutOfMemory old new b e of = tt
 
-pub capture_refused : (x : Option Files) (name v w : List ℕ) (room most channel : ℕ) (why : PcapError) (s : Stop) (old new : List ChannelPacket) → w ≡ v → IfSome x (λ files. bytes_in files name room ≡ Ok v) → capture_of w most ≡ Err why → IsOfInput name (Pcap why) s → IfSome x (λ files. AddsCapture files name room most channel (Err s) old new)
+pub capture_refused : (x : Option Files) (name v w : List ℕ) (room most channel : ℕ) (why : PcapError) (s : Stop) (old new : List CapturePackets) → w ≡ v → IfSome x (λ files. bytes_in files name room ≡ Ok v) → capture_of w most ≡ Err why → IsOfInput name (Pcap why) s → IfSome x (λ files. AddsCapture files name room most channel (Err s) old new)
 capture_refused None name v w room most channel why s old new is h e of = tt
 capture_refused (Some u) name v w room most channel why s old new is h e of =
     refused_capture u name v room most channel why s old new h (ap (λ b. capture_of b most) (sym is) ∙ e) of
 
 -- ---- packets behind others
 
-pub values_more : (packets : List ChannelPacket) (p : ChannelPacket) → packet_values (packets ++ p ∷ []) ≡ packet_values packets ++ (p.channel, p.bytes.items) ∷ []
-values_more [] p = refl
-values_more (q ∷ packets) p = ap (λ xs. (q.channel, q.bytes.items) ∷ xs) (values_more packets p)
+values_more : (captures : List CapturePackets) (c : CapturePackets) → packet_values (captures ++ c ∷ []) ≡ packet_values captures ++ on_channel c.channel (packets_of c)
+values_more captures c =
+    flat_map-append (λ (d : CapturePackets). on_channel d.channel (packets_of d)) captures (c ∷ [])
+    ∙ ap (λ (ps : List (ℕ × List ℕ)). packet_values captures ++ ps) (append-nil (on_channel c.channel (packets_of c)))
+
+-- those of one more capture
+pub added_values : (channel : ℕ) (old new : List CapturePackets) (c : CapturePackets) → new ≡ old ++ c ∷ [] → c.channel ≡ channel → packet_values new ≡ packet_values old ++ on_channel channel (packets_of c)
+added_values channel old new c more is =
+    ap packet_values more ∙ values_more old c ∙ ap (λ n. packet_values old ++ on_channel n (packets_of c)) is
 
 -- ---- the channels
 
@@ -99,8 +106,8 @@ after_stops files most room c cs packets name r e h =
     ap (λ s. behind s (λ rest. Ok (packets ++ rest))) (then_stops files most room c.number (λ left. packets_in files most left cs) c.capture name r e h)
 
 -- what is read of all the channels
-abbrev pub ReadsAll : List Listed → Result (Vec ChannelPacket Global) Stop → Result (List (ℕ × List ℕ)) Refusal → Type 0
-ReadsAll all r whole = Reads {T = Vec ChannelPacket Global} (λ v. packet_values v.items) (IsCapture all) r whole
+abbrev pub ReadsAll : List Listed → Result (Vec CapturePackets Global) Stop → Result (List (ℕ × List ℕ)) Refusal → Type 0
+ReadsAll all r whole = Reads {T = Vec CapturePackets Global} (λ v. packet_values v.items) (IsCapture all) r whole
 
 -- a capture that stops the reading
 abbrev pub StopsAt : List ℕ → ℕ → ℕ → Stop → Files → Type 0
@@ -116,7 +123,7 @@ stopped files most room c cs all packets name stop.OutOfMemory whole e it w h = 
 -- ---- under files that are told
 
 -- these packets, with what the channels from number i on give, are what all of them give
-abbrev pub GoesOn : Option Files → List ChannelRow → ℕ → ℕ → ℕ → List ChannelPacket → Type 0
+abbrev pub GoesOn : Option Files → List ChannelRow → ℕ → ℕ → ℕ → List CapturePackets → Type 0
 GoesOn x channels i most room packets = IfSome x (λ files. packets_in files most capture_limit (map listed_of channels) ≡ After files most room (map listed_of (drop i channels)) (packet_values packets))
 
 rows_from : (channels : List ChannelRow) (i : ℕ) (row : ChannelRow) → i < length channels → row ≡ get_or channels i row → map listed_of (drop i channels) ≡ listed_of row ∷ map listed_of (drop (i + 1) channels)
@@ -132,12 +139,12 @@ among f (y ∷ ys) (suc i) x lt is =
     let (k, below, e) = among f ys i x (omega arith) is in
     (suc k, omega arith, e)
 
-pub step_none : (x : Option Files) (channels : List ChannelRow) (i most room : ℕ) (row : ChannelRow) (packets : List ChannelPacket) → i < length channels → row ≡ get_or channels i row → (listed_of row).capture ≡ None → GoesOn x channels i most room packets → GoesOn x channels (i + 1) most room packets
+pub step_none : (x : Option Files) (channels : List ChannelRow) (i most room : ℕ) (row : ChannelRow) (packets : List CapturePackets) → i < length channels → row ≡ get_or channels i row → (listed_of row).capture ≡ None → GoesOn x channels i most room packets → GoesOn x channels (i + 1) most room packets
 step_none None channels i most room row packets lt is none h = tt
 step_none (Some u) channels i most room row packets lt is none h =
     h ∙ ap (λ cs. After u most room cs (packet_values packets)) (rows_from channels i row lt is) ∙ after_none u most room (listed_of row) (map listed_of (drop (i + 1) channels)) (packet_values packets) none
 
-pub step_some : (x y : Option Files) (channels : List ChannelRow) (i most room size left : ℕ) (row : ChannelRow) (name : List ℕ) (old new : List ChannelPacket) → i < length channels → row ≡ get_or channels i row → (listed_of row).capture ≡ Some name → y ≡ x → left ≡ room - size → IfSome y (λ files. AddsCapture files name room most row.number (Ok size) old new) → GoesOn x channels i most room old → GoesOn x channels (i + 1) most left new
+pub step_some : (x y : Option Files) (channels : List ChannelRow) (i most room size left : ℕ) (row : ChannelRow) (name : List ℕ) (old new : List CapturePackets) → i < length channels → row ≡ get_or channels i row → (listed_of row).capture ≡ Some name → y ≡ x → left ≡ room - size → IfSome y (λ files. AddsCapture files name room most row.number (Ok size) old new) → GoesOn x channels i most room old → GoesOn x channels (i + 1) most left new
 step_some None y channels i most room size left row name old new lt is some same l added h = tt
 step_some (Some u) y channels i most room size left row name old new lt is some same l added h =
     let here : AddsCapture u name room most row.number (Ok size) old new = told_back (λ files. AddsCapture files name room most row.number (Ok size) old new) (Some u) y same added in
@@ -149,7 +156,7 @@ step_some (Some u) y channels i most room size left row name old new lt is some 
     ∙ ap (λ z. After u most z cs (packet_values old ++ on_channel row.number found)) e
     ∙ ap (λ ps. After u most left cs ps) (sym more)
 
-pub step_stops : (x y : Option Files) (channels : List ChannelRow) (i most room : ℕ) (row : ChannelRow) (name : List ℕ) (s : Stop) (old : List ChannelPacket) → i < length channels → row ≡ get_or channels i row → (listed_of row).capture ≡ Some name → y ≡ x → IfSome y (StopsAt name room most s) → GoesOn x channels i most room old → IfSome x (λ files. ReadsAll (map listed_of channels) (Err s) (packets_in files most capture_limit (map listed_of channels)))
+pub step_stops : (x y : Option Files) (channels : List ChannelRow) (i most room : ℕ) (row : ChannelRow) (name : List ℕ) (s : Stop) (old : List CapturePackets) → i < length channels → row ≡ get_or channels i row → (listed_of row).capture ≡ Some name → y ≡ x → IfSome y (StopsAt name room most s) → GoesOn x channels i most room old → IfSome x (λ files. ReadsAll (map listed_of channels) (Err s) (packets_in files most capture_limit (map listed_of channels)))
 step_stops None y channels i most room row name s old lt is some same added h = tt
 step_stops (Some u) y channels i most room row name s old lt is some same added h =
     let here : StopsAt name room most s u = told_back (StopsAt name room most s) (Some u) y same added in
@@ -160,7 +167,7 @@ none_after : (files : Files) (most room : ℕ) (packets : List (ℕ × List ℕ)
 unfolding packets_in
 none_after files most room packets = ap Ok (append-nil packets)
 
-pub all_read : (x : Option Files) (channels : List ChannelRow) (i most room : ℕ) (v : Vec ChannelPacket Global) → length channels ≤ i → GoesOn x channels i most room v.items → IfSome x (λ files. ReadsAll (map listed_of channels) (Ok v) (packets_in files most capture_limit (map listed_of channels)))
+pub all_read : (x : Option Files) (channels : List ChannelRow) (i most room : ℕ) (v : Vec CapturePackets Global) → length channels ≤ i → GoesOn x channels i most room v.items → IfSome x (λ files. ReadsAll (map listed_of channels) (Ok v) (packets_in files most capture_limit (map listed_of channels)))
 all_read None channels i most room v le h = tt
 all_read (Some u) channels i most room v le h =
     h ∙ ap (λ cs. After u most room (map listed_of cs) (packet_values v.items)) (drop_all i channels le) ∙ none_after u most room (packet_values v.items)

@@ -16,7 +16,7 @@ use Rattle.run_shell.proofs.Moves.{if_told_by}
 use Rattle.run_shell.proofs.Readings.{first_stops, second_reads}
 use Rattle.plan_inputs.specs.Inputs.{Inputs, Reading, packets_in, rows_in, numbers_in, inputs_in, plan_in, with_inputs, planned_in, IsCapture, IsInput, IsRead}
 use Rattle.plan_inputs.specs.Values.{packet_values, inputs_value, reading_value}
-use Rattle.plan_inputs.specs.declared.packet.ChannelPacket.{ChannelPacket}
+use Rattle.plan_inputs.specs.declared.channel_packets.CapturePackets.{CapturePackets}
 use Rattle.plan_inputs.specs.declared.inputs.PlanInputs.{PlanInputs}
 use Rattle.plan_inputs.specs.declared.inputs.PlanReading.{PlanReading}
 
@@ -28,10 +28,10 @@ same_numbers (c ∷ cs) = ap (λ ns. c.number ∷ ns) (same_numbers cs)
 -- ---- what the parts come to, as the calls tell it
 
 -- of the plan's own channels and longest packet
-pub captures_at : (plan : Plan) (rows : List ChannelRow) (most : ℕ) (r : Result (Vec ChannelPacket Global) Stop) (x : Option Files) → rows ≡ plan.channels.items → most ≡ (plan_value plan).settings.max_packet → IfSome x (λ files. Reads (λ v. packet_values v.items) (IsCapture (map listed_of rows)) r (packets_in files most capture_limit (map listed_of rows))) → IfSome x (λ files. Reads (λ v. packet_values v.items) (IsCapture (plan_value plan).channels) r (packets_in files (plan_value plan).settings.max_packet capture_limit (plan_value plan).channels))
+pub captures_at : (plan : Plan) (rows : List ChannelRow) (most : ℕ) (r : Result (Vec CapturePackets Global) Stop) (x : Option Files) → rows ≡ plan.channels.items → most ≡ (plan_value plan).settings.max_packet → IfSome x (λ files. Reads (λ v. packet_values v.items) (IsCapture (map listed_of rows)) r (packets_in files most capture_limit (map listed_of rows))) → IfSome x (λ files. Reads (λ v. packet_values v.items) (IsCapture (plan_value plan).channels) r (packets_in files (plan_value plan).settings.max_packet capture_limit (plan_value plan).channels))
 captures_at plan rows most r x are is h =
-    subst (λ m. IfSome x (λ files. Reads (λ (v : Vec ChannelPacket Global). packet_values v.items) (IsCapture (plan_value plan).channels) r (packets_in files m capture_limit (plan_value plan).channels))) is
-    (subst (λ (cs : List ChannelRow). IfSome x (λ files. Reads (λ (v : Vec ChannelPacket Global). packet_values v.items) (IsCapture (map listed_of cs)) r (packets_in files most capture_limit (map listed_of cs)))) are h)
+    subst (λ m. IfSome x (λ files. Reads (λ (v : Vec CapturePackets Global). packet_values v.items) (IsCapture (plan_value plan).channels) r (packets_in files m capture_limit (plan_value plan).channels))) is
+    (subst (λ (cs : List ChannelRow). IfSome x (λ files. Reads (λ (v : Vec CapturePackets Global). packet_values v.items) (IsCapture (map listed_of cs)) r (packets_in files most capture_limit (map listed_of cs)))) are h)
 
 -- of the numbers of the plan's value
 local_at : (plan : Plan) (r : Result (Vec LocalRow Global) Stop) (x : Option Files) → IfSome x (λ files. Reads (λ v. v.items) (λ q. (plan_value plan).local ≡ Some q) r (rows_in files [] (local_of (numbers_of plan.channels.items)) (plan_value plan).local)) → IfSome x (λ files. Reads (λ v. v.items) (λ q. (plan_value plan).local ≡ Some q) r (rows_in files [] (local_of (numbers_in (plan_value plan))) (plan_value plan).local))
@@ -72,14 +72,14 @@ module _ (plan : Plan) where
   unfolding inputs_in
   whole r x h = h
 
-  pub no_captures : (s : Stop) (x : Option Files) → IfSome x (λ files. Reads {T = Vec ChannelPacket Global} (λ v. packet_values v.items) (IsCapture (plan_value plan).channels) (Err s) (Captures files)) → IfSome x (Read (Err s))
+  pub no_captures : (s : Stop) (x : Option Files) → IfSome x (λ files. Reads {T = Vec CapturePackets Global} (λ v. packet_values v.items) (IsCapture (plan_value plan).channels) (Err s) (Captures files)) → IfSome x (Read (Err s))
   no_captures s x h =
       whole (Err s) x
-      (first_stops (List (ℕ × List ℕ)) Inputs (Vec ChannelPacket Global) PlanInputs Captures BehindCaptures (λ v. packet_values v.items) inputs_value (λ files q. IsCapture (plan_value plan).channels q) IsOne s x (λ u q n. inl n) h)
+      (first_stops (List (ℕ × List ℕ)) Inputs (Vec CapturePackets Global) PlanInputs Captures BehindCaptures (λ v. packet_values v.items) inputs_value (λ files q. IsCapture (plan_value plan).channels q) IsOne s x (λ u q n. inl n) h)
 
-  module _ (x y z : Option Files) (same : y ≡ x) (again : z ≡ y) (packets : Vec ChannelPacket Global) (had : IfSome x (λ files. Captures files ≡ Ok (packet_values packets.items))) where
+  module _ (x y z : Option Files) (same : y ≡ x) (again : z ≡ y) (packets : Vec CapturePackets Global) (had : IfSome x (λ files. Captures files ≡ Ok (packet_values packets.items))) where
     behind_captures : (r : Result PlanInputs Stop) → IfSome y (λ files. Reads inputs_value (IsInput (plan_value plan)) r (BehindCaptures files (packet_values packets.items))) → IfSome x (Read r)
-    behind_captures r h = whole r x (second_reads (List (ℕ × List ℕ)) Inputs (Vec ChannelPacket Global) PlanInputs Captures BehindCaptures inputs_value IsOne IsOne (packet_values packets.items) r x y same (λ u q e n. n) had h)
+    behind_captures r h = whole r x (second_reads (List (ℕ × List ℕ)) Inputs (Vec CapturePackets Global) PlanInputs Captures BehindCaptures inputs_value IsOne IsOne (packet_values packets.items) r x y same (λ u q e n. n) had h)
 
     pub no_flow : (s : Stop) → IfSome y (λ files. Reads {T = Vec FlowRow Global} (λ v. v.items) (IsFlow files) (Err s) (Flows files)) → IfSome x (Read (Err s))
     no_flow s h =

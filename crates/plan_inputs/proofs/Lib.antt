@@ -1,4 +1,5 @@
 pub mod Packets
+pub mod Places
 pub mod RefusedRows
 pub mod CapturesRead
 pub mod InputsRead

@@ -1,51 +1,59 @@
 //! The captures of a plan, read in the order of its channels.
-ghost use Rattle.std.specs.Prelude.{◌≡◌, ◌<◌, ◌≤◌, ◌^◌, ◌++◌, All, IfOk, IfSome, OnOk, map, length};
+ghost use Rattle.std.specs.Prelude.{◌≡◌, ◌<◌, ◌≤◌, ◌^◌, Ok, Err, IfOk, IfSome, MatchResult, length, map, sum_by};
 ghost use Rattle.lk_base.specs.Limits.{capture_limit};
 ghost use Rattle.link_plan.specs.Listing.{numbers_of};
 ghost use Rattle.link_plan.specs.Views.{listed_of};
+ghost use Rattle.pcap_files.specs.Capture.{capture_of};
+ghost use Rattle.pcap_files.specs.declared.error.PcapError.{PcapError};
 ghost use Rattle.run_shell.specs.Reading.{Reads};
 ghost use Rattle.run_shell.specs.Stops.{StopCount};
-ghost use Rattle.plan_inputs.specs.Inputs.{on_channel, packets_in, IsCapture};
+ghost use Rattle.plan_inputs.specs.Inputs.{packets_in, IsCapture};
 ghost use Rattle.plan_inputs.specs.Steps.{AddsCapture, AddsSome};
-ghost use Rattle.plan_inputs.specs.Values.{packet_values, size_of, AreOn};
+ghost use Rattle.plan_inputs.specs.Values.{packets_of, packet_values, size_of, AreOn};
 
-use crate::packet::ChannelPacket;
+use crate::channel_packets::CapturePackets;
 use link_plan::ChannelRow;
 use link_reports::InputError;
-use lk_base::{CAPTURE_LIMIT, OutOfMemory};
+use lk_base::CAPTURE_LIMIT;
 use lk_outside::Store;
-use pcap_files::{CaptureError, packets_of};
+use pcap_files::{CaptureError, places_of};
 use run_shell::{Stop, input_stop, read_input};
 use std::alloc::Global;
 
-// Adds the packets of a channel to those of the channels before.
-fn add_packets(
+// The packets of the capture of these bytes, if it is accepted with packets of up to `most` bytes.
+fn accepted(
     alloc: Global,
-    packets: &mut Vec<ChannelPacket>,
     channel: u16,
-    found: &[&[u8]],
-) -> Result<(), OutOfMemory>
-    requires { All (λ packet. (1 ≤ length packet.now) × (length packet.now ≤ 262144)) found.now }
-    ensures { OnOk result (packet_values packets.new.items ≡ packet_values packets.old.items ++ on_channel channel (map (λ packet. packet.now) found.now)) }
+    bytes: Vec<u8>,
+    most: u32,
+) -> Result<CapturePackets, CaptureError>
+    requires few { length bytes.items < 2 ^ 32 }
+    requires most { most ≤ 262144 }
+    ensures answer { MatchResult result
+        (λ c. (c.channel ≡ channel) × (capture_of bytes.items most ≡ Ok (packets_of c)))
+        (λ e. (why : PcapError) → e ≡ CaptureError.Refused why → capture_of bytes.items most ≡ Err why) }
+    ensures size { IfOk result (λ c. sum_by length (packets_of c) ≤ length bytes.items) }
 {
-    for packet in found {
-        let bytes = Vec::from_slice(alloc, *packet)?;
-        packets.push(ChannelPacket { channel, bytes })?;
-    }
-    Ok(())
+    let places = places_of(alloc, &bytes, most)?;
+    Ok(CapturePackets {
+        channel,
+        bytes,
+        places,
+    })
 }
 
 // Reads the capture of a channel, of at most `room` bytes, and adds its packets. How many bytes it has.
 fn read_capture<S: Store>(
     alloc: Global,
     store: &mut S,
-    packets: &mut Vec<ChannelPacket>,
+    packets: &mut Vec<CapturePackets>,
     channel: u16,
     name: &str,
     room: u64,
     most: u32,
 ) -> Result<u64, Stop>
     requires count { S.faults store.old < 2 ^ 60 }
+    requires room { room ≤ capture_limit }
     requires most { most ≤ 262144 }
     ensures cause { StopCount result (S.faults store.old) (S.faults store.new) }
     ensures unchanged { S.files store.new ≡ S.files store.old }
@@ -54,10 +62,11 @@ fn read_capture<S: Store>(
     ensures added { IfOk result (λ size. AddsSome channel size packets.old.items packets.new.items) }
 {
     let bytes = read_input(alloc, store, name, room)?;
-    match packets_of(alloc, &bytes, most) {
+    let size = bytes.len() as u64;
+    match accepted(alloc, channel, bytes, most) {
         Ok(found) => {
-            add_packets(alloc, packets, channel, &found)?;
-            Ok(bytes.len() as u64)
+            packets.push(found)?;
+            Ok(size)
         }
         Err(CaptureError::Refused(why)) => Err(input_stop(alloc, name, InputError::Pcap(why))),
         Err(CaptureError::OutOfMemory) => Err(Stop::OutOfMemory),
@@ -72,7 +81,7 @@ pub fn read_captures<S: Store>(
     store: &mut S,
     channels: &[ChannelRow],
     most: u32,
-) -> Result<Vec<ChannelPacket>, Stop>
+) -> Result<Vec<CapturePackets>, Stop>
     requires count { S.faults store.old < 2 ^ 60 }
     requires most { most ≤ 262144 }
     ensures cause { StopCount result (S.faults store.old) (S.faults store.new) }

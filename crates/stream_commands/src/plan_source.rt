@@ -1,10 +1,11 @@
 //! What the stream of a plan and its inputs is made of.
-ghost use Rattle.std.specs.Prelude.{◌≡◌, IfOk};
+ghost use Rattle.std.specs.Prelude.{◌≡◌, ◌++◌, IfOk, OnOk};
 ghost use Rattle.link_plan.specs.Listing.{channels_in_order, numbers_of};
 ghost use Rattle.link_plan.specs.Views.{plan_value};
 ghost use Rattle.tx_end.specs.Sources.{packets_by};
+ghost use Rattle.plan_inputs.specs.Inputs.{on_channel};
 ghost use Rattle.plan_inputs.specs.Sources.{IsSourceOf};
-ghost use Rattle.plan_inputs.specs.Values.{packet_values, inputs_value, reading_value, FitPlan};
+ghost use Rattle.plan_inputs.specs.Values.{packets_of, packet_values, inputs_value, reading_value, FitPlan};
 ghost use Rattle.stream_commands.specs.Payload.{IsStreamOfPlan};
 ghost use Rattle.stream_commands.specs.Source.{AreSized, IsKept, source_of};
 
@@ -12,7 +13,7 @@ use crate::source::StreamSource;
 use crate::stream::{PayloadStream, stream_of};
 use link_plan::channels_in_order;
 use lk_base::OutOfMemory;
-use plan_inputs::{ChannelPacket, PlanReading};
+use plan_inputs::{CapturePackets, PlanReading};
 use std::alloc::Global;
 use tx_end::Packet;
 
@@ -25,17 +26,29 @@ pub struct PlanParts<'a> {
     pub packets: Vec<Packet<'a>>,
 }
 
-// The packets, lent with the numbers of their channels.
-fn lent<'a>(alloc: Global, packets: &'a [ChannelPacket]) -> Result<Vec<Packet<'a>>, OutOfMemory>
-    ensures same { IfOk result (λ v. packets_by v.items ≡ packet_values packets.now) }
+// Lends the packets of a capture, behind those of the captures before.
+fn lend<'a>(lent: &mut Vec<Packet<'a>>, capture: &'a CapturePackets) -> Result<(), OutOfMemory>
+    requires { AreSized lent.old.items }
+    ensures same { OnOk result (packets_by lent.new.items ≡ packets_by lent.old.items ++ on_channel capture.now.channel (packets_of capture.now)) }
+    ensures sized { OnOk result (AreSized lent.new.items) }
+{
+    for number in 0..capture.count() {
+        lent.push(Packet {
+            channel: capture.channel,
+            bytes: capture.packet(number),
+        })?;
+    }
+    Ok(())
+}
+
+// The packets of captures, lent with the numbers of their channels.
+fn lent<'a>(alloc: Global, captures: &'a [CapturePackets]) -> Result<Vec<Packet<'a>>, OutOfMemory>
+    ensures same { IfOk result (λ v. packets_by v.items ≡ packet_values captures.now) }
     ensures sized { IfOk result (λ v. AreSized v.items) }
 {
     let mut lent = Vec::new(alloc);
-    for packet in packets {
-        lent.push(Packet {
-            channel: packet.channel,
-            bytes: packet.bytes.as_slice(),
-        })?;
+    for capture in captures {
+        lend(&mut lent, capture)?;
     }
     Ok(lent)
 }

@@ -1,0 +1,8 @@
+/// Where a packet of a capture stands.
+#[derive(Clone, Copy, Debug, PartialEq, Eq)]
+pub struct PacketPlace {
+    /// The offset of its first byte.
+    pub start: u32,
+    /// How many bytes it has.
+    pub size: u32,
+}
