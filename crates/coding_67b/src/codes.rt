@@ -1,7 +1,8 @@
-ghost use Rattle.std.specs.Prelude.{◌≡◌, ◌^◌, ◌<◌, ◌≤ℤ◌, ◌&&◌, ◌||◌, ◌↔◌, ◌⊎◌, ◌-ℤ◌, ◌+ℤ◌, if◌then◌else◌, pos, negsuc, int_le, int_lt};
+ghost use Rattle.std.specs.Prelude.{◌≡◌, ◌≢◌, ◌+◌, ◌*◌, ◌^◌, ◌<◌, ◌≤ℤ◌, ◌&&◌, ◌||◌, ◌↔◌, ◌⊎◌, ◌-ℤ◌, ◌+ℤ◌, if◌then◌else◌, pos, negsuc, int_le, int_lt};
 ghost use Rattle.lk_base.specs.declared.word.RxWord.TheVariants as received;
 ghost use Rattle.lk_base.specs.Words.{payload as payload_of};
-ghost use Rattle.lane_model.specs.Coding.{code_of, header_in, is_inverted, weight, word_of_code, next_disparity};
+ghost use Rattle.lane_model.specs.Bits.{digit};
+ghost use Rattle.lane_model.specs.Coding.{code_of, header_for, header_in, inverse_of, is_inverted, weight, word_of_code, next_disparity};
 
 use lk_base::{RxWord, Word};
 
@@ -37,15 +38,36 @@ pub fn weight_of(payload: u64) -> i32
     ensures value { result ≡ weight payload }
     ensures low { negsuc 64 ≤ℤ result }
     ensures high { result ≤ℤ pos 63 }
+    ensures odd { result ≢ pos 0 }
 {
     2 * payload.count_ones() as i32 - 65
 }
 
-/// Whether a word of this weight is sent inverted at this disparity.
+/// Whether a word of this weight, which is odd, is sent inverted at this disparity.
 pub fn inverts(disparity: i32, weight: i32) -> bool
+    requires { weight ≢ pos 0 }
     ensures { result ≡ ((int_le (pos 0) disparity && int_lt (pos 0) weight) || (int_lt disparity (pos 0) && int_lt weight (pos 0))) }
 {
-    disparity >= 0 && weight > 0 || disparity < 0 && weight < 0
+    (disparity >= 0) == (weight > 0)
+}
+
+// Bits 66:64 of a code.
+fn top_bits(inverted: bool, word: Word) -> u128
+    ensures value { result ≡ digit inverted * 4 + header_for word }
+    ensures below { result < 8 }
+{
+    let header = match word {
+        Word::Data(_) => 1,
+        Word::Control(_) => 2,
+    };
+    if inverted { 4 + header } else { header }
+}
+
+// Bits 63:0 of a code.
+fn low_bits(inverted: bool, payload: u64) -> u64
+    ensures { result ≡ (if inverted then inverse_of payload else payload) }
+{
+    if inverted { !payload } else { payload }
 }
 
 /// The code of a word, inverted or plain.
@@ -54,16 +76,9 @@ pub fn code(inverted: bool, word: Word) -> u128
     ensures value { result ≡ code_of inverted word }
     ensures below { result < 2 ^ 67 }
 {
-    let header: u128 = match word {
-        Word::Data(_) => 1,
-        Word::Control(_) => 2,
-    };
-    let payload = payload(word);
-    if inverted {
-        (4 | header) << 64 | !payload as u128
-    } else {
-        header << 64 | payload as u128
-    }
+    let top = top_bits(inverted, word);
+    let low = low_bits(inverted, payload(word));
+    top << 64 | low as u128
 }
 
 /// The disparity behind a word of this weight, sent inverted or plain.

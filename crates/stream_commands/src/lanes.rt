@@ -1,5 +1,5 @@
 //! The lanes of a stream, which are given to the outputs while they are made.
-ghost use Rattle.std.specs.Prelude.{◌≡◌, ◌<◌, ◌≤◌, ◌^◌, [], List, length, take, IfOk, Contains, Option};
+ghost use Rattle.std.specs.Prelude.{◌≡◌, ◌<◌, ◌^◌, [], List, length, IfOk, Contains, Option};
 ghost use Rattle.lk_base.specs.Link.{Settings};
 ghost use Rattle.lk_base.specs.declared.word.Word.{Word};
 ghost use Rattle.lk_outside.specs.Files.{Files};
@@ -64,14 +64,6 @@ fn end_of(
     })
 }
 
-// The first of nine bytes.
-fn first(bytes: &[u8; 9], count: usize) -> &[u8]
-    requires { count ≤ 9 }
-    ensures { result.now ≡ take count bytes.now }
-{
-    &bytes[..count]
-}
-
 /// Gives each output the bytes of its lane, as they are made of the source, and says what is told of the stream.
 pub fn fill_lanes<S: Store>(
     alloc: Global,
@@ -97,12 +89,7 @@ pub fn fill_lanes<S: Store>(
     // only the measure by which the loop is shown to end
     let mut steps: u64 = 0;
     while let Some(piece) = transmitter.next_piece(&mut bytes) {
-        outputs.put(
-            alloc,
-            store,
-            piece.lane as usize,
-            first(&bytes, piece.count),
-        )?;
+        outputs.put_first(alloc, store, piece.lane as usize, &bytes, piece.count)?;
         steps += 1;
     }
     Ok(end_of(alloc, source, &transmitter)?)

@@ -1,11 +1,11 @@
-use Rattle.std.proofs.Common.{◌∙◌, ◌+◌, ◌^◌, ◌++◌, refl, ap, subst, arith, List, ℕ, [], Contains, Err, take}
+use Rattle.std.proofs.Common.{◌∙◌, ◌+◌, ◌^◌, ◌++◌, refl, subst, arith, List, ℕ, [], Contains, Err, take}
 use Rattle.std.proofs.lemmas.Result.{err_from_is_err_and}
 use Rattle.lk_outside.specs.Files.{Told}
 use Rattle.tx_end.specs.LaneRows.{outs_in}
 use Rattle.run_shell.specs.declared.stop.Stop.TheVariants as stop
 use Rattle.run_shell.specs.Outcome.{HoldsPart}
 use Rattle.run_shell.specs.Stops.{StoreStops}
-use Rattle.run_shell.specs.Outputs.{outs, IsOpen, Grown, more}
+use Rattle.run_shell.specs.Outputs.{outs, IsOpen, Grown}
 use Rattle.stream_commands.specs.declared.form.StreamForm.TheVariants as form
 use Rattle.stream_commands.specs.Source.{source_of}
 use Rattle.stream_commands.proofs.PartsOfStreams.{none_filled, open_part, same_prefixes}
@@ -28,34 +28,34 @@ loop-piece-init g c = record {
   open_so_far = λ was o. subst (λ (gs : List (List ℕ)). IsOpen c.args.outputs.now gs was (g.S.Store.files c.args.store.now)) (lanes_blank c.args.outputs.now c.args.link.now.lanes c.requires.one_each) o;
 }
 
-pub first-requires : goal.first-requires
-first-requires g c =
+pub put_first-requires-clause-few : goal.put_first-requires-clause-few
+put_first-requires-clause-few g c =
     let i = c.loop-piece.invariant in
     let r = c.in-Some.ensures.some c.args.link.now (source_of c.args.source.now) i.words i.outs c.in-Some.piece i.sends refl in
     r.2.2
 
-pub put-requires-clause-place : goal.put-requires-clause-place
-put-requires-clause-place g c =
+pub put_first-requires-clause-place : goal.put_first-requires-clause-place
+put_first-requires-clause-place g c =
     let i = c.loop-piece.invariant in
     let r = c.in-Some.ensures.some c.args.link.now (source_of c.args.source.now) i.words i.outs c.in-Some.piece i.sends refl in
     let there = r.2.0 in
     let many = as_many_opens c.loop-piece.outputs c.args.outputs.now i.names ∙ c.requires.one_each in
     omega (arith, there, many)
 
-pub put-requires-clause-open : goal.put-requires-clause-open
-put-requires-clause-open g c =
+pub put_first-requires-clause-open : goal.put_first-requires-clause-open
+put_first-requires-clause-open g c =
     let (was, o) = c.requires.open in
     (lane_bytes c.args.link.now.lanes c.loop-piece.invariant.outs, was, c.loop-piece.invariant.open_so_far was o)
 
-pub returns-in_err-put-clause-stops : goal.returns-in_err-put-clause-stops
-returns-in_err-put-clause-stops g c =
-    let r = c.from_residual-in_err-put in
+pub returns-in_err-put_first-clause-stops : goal.returns-in_err-put_first-clause-stops
+returns-in_err-put_first-clause-stops g c =
+    let r = c.from_residual-in_err-put_first in
     let p = err_from_is_err_and r.result r.ensures.1 in
-    rw (p.1, p.2) (subst (λ (ns : List (List ℕ)). StoreStops {T = Unit {0}} (Contains ns) (Err c.in_err-put.field-0.0)) c.loop-piece.invariant.names c.in_err-put.ensures.stops)
+    rw (p.1, p.2) (subst (λ (ns : List (List ℕ)). StoreStops {T = Unit {0}} (Contains ns) (Err c.in_err-put_first.field-0.0)) c.loop-piece.invariant.names c.in_err-put_first.ensures.stops)
 
-pub returns-in_err-put-clause-filled : goal.returns-in_err-put-clause-filled
-returns-in_err-put-clause-filled g c =
-    let r = c.from_residual-in_err-put in
+pub returns-in_err-put_first-clause-filled : goal.returns-in_err-put_first-clause-filled
+returns-in_err-put_first-clause-filled g c =
+    let r = c.from_residual-in_err-put_first in
     let p = err_from_is_err_and r.result r.ensures.1 in
     let i = c.loop-piece.invariant in
     let link = c.args.link.now in
@@ -66,10 +66,10 @@ returns-in_err-put-clause-filled g c =
     rw p.1 (λ was o. (
       lane_bytes link.lanes (i.outs ++ outs_in piece bytes),
       lanes_begin c.next_piece.new.self link source next.0 (i.outs ++ outs_in piece bytes) next.1,
-      subst (λ (ns : List (List ℕ)). Told was (g.S.Store.files c.put.new.store) (HoldsPart (outs ns (lane_bytes link.lanes (i.outs ++ outs_in piece bytes))))) i.names
-          (subst (λ (gs : List (List ℕ)). Grown {T = Unit {0}} c.loop-piece.outputs c.put.new.self gs (Err c.in_err-put.field-0.0) was (g.S.Store.files c.put.new.store))
-          (ap (more (lane_bytes link.lanes i.outs) piece.lane) c.first.ensures ∙ lanes_more link.lanes piece.lane i.outs (take piece.count bytes) next.2.0)
-          (c.in_err-put.ensures.grown _ was (i.open_so_far was o))),
+      subst (λ (ns : List (List ℕ)). Told was (g.S.Store.files c.put_first.new.store) (HoldsPart (outs ns (lane_bytes link.lanes (i.outs ++ outs_in piece bytes))))) i.names
+          (subst (λ (gs : List (List ℕ)). Grown {T = Unit {0}} c.loop-piece.outputs c.put_first.new.self gs (Err c.in_err-put_first.field-0.0) was (g.S.Store.files c.put_first.new.store))
+          (lanes_more link.lanes piece.lane i.outs (take piece.count bytes) next.2.0)
+          (c.in_err-put_first.ensures.grown _ was (i.open_so_far was o))),
     ))
 
 pub overflow_add-steps : goal.overflow_add-steps
@@ -97,15 +97,15 @@ loop-piece-preserved g c =
     let bytes : List ℕ = c.next_piece.new.bytes in
     let next = c.in-Some.ensures.some link source i.words i.outs piece i.sends refl in
     record {
-      same_faults = c.in_ok-put.ensures.cause ∙ i.same_faults;
-      names = c.in_ok-put.ensures.names ∙ i.names;
+      same_faults = c.in_ok-put_first.ensures.cause ∙ i.same_faults;
+      names = c.in_ok-put_first.ensures.names ∙ i.names;
       words = next.0;
       outs = i.outs ++ outs_in piece bytes;
       sends = next.1;
       steps = step_given link i.outs piece bytes c.loop-piece.steps next.2 c.next_piece.array_long i.steps;
-      open_so_far = λ was o. subst (λ (gs : List (List ℕ)). IsOpen c.put.new.self gs was (g.S.Store.files c.put.new.store))
-          (ap (more (lane_bytes link.lanes i.outs) piece.lane) c.first.ensures ∙ lanes_more link.lanes piece.lane i.outs (take piece.count bytes) next.2.0)
-          (c.in_ok-put.ensures.grown _ was (i.open_so_far was o));
+      open_so_far = λ was o. subst (λ (gs : List (List ℕ)). IsOpen c.put_first.new.self gs was (g.S.Store.files c.put_first.new.store))
+          (lanes_more link.lanes piece.lane i.outs (take piece.count bytes) next.2.0)
+          (c.in_ok-put_first.ensures.grown _ was (i.open_so_far was o));
     }
 
 pub end_of-requires-clause-whole : goal.end_of-requires-clause-whole
