@@ -1,4 +1,5 @@
 ghost use Rattle.std.specs.Prelude.{◌≡◌, ◌<◌, ◌≤◌, ◌+◌, ◌*◌, ◌^◌, Bool, List, [], ℕ, get_or, length, replicate, IfOk};
+ghost use Rattle.std.specs.Int.{bit_at};
 ghost use Rattle.lk_base.specs.Checksum.{bits_of};
 ghost use Rattle.lk_base.specs.Link.{Settings};
 ghost use Rattle.lock_model.specs.declared.types.LaneStep.TheVariants as variants;
@@ -112,6 +113,18 @@ impl LaneSteps {
         ensures low { is_low result }
     {
         self.found.step(k, self.width)
+    }
+
+    /// At which of the last bytes' bits it may show something: bit k of the number is 0 only where bit k of the bytes, counted from
+    /// the first, shows nothing.
+    pub fn shows(&self) -> u64
+        ensures { (k : ℕ) → k < length self.now.shown → bit_at result k ≡ 0 → get_or self.now.shown k variants.Ended ≡ variants.Nothing }
+    {
+        match self.found {
+            Found::End => u64::MAX,
+            Found::Quiet => 0,
+            Found::Step(place, _) => 1 << place,
+        }
     }
 
     /// How many of the bits of the last byte from bit k on show nothing, up to the next that shows something: k is below 8.

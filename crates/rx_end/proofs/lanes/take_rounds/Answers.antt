@@ -1,13 +1,20 @@
 -- One more lane takes so many bytes.
 use Rattle.rx_end.specs.Lanes.{IsTaken}
+use Rattle.rx_end.proofs.Covering.{all_covered, covered_more}
 use Rattle.rx_end.proofs.Taking.{all_made, next_there, one_more}
 use Rattle.rx_end.proofs.lanes.take_rounds.Goals as goal
 
 pub take_bytes-requires-clause-there : goal.take_bytes-requires-clause-there
-take_bytes-requires-clause-there c = next_there c.args.count c.args.lanes.now c.loop-i.i c.loop-i.lanes c.index-lanes-i.result c.loop-i-test.true c.loop-i.invariant c.requires.there
+take_bytes-requires-clause-there c = next_there c.args.count c.args.lanes.now c.loop-i.i c.loop-i.lanes c.index-lanes-i.result c.loop-i-test.true c.loop-i.invariant.made c.requires.there
 
 pub loop-i-preserved : goal.loop-i-preserved
-loop-i-preserved c = one_more (IsTaken c.args.count) c.loop-i.i c.args.lanes.now c.loop-i.lanes c.index-lanes-i.result c.take_bytes.new.self c.loop-i-test.true c.loop-i.invariant c.take_bytes.ensures
+loop-i-preserved c = record {
+  made = one_more (IsTaken c.args.count) c.loop-i.i c.args.lanes.now c.loop-i.lanes c.index-lanes-i.result c.take_bytes.new.self c.loop-i-test.true c.loop-i.invariant.made c.take_bytes.ensures.taken;
+  covered = covered_more c.loop-i.i c.loop-i.shows c.take_bytes.result c.loop-i.lanes c.take_bytes.new.self c.loop-i.invariant.covered c.take_bytes.ensures.shown;
+}
 
-pub returns : goal.returns
-returns c = all_made (IsTaken c.args.count) c.loop-i.i c.args.lanes.now c.loop-i.lanes c.loop-i-test.false c.loop-i.invariant
+pub returns-clause-taken : goal.returns-clause-taken
+returns-clause-taken c = all_made (IsTaken c.args.count) c.loop-i.i c.args.lanes.now c.loop-i.lanes c.loop-i-test.false c.loop-i.invariant.made
+
+pub returns-clause-shown : goal.returns-clause-shown
+returns-clause-shown c = all_covered c.loop-i.i c.loop-i.shows c.loop-i.lanes c.loop-i-test.false c.loop-i.invariant.covered

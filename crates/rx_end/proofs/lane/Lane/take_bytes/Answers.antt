@@ -6,8 +6,8 @@ use Rattle.rx_end.specs.States.{Lane}
 use Rattle.rx_end.proofs.Rounds.{is_taken}
 use Rattle.rx_end.proofs.lane.Lane.take_bytes.Goals as goal
 
-pub returns : goal.returns
-returns c =
+pub returns-clause-taken : goal.returns-clause-taken
+returns-clause-taken c =
     is_taken _ _ c.take_bits-bits.new.ring.items c.take.new.self.lock c.take.new.self.shown c.args.count c.take_bits-bits.result c.self.view_is c.take.ensures.count c.requires.some
     (subst (λ (v : Lane). c.args.count ≤ length v.ring) (sym c.self.view_is) c.requires.there)
     (ap (λ (b : Buffer ℕ). b.items) c.take_bits-bits.ensures.ring) c.take_bits-bits.ensures.bits c.take.ensures.stands
