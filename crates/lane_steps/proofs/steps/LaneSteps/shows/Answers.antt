@@ -1,10 +1,9 @@
 -- Where a number has a 0 nothing is shown.
-use Rattle.std.proofs.Common.{ℕ, ◌≡◌, sym, ap, ◌∙◌, subst, ◌+◌, ◌*◌, ◌%◌, ◌^◌, ◌<◌, ◌≤◌, List, length, get_or, arith}
+use Rattle.std.proofs.Common.{ℕ, ◌≡◌, sym, ap, ◌∙◌, subst, ◌*◌, ◌%◌, ◌^◌, ◌<◌, List, length, get_or, arith}
 use Rattle.std.specs.Int.{bit_at}
 use Rattle.std.proofs.lemmas.Nat.{shl_whole}
 use Rattle.lock_model.specs.declared.types.LaneStep.{LaneStep}
 use Rattle.lock_model.specs.declared.types.LaneStep.TheVariants as steps
-use Rattle.lane_steps.specs.declared.found.Found.{Found}
 use Rattle.lane_steps.specs.declared.found.Found.TheVariants as founds
 use Rattle.lane_steps.specs.Founds.{IsWithin, steps_found}
 use Rattle.lane_steps.specs.States.{StepsState}
