@@ -133,16 +133,7 @@ impl LaneSteps {
         ensures most { result + k ≤ 8 }
         ensures quiet { (j : ℕ) → k ≤ j → j < result + k → get_or self.now.shown j variants.Ended ≡ variants.Nothing }
     {
-        self.quiet_up_to(k, 8)
-    }
-
-    /// How many of the bits of the last bytes from bit k on show nothing, up to the next that shows something, or to this end.
-    pub fn quiet_up_to(&self, k: u32, end: u32) -> u32
-        requires { k ≤ end }
-        ensures most { result + k ≤ end }
-        ensures quiet { (j : ℕ) → k ≤ j → j < result + k → get_or self.now.shown j variants.Ended ≡ variants.Nothing }
-    {
-        self.found.quiet(k, end, self.width)
+        self.found.quiet(k, 8, self.width)
     }
 
     /// The report over the bytes so far.
