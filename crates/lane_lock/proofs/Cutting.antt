@@ -2,17 +2,19 @@
 use Rattle.std.proofs.Common.{ℕ, ◌≡◌, sym, ap, ◌∙◌, subst, ◌+◌, ◌-◌, ◌*◌, ◌/◌, ◌%◌, ◌^◌, ◌<◌, ◌≤◌, ◌==◌, Bool, true, List, [], ◌∷◌, ◌++◌, replicate, arith, bit_and, bit_or}
 use Rattle.std.specs.Int.{bit_at}
 use Rattle.std.proofs.Math.Nat.{div-lt_iff_lt-mul}
-use Rattle.std.proofs.lemmas.Nat.{and_mask, or_shifted, pow-add, pow_pos, shl_whole}
+use Rattle.std.proofs.lemmas.Nat.{and_mask, or_shifted, pow-add, pow_pos, shl_whole, shr-shr}
 use Rattle.lk_base.specs.Checksum.{bits_of}
 use Rattle.lk_base.specs.Link.{Settings}
+use Rattle.lane_model.specs.Bits.{digit}
 use Rattle.coding_67b.proofs.Cut.{bits-cut, bits-mod, first_bit}
 use Rattle.lock_model.specs.declared.types.LaneStep.{LaneStep}
 use Rattle.lock_model.specs.declared.types.LaneStep.TheVariants as steps
 use Rattle.lane_lock.specs.Bytes.{Brings, with_bits}
-use Rattle.lane_lock.specs.Lane.{LaneState}
+use Rattle.lane_lock.specs.Lane.{LaneState, with_bit}
 use Rattle.lane_lock.specs.Standing.{IsStep, Stands}
 use Rattle.lane_lock.proofs.LastWord.{held}
-use Rattle.lane_lock.proofs.Resting.{all_at_once, brings_bit, brings_both, brings_same}
+use Rattle.lane_lock.proofs.Resting.{all_at_once, brings_bit, brings_both, brings_same, with_both}
+use Rattle.lane_lock.proofs.Windows.{pushed_bit}
 
 -- the bits before the bit at a place, this bit, and the bits behind it
 cut_at : (width x place behind : ℕ) → place + (behind + 1) ≡ width →
@@ -25,6 +27,19 @@ cut_at width x place behind e =
     ∙ ap (λ (n : ℕ). bits_of place (x / 2 ^ (behind + 1)) ++ ((bit_at x n == 1) ∷ bits_of n x)) (sym g)
     ∙ ap (λ (bits : List Bool). bits_of place (x / 2 ^ (behind + 1)) ++ bits) (sym (first_bit (behind + 1) x (omega arith)))
     ∙ sym (bits-cut place (behind + 1) x) ∙ ap (λ (n : ℕ). bits_of n x) e
+
+-- the bits up to the one at a place are those before it and this bit
+pub last_pushed : (v : LaneState) (width all place behind : ℕ) → place < width → behind ≡ width - 1 - place →
+    with_bits v (place + 1) (all / 2 ^ (width - (place + 1))) ≡ with_bit (with_bits v place (all / 2 ^ (width - place))) (bit_at all behind == 1)
+last_pushed v width all place behind lt e =
+    let f : width - (place + 1) ≡ behind = omega (arith, lt, e) in
+    let g : behind + 1 ≡ width - place = omega (arith, lt, e) in
+    let half : all / 2 ^ behind / 2 ≡ all / 2 ^ (width - place) = shr-shr all behind 1 ∙ ap (λ (n : ℕ). all / 2 ^ n) g in
+    let t : v.taken + (place + 1) ≡ v.taken + place + 1 = omega arith in
+    ap (λ (n : ℕ). with_bits v (place + 1) (all / 2 ^ n)) f
+    ∙ ap (λ (window : ℕ). with_both v window (v.taken + (place + 1))) (sym (pushed_bit v.window (all / 2 ^ behind) place))
+    ∙ ap (λ (x : ℕ). with_both v (((v.window * 2 ^ place + x) % 2 ^ 67 * 2 + digit (bit_at all behind == 1)) % 2 ^ 67) (v.taken + (place + 1))) half
+    ∙ ap (λ (n : ℕ). with_both v (((v.window * 2 ^ place + all / 2 ^ (width - place)) % 2 ^ 67 * 2 + digit (bit_at all behind == 1)) % 2 ^ 67) n) t
 
 -- the bits before, the last bit of the word, and the bits behind
 pub cut_brings : (v u w : LaneState) (width all place behind : ℕ) (x : LaneStep) (b : Bool) → v.watching ≡ true → place ≡ v.at + 66 - v.taken → behind ≡ width - 1 - place → place < width →

@@ -84,7 +84,7 @@ abbrev all_bits : LaneState → List Bool → LaneState
 all_bits v [] = v
 all_bits v (b ∷ given) = all_bits (with_bit v b) given
 
-abbrev with_both : LaneState → ℕ → ℕ → LaneState
+abbrev pub with_both : LaneState → ℕ → ℕ → LaneState
 with_both v window taken = record {
   window = window;
   taken = taken;

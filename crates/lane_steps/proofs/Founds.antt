@@ -1,8 +1,10 @@
 -- The steps of the bits of the last bytes, one by one.
-use Rattle.std.proofs.Common.{ℕ, zero, suc, ◌≡◌, refl, sym, ap, ◌∙◌, ◌+◌, ◌-◌, ◌<◌, ◌≤◌, ◌==◌, true, false, List, [], ◌∷◌, ◌++◌, length, get_or, replicate, arith, inl, inr, eqb-true}
+use Rattle.std.proofs.Common.{ℕ, zero, suc, ◌≡◌, refl, sym, ap, ◌∙◌, ◌+◌, ◌-◌, ◌<◌, ◌≤◌, ◌^◌, ◌==◌, true, false, List, [], ◌∷◌, ◌++◌, length, get_or, replicate, arith, inl, inr, eqb-true}
+use Rattle.std.specs.Int.{bit_at}
 use Rattle.std.specs.Prelude.{nat_lt}
 use Rattle.std.proofs.lemmas.Bool.{cases_Bool, cases_lt, eq-eqb, lt-ltb, le-ltb}
 use Rattle.std.proofs.lemmas.List.{get_or-replicate, length-append, length-replicate}
+use Rattle.std.proofs.lemmas.Nat.Bits.{bit_at-pow_same, bit_at_ones}
 use Rattle.lock_model.specs.declared.types.LaneStep.{LaneStep}
 use Rattle.lock_model.specs.declared.types.LaneStep.TheVariants as steps
 use Rattle.lane_steps.specs.declared.found.Found.{Found}
@@ -48,3 +50,17 @@ step_there place width k x r within here elsewhere_is behind_is = elim (cases_Bo
     | inr le ↦ behind_is e (le-ltb k width le) ∙ sym (behind (steps_found width (founds.Step place x)) k (let n = count_step width place x within in omega (arith, n, le)))
   ]
 ]
+
+-- no bit of so many is 0 where a lane has ended, and that of a step is 1
+pub ended_covered : (width k : ℕ) → width ≤ 64 → k < length (steps_found width founds.End) → bit_at (2 ^ 64 - 1) k ≡ 0 → get_or (steps_found width founds.End) k steps.Ended ≡ steps.Nothing
+ended_covered width k le lt zero_there =
+    let l = length-replicate width steps.Ended in
+    let one = bit_at_ones 64 k (omega (arith, le, lt, l)) in
+    absurd (omega (arith, one, zero_there))
+
+pub step_covered : (width place k : ℕ) (x : LaneStep) → place < width → k < length (steps_found width (founds.Step place x)) → bit_at (2 ^ place) k ≡ 0 →
+    get_or (steps_found width (founds.Step place x)) k steps.Ended ≡ steps.Nothing
+step_covered width place k x within lt zero_there =
+    let l = count_step width place x within in
+    elsewhere place (width - 1 - place) k x (omega (arith, within, lt, l))
+    (λ e. (let one = bit_at-pow_same place in let same = ap (bit_at (2 ^ place)) e in absurd (omega (arith, one, zero_there, same))))

@@ -1,4 +1,5 @@
 ghost use Rattle.std.specs.Prelude.{◌≡◌, ◌<◌, ◌≤◌, ◌+◌, ◌*◌, ◌^◌, Bool, List, [], ℕ, get_or, length, replicate, IfOk};
+ghost use Rattle.std.specs.Int.{bit_at};
 ghost use Rattle.lk_base.specs.Checksum.{bits_of};
 ghost use Rattle.lk_base.specs.Link.{Settings};
 ghost use Rattle.lock_model.specs.declared.types.LaneStep.TheVariants as variants;
@@ -114,22 +115,25 @@ impl LaneSteps {
         self.found.step(k, self.width)
     }
 
+    /// At which of the last bytes' bits it may show something: bit k of the number is 0 only where bit k of the bytes, counted from
+    /// the first, shows nothing.
+    pub fn shows(&self) -> u64
+        ensures { (k : ℕ) → k < length self.now.shown → bit_at result k ≡ 0 → get_or self.now.shown k variants.Ended ≡ variants.Nothing }
+    {
+        match self.found {
+            Found::End => u64::MAX,
+            Found::Quiet => 0,
+            Found::Step(place, _) => 1 << place,
+        }
+    }
+
     /// How many of the bits of the last byte from bit k on show nothing, up to the next that shows something: k is below 8.
     pub fn quiet(&self, k: u32) -> u32
         requires { k < 8 }
         ensures most { result + k ≤ 8 }
         ensures quiet { (j : ℕ) → k ≤ j → j < result + k → get_or self.now.shown j variants.Ended ≡ variants.Nothing }
     {
-        self.quiet_up_to(k, 8)
-    }
-
-    /// How many of the bits of the last bytes from bit k on show nothing, up to the next that shows something, or to this end.
-    pub fn quiet_up_to(&self, k: u32, end: u32) -> u32
-        requires { k ≤ end }
-        ensures most { result + k ≤ end }
-        ensures quiet { (j : ℕ) → k ≤ j → j < result + k → get_or self.now.shown j variants.Ended ≡ variants.Nothing }
-    {
-        self.found.quiet(k, end, self.width)
+        self.found.quiet(k, 8, self.width)
     }
 
     /// The report over the bytes so far.

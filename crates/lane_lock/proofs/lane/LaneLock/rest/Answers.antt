@@ -10,5 +10,5 @@ use Rattle.lane_lock.proofs.lane.LaneLock.rest.Goals as goal
 pub returns-then-self-clause-stands : goal.returns-then-self-clause-stands
 returns-then-self-clause-stands c =
     let ew = sym (ap (λ (x : LaneState). x.watching) c.self.view_is) ∙ c.if-self.true in
-    subst (λ (w : LaneState). Brings c.args.self.now w (bits_of c.args.count c.args.bits) (replicate c.args.count steps.Nothing)) (sym c.shift.ensures)
+    subst (λ (w : LaneState). Brings c.args.self.now w (bits_of c.args.count c.args.bits) (replicate c.args.count steps.Nothing)) (sym c.shift.ensures.value)
     (all_at_once c.args.self.now c.args.count c.args.bits ew (c.requires.rests ew) c.requires.bits)

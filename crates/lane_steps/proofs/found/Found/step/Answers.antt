@@ -1,5 +1,5 @@
 -- The step of a bit among those that show nothing.
-use Rattle.std.proofs.Common.{ℕ, ◌≡◌, sym, subst, get_or, ◌<◌}
+use Rattle.std.proofs.Common.{◌≡◌, sym, subst, get_or}
 use Rattle.lock_model.specs.declared.types.LaneStep.TheVariants as steps
 use Rattle.lane_steps.specs.declared.found.Found.{Found}
 use Rattle.lane_steps.specs.Founds.{IsWithin, steps_found}
