@@ -1,7 +1,7 @@
 -- A plan whose lanes are clean comes to an outcome over clean lanes.
-use Rattle.std.proofs.Common.{◌≡◌, ℕ, suc, ◌+◌, ◌<◌, refl, sym, ap, ◌∙◌, subst, arith, Bool, true, false, cond, All, List, [], ◌∷◌, map, get_or, Some, Ok, nat_cmp}
+use Rattle.std.proofs.Common.{◌≡◌, ℕ, suc, ◌<◌, sym, ap, ◌∙◌, subst, arith, Bool, true, false, cond, All, List, [], ◌∷◌, map, get_or, Some, Ok, nat_cmp}
 use Rattle.std.specs.Prelude.{nat_lt}
-use Rattle.std.specs.List.{AllByRecursion, enumerate_from, list_all}
+use Rattle.std.specs.List.{AllByRecursion, list_all}
 use Rattle.std.specs.Ordering.{eq_by_cmp}
 use Rattle.std.specs.Cmp.Lexicographic.{slice_cmp, nat_list_cmp_total}
 use Rattle.std.specs.FinMap.{find, from_entries, get-from_entries}
@@ -11,8 +11,7 @@ use Rattle.std.proofs.lemmas.List.Sums.{AllPass-from_list_all}
 use Rattle.lk_base.specs.Checksum.{bits_of_bytes}
 use Rattle.lk_base.specs.Link.{Settings}
 use Rattle.lk_base.specs.declared.word.Word.{Word}
-use Rattle.lane_model.specs.Damage.{IsWithinDepth, LaneDamage, received_bit}
-use Rattle.lane_model.specs.LaneBits.{stream_lane_bits}
+use Rattle.lane_model.specs.Damage.{IsWithinDepth}
 use Rattle.lk_outside.specs.Files.{Files, AreBytes}
 use Rattle.lock_model.specs.Locks.{Attempt, AreAttempts}
 use Rattle.lock_model.specs.Report.{report_of}
@@ -22,7 +21,6 @@ use Rattle.epoch_model.specs.GroupLaw.{HasAttempts}
 use Rattle.link_laws.specs.Received.{bits_of_lanes}
 use Rattle.link_laws.specs.LinkWidth.{KeepsLocks}
 use Rattle.link_laws.proofs.CleanKept.{clean_keep_locks}
-use Rattle.link_replay.specs.Damages.{lane_damage}
 use Rattle.receive_commands.specs.Receive.{AreLaneReports}
 use Rattle.link_commands.specs.Delivery.{AllUndamaged, LosesNoLock}
 use Rattle.link_commands.specs.Inputs.{LinkReading, linked_in}
@@ -49,18 +47,6 @@ entry_bytes (x ∷ es) q bytes all e = elim (eq_by_cmp (slice_cmp nat_cmp) q x.0
 
 pub files_of_bytes : (es : List (List ℕ × List ℕ)) → HaveBytes es → AreBytes (from_entries es)
 files_of_bytes es all q bytes e = entry_bytes es q bytes all (sym (get-from_entries nat_list_cmp_total es q) ∙ e)
-
--- ---- lanes without damage
-
-abbrev pub skewed_only : ℕ → LaneDamage
-skewed_only skew = record { skew = skew; flips = []; darks = [] }
-
-pub bits_stay : (skew n : ℕ) (bits : List Bool) → map (received_bit (skewed_only skew)) (enumerate_from n bits) ≡ bits
-bits_stay skew n [] = refl
-bits_stay skew n (b ∷ bits) = ap (λ rest. b ∷ rest) (bits_stay skew (n + 1) bits)
-
-pub undamaged_by : (s : Settings) (skews : List ℕ) (stream : List Word) → AllUndamaged s (record { skews = skews; flips = []; darks = [] }) stream
-undamaged_by s skews stream lane lt = bits_stay (lane_damage (record { skews = skews; flips = []; darks = [] }) lane).skew 0 (stream_lane_bits s stream lane)
 
 -- ---- reports of lanes that keep their locks
 

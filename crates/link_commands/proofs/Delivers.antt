@@ -1,19 +1,15 @@
 -- The delivery theorem: what the laws on lanes say of the files that a link writes.
-use Rattle.std.proofs.Common.{◌≡◌, ◌≢◌, ℕ, zero, suc, ◌+◌, ◌<◌, ◌≤◌, ◌^◌, ◌==◌, true, cond, All, Contains, find, filter, List, [], ◌∷◌, ◌++◌, length, map, get_or, refl, sym, ap, ◌∙◌, subst, arith, is_some, Some, None, Ok}
-use Rattle.std.specs.List.{range_with_len}
+use Rattle.std.proofs.Common.{◌≡◌, ◌≢◌, ℕ, zero, suc, ◌<◌, ◌≤◌, ◌^◌, ◌==◌, true, cond, All, Contains, find, filter, List, [], ◌∷◌, ◌++◌, length, map, get_or, refl, sym, ap, ◌∙◌, subst, arith, is_some, Some, None, Ok}
 use Rattle.std.specs.Fmt.{decimal}
 use Rattle.std.proofs.lemmas.Bool.{eq-eqb}
 use Rattle.std.proofs.lemmas.Fmt.{decimal_injective}
-use Rattle.std.proofs.lemmas.List.{append_cancel_left, append_cancel_right, ext_get_or, get_or-map, length-map}
-use Rattle.std.proofs.lemmas.List.FromFn.{get_or-map-range_with_len, length-map-range_with_len}
+use Rattle.std.proofs.lemmas.List.{append_cancel_left, append_cancel_right}
 use lib.Chars.{codes}
 use Rattle.lk_base.specs.Checksum.{bits_of_bytes}
-use Rattle.lk_base.specs.Link.{Settings}
 use Rattle.lk_base.specs.declared.word.Word.{Word}
 use Rattle.lk_outside.specs.Files.{Files, AreBytes}
 use Rattle.stream_model.specs.declared.rows.FlowRow.{FlowRow}
-use Rattle.lane_model.specs.Damage.{IsUndamaged, IsWithinDepth, LaneDamage, received_bits}
-use Rattle.lane_model.specs.LaneBits.{IsFileOf, stream_lane_bits}
+use Rattle.lane_model.specs.Damage.{IsWithinDepth}
 use Rattle.receive_model.specs.Events.{Event, delivered, shown_spans}
 use Rattle.receive_model.specs.Pieces.{Packet}
 use Rattle.receive_model.specs.Spans.{spans}
@@ -23,18 +19,14 @@ use Rattle.receive_model.proofs.Cuts.{split}
 use Rattle.delivery_laws.specs.Law.{meets_none}
 use Rattle.delivery_laws.specs.LawOnWords.{EachIsPacket}
 use Rattle.epoch_model.proofs.Rises.{places_rise}
-use Rattle.link_laws.specs.Accidents.{Accidents, Sent, no_accidents}
-use Rattle.link_laws.specs.CleanLaw.{AreUndamaged, HasTwoSpans, IsClean}
-use Rattle.link_laws.specs.FileLaw.{AreUndamagedFiles}
+use Rattle.link_laws.specs.Accidents.{Accidents, no_accidents}
+use Rattle.link_laws.specs.CleanLaw.{HasTwoSpans, IsClean}
 use Rattle.link_laws.specs.Received.{AreReceived}
 use Rattle.link_laws.proofs.Damage.{law_on_damage}
-use Rattle.link_laws.proofs.Files.{files_are_undamaged}
 use Rattle.link_laws.proofs.Lists.{all-kept}
 use Rattle.link_laws.proofs.NoAccidents.{no_accidents_there}
 use Rattle.link_laws.proofs.TwoSpans.{has_two_spans}
-use Rattle.link_plan.specs.Schedules.{ScheduleValue}
 use Rattle.link_plan.proofs.InOrder.{narrow_in_order}
-use Rattle.link_replay.specs.Damages.{lane_damage}
 use Rattle.link_reports.specs.Table.{span_table}
 use Rattle.pcap_files.specs.Written.{capture_bytes}
 use Rattle.plan_inputs.specs.Inputs.{numbers_in, planned_in, schedule_in}
@@ -54,6 +46,7 @@ use Rattle.receive_commands.proofs.NamesDiffer.{names_differ}
 use Rattle.link_commands.specs.Delivery.{AllUndamaged, CleanLinkDeliversAll, DeliversAll, DeliversUnmet, LinkDelivers, LinkNeverBurstsWhenOff, sent_on}
 use Rattle.link_commands.specs.Inputs.{LinkReading, linked_in, with_schedule}
 use Rattle.link_commands.specs.Linked.{IsLinkedBy, sent_over}
+use Rattle.link_commands.proofs.CleanLanes.{clean_lanes}
 
 -- ---- the plan that is read, and its packets
 
@@ -188,63 +181,9 @@ delivers files name i stream o are e h none = unmet_delivers i stream o h (each_
 
 -- ---- where no bit was damaged
 
--- what happens to so many lanes, from this number on
-abbrev damages_from : ScheduleValue → ℕ → ℕ → List LaneDamage
-damages_from schedule first count = map (lane_damage schedule) (range_with_len first count)
-
-abbrev skews_in : List LaneDamage → List ℕ
-skews_in damages = map (λ (d : LaneDamage). d.skew) damages
-
-quiet_lane : LaneDamage
-quiet_lane = record { skew = 0; flips = []; darks = [] }
-
-skews_are : (schedule : ScheduleValue) (lanes : ℕ) → length schedule.skews ≡ lanes → skews_in (damages_from schedule 0 lanes) ≡ schedule.skews
-skews_are schedule lanes e =
-    let damages : List LaneDamage = damages_from schedule 0 lanes in
-    let many : length damages ≡ lanes = length-map-range_with_len (lane_damage schedule) 0 lanes in
-    let long : length (skews_in damages) ≡ length damages = length-map damages (λ (d : LaneDamage). d.skew) in
-    ext_get_or 0 (skews_in damages) schedule.skews (long ∙ many ∙ sym e) (λ k lt.
-    let below : k < lanes = omega arith in
-    let within : k < length damages = omega arith in
-    get_or-map (λ (d : LaneDamage). d.skew) damages k quiet_lane 0 within
-    ∙ ap (λ (d : LaneDamage). d.skew) (get_or-map-range_with_len (lane_damage schedule) 0 lanes k k quiet_lane below (omega arith)))
-
-module _ (t : Sent) (schedule : ScheduleValue) where
-  -- this is a file of a lane of which no bit is damaged
-  abbrev IsWhole : ℕ → List ℕ → Type 0
-  IsWhole lane bytes = IsUndamaged (lane_damage schedule lane) (stream_lane_bits t.settings t.words lane) × IsFileOf bytes (received_bits (lane_damage schedule lane) (stream_lane_bits t.settings t.words lane))
-
-  whole_files : (first count : ℕ) (files : List (List ℕ)) → length files ≡ count →
-      ((lane k : ℕ) → lane ≡ first + k → k < count → IsWhole lane (get_or files k [])) → AreUndamagedFiles t first (damages_from schedule first count) files
-  whole_files first zero [] e h = tt
-  whole_files first zero (bytes ∷ files) e h = absurd (omega arith)
-  whole_files first (suc count) [] e h = absurd (omega arith)
-  whole_files first (suc count) (bytes ∷ files) e h =
-      let here : IsWhole first bytes = h first 0 (omega arith) (omega arith) in
-      (here.0, here.1, whole_files (first + 1) count files (omega arith) (λ lane k is lt. h lane (suc k) (omega arith) (omega arith)))
-
 module _ (i : LinkReading) (stream : List Word) (o : Outcome) (h : IsLinkedBy i stream o) where
-  undamaged_lanes : AllUndamaged i.reading.plan.settings i.schedule stream → AreUndamaged (sent_over i stream) 0 i.schedule.skews (map bits_of_bytes h.lanes)
-  undamaged_lanes all =
-      let s : Settings = i.reading.plan.settings in
-      let lane_files : AreUndamagedFiles (sent_over i stream) 0 (damages_from i.schedule 0 s.lanes) h.lanes =
-      whole_files (sent_over i stream) i.schedule 0 s.lanes h.lanes h.are_lanes.one_each
-      (λ lane k is lt.
-      let one : k ≡ lane = omega arith in
-      subst (λ n. IsWhole (sent_over i stream) i.schedule n (get_or h.lanes k [])) one (all k lt, h.are_lanes.each k lt)) in
-      subst (λ skews. AreUndamaged (sent_over i stream) 0 skews (map bits_of_bytes h.lanes)) (skews_are i.schedule s.lanes h.are_counts.skewed)
-      (files_are_undamaged (sent_over i stream) (damages_from i.schedule 0 s.lanes) h.lanes lane_files)
-
   pub is_clean : AllUndamaged i.reading.plan.settings i.schedule stream → IsWithinDepth i.reading.plan.settings i.schedule.skews → IsClean h.source (sent_over i stream) (map bits_of_bytes h.lanes)
-  is_clean all within = record {
-    link = h.link;
-    stream = h.is_stream;
-    group = h.is_source.shape.group;
-    warmup = h.is_source.shape.warmup;
-    lanes = h.are_counts.skewed;
-    within = within;
-    undamaged = undamaged_lanes all;
-  }
+  is_clean all within = clean_lanes i stream h.source h.lanes h.link h.is_source h.is_stream h.are_lanes h.are_counts.skewed all within
 
   delivers_all : IsClean h.source (sent_over i stream) (map bits_of_bytes h.lanes) → EachIsPacket h.setting.max_packet h.source → h.counts ≡ no_accidents → DeliversUnmet i stream o h → DeliversAll i stream o h
   delivers_all clean each none unmet =

@@ -29,7 +29,8 @@ use Rattle.link_commands.specs.PremisesMet.{HeldLinkMeets, IsCleanLink, SkewedLi
 use Rattle.link_plan.specs.Listing.{channels_in_order}
 use Rattle.link_commands.proofs.WorkedPlans.{off_read, skewed_read}
 use Rattle.pcap_files.specs.Written.{header_bytes, record_head}
-use Rattle.link_commands.proofs.CleanRuns.{HaveBytes, clean_link, files_of_bytes, undamaged_by}
+use Rattle.link_commands.proofs.CleanLanes.{undamaged_by}
+use Rattle.link_commands.proofs.CleanRuns.{HaveBytes, clean_link, files_of_bytes}
 use Rattle.link_commands.proofs.Delivers.{never_when_off}
 
 -- ---- the packet arrives

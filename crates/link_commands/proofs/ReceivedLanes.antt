@@ -2,20 +2,22 @@
 use Rattle.std.proofs.Common.{◌≡◌, ℕ, zero, suc, ◌<◌, ◌+◌, ◌-◌, ◌*◌, ◌%◌, ◌^◌, inl, inr, Bool, true, false, All, List, [], ◌∷◌, ◌++◌, length, length-append, map, take, replicate, get_or, nat_lt, refl, sym, ap, ◌∙◌, subst, arith, Vec, Global}
 use Rattle.std.specs.List.{list_all, range_with_len}
 use Rattle.std.proofs.lemmas.Bool.{and_parts, cases_lt, ltb-true}
-use Rattle.std.proofs.lemmas.List.{ext_get_or, length-replicate}
+use Rattle.std.proofs.lemmas.List.{ext_get_or, get_or-map, length-map, length-replicate}
 use Rattle.std.proofs.lemmas.List.FromFn.{length-map-range_with_len, get_or-map-range_with_len}
 use Rattle.std.proofs.Math.Seq.{take-append_seam}
 use Rattle.lk_base.specs.Checksum.{bits_of_bytes}
 use Rattle.lk_base.specs.Link.{Settings}
 use Rattle.lk_base.specs.declared.word.Word.{Word}
-use Rattle.lane_model.specs.Damage.{received_bits}
+use Rattle.lane_model.specs.Damage.{LaneDamage, received_bits}
 use Rattle.lane_model.specs.LaneBits.{IsFileOf, bits_of_codes, lane_bits, stream_lane_bits}
 use Rattle.lane_model.proofs.FilesHold.{files_determined, length-flat_map_bits, only}
-use Rattle.link_plan.specs.Schedules.{ScheduleValue}
-use Rattle.link_replay.specs.Damages.{lane_damage, received_of}
+use Rattle.link_plan.specs.Schedules.{DarkValue, FlipValue, ScheduleValue}
+use Rattle.link_replay.specs.Damages.{darks_on, flips_on, lane_damage}
+use Rattle.receive_commands.specs.Held.{vec_bytes}
 use Rattle.tx_end.specs.Lanes.{AreLaneFiles}
-use Rattle.link_commands.specs.Carrying.{AreDamaged}
+use Rattle.link_commands.specs.Carrying.{AreDamaged, HoldsCodes, IsDamagedLane, LeavesAlone}
 use Rattle.link_commands.specs.Linked.{AreReceivedFiles}
+use Rattle.link_commands.proofs.CleanLanes.{bits_stay, skewed_only}
 
 abbrev pub bits_at : Settings → ScheduleValue → List Word → ℕ → List Bool
 bits_at s schedule stream i = received_bits (lane_damage schedule i) (stream_lane_bits s stream i)
@@ -71,6 +73,40 @@ damaged_received s schedule stream sent received lanes damaged =
           (damaged.each i (omega arith));
     }
 
+-- the lanes of a stream are such files
+pub hold_codes : (s : Settings) (stream : List Word) (sent : List (Vec ℕ Global)) → AreLaneFiles s stream (map vec_bytes sent) → All (λ (v : Vec ℕ Global). HoldsCodes v.items) sent
+hold_codes s stream sent are k d lt =
+    let n = length-map sent vec_bytes in
+    let one = are.one_each in
+    let codes = lane_codes s stream k in
+    record {
+      bits = stream_lane_bits s stream k;
+      codes = codes.0;
+      many = codes.1;
+      file = subst (λ (bytes : List ℕ). IsFileOf bytes (stream_lane_bits s stream k)) (get_or-map vec_bytes sent k d [] lt) (are.each k (omega (arith, lt, n, one)));
+    }
+
+-- a lane that is left alone is received as it is
+pub left_alone : (schedule : ScheduleValue) (lane : ℕ) (bytes : List ℕ) → LeavesAlone schedule lane → HoldsCodes bytes → IsDamagedLane schedule lane bytes bytes
+left_alone schedule lane bytes alone holds =
+    let n = 8 * length bytes - 8 * length bytes % 67 in
+    let damage : lane_damage schedule lane ≡ skewed_only 0 =
+    ap (λ k. record { skew = k; flips = flips_on lane schedule.flips; darks = darks_on lane schedule.darks }) alone.skew
+    ∙ ap (λ (fs : List FlipValue). record { skew = 0; flips = flips_on lane fs; darks = darks_on lane schedule.darks }) alone.flips
+    ∙ ap (λ (ds : List DarkValue). record { skew = 0; flips = []; darks = darks_on lane ds }) alone.darks in
+    let sent : take n (bits_of_bytes bytes) ≡ holds.bits = sent_bits_are bytes holds.bits holds.codes holds.many holds.file in
+    subst (IsFileOf bytes)
+    (sym (ap (λ (d : LaneDamage). received_bits d (take n (bits_of_bytes bytes))) damage ∙ bits_stay 0 0 (take n (bits_of_bytes bytes)) ∙ sent))
+    holds.file
+
+-- one of them
+pub held_at : {A : Type 0} (P : A → Type 0) (before : List A) (x : A) (after all : List A) → before ++ x ∷ after ≡ all → All P all → P x
+held_at {A = A} P before x after all e holds = go before (subst (All P) (sym e) holds)
+  where
+    go : (front : List A) → All P (front ++ x ∷ after) → P x
+    go [] h = h 0 x (omega arith)
+    go (y ∷ front) h = go front (λ k d lt. h (suc k) d (omega (arith, lt)))
+
 -- ---- lanes of few bytes
 
 abbrev pub is_few : Vec ℕ Global → Bool
@@ -96,9 +132,6 @@ at_end (x ∷ xs) y (suc n) d e = at_end xs y n d (omega arith)
 
 one_longer : (xs : List (List ℕ)) (y : List ℕ) → length (xs ++ y ∷ []) ≡ length xs + 1
 one_longer xs y = length-append xs (y ∷ [])
-
-abbrev pub IsDamagedLane : ScheduleValue → ℕ → List ℕ → List ℕ → Type 0
-IsDamagedLane schedule i sent received = IsFileOf received (received_of schedule i sent (8 * length sent - 8 * length sent % 67))
 
 pub damaged_more : (schedule : ScheduleValue) (sent received : List (List ℕ)) (lane new : List ℕ) (number : ℕ) → number ≡ length sent → AreDamaged schedule sent received → IsDamagedLane schedule number lane new → AreDamaged schedule (sent ++ lane ∷ []) (received ++ new ∷ [])
 damaged_more schedule sent received lane new number at are is = record {

@@ -1,8 +1,10 @@
 -- How a stream is carried over the lanes of a link.
-use Rattle.std.specs.Prelude.{◌≡◌, ◌↔◌, ◌*◌, ◌-◌, ◌%◌, ◌<◌, ◌^◌, ℕ, List, [], length, map, get_or, All, Some, None, Vec}
+use Rattle.std.specs.Prelude.{◌≡◌, ◌↔◌, ◌*◌, ◌-◌, ◌%◌, ◌<◌, ◌^◌, ℕ, Bool, List, [], length, map, get_or, All, Some, None, Vec, slice_index_or}
 use Rattle.std.specs.declared.alloc.Global.{Global}
 use Rattle.lk_base.specs.Checksum.{bits_of_bytes}
 use Rattle.lk_base.specs.declared.word.Word.{Word}
+use Rattle.lk_base.specs.Link.{Settings}
+use Rattle.lane_model.specs.Damage.{IsWithinDepth}
 use Rattle.lane_model.specs.LaneBits.{IsFileOf}
 use Rattle.stream_model.specs.BurstStream.{Source, IsBurstStream, IsHeld}
 use Rattle.tx_end.specs.Sent.{AreSent}
@@ -18,10 +20,39 @@ use Rattle.link_commands.specs.declared.carried.Carried.{Carried}
 use Rattle.link_commands.specs.Inputs.{LinkReading}
 use Rattle.link_commands.specs.Linked.{AreReceivedFiles, sent_over}
 
--- each of these is the file of the received bits of the lane with these bytes, whose codes fill all bits but the last few
+-- the file of the received bits of the lane with these bytes, whose codes fill all bits but the last few
+abbrev pub IsDamagedLane : ScheduleValue → ℕ → List ℕ → List ℕ → Type 0
+IsDamagedLane schedule i sent received = IsFileOf received (received_of schedule i sent (8 * length sent - 8 * length sent % 67))
+
+-- of each of these lanes
 pub record AreDamaged (schedule : ScheduleValue) (sent received : List (List ℕ)) : Type 0 where
   pub as_many : length received ≡ length sent
-  pub each : (i : ℕ) → i < length sent → IsFileOf (get_or received i []) (received_of schedule i (get_or sent i []) (8 * length (get_or sent i []) - 8 * length (get_or sent i []) % 67))
+  pub each : (i : ℕ) → i < length sent → IsDamagedLane schedule i (get_or sent i []) (get_or received i [])
+
+-- the file of bits that fill codes, of 67 each
+pub record HoldsCodes (bytes : List ℕ) : Type 0 where
+  pub bits : List Bool
+  pub codes : ℕ
+  pub many : length bits ≡ 67 * codes
+  pub file : IsFileOf bytes bits
+
+-- no bit of the lane is damaged, and none stands in front
+pub record LeavesAlone (schedule : ScheduleValue) (lane : ℕ) : Type 0 where
+  pub flips : schedule.flips ≡ []
+  pub darks : schedule.darks ≡ []
+  pub skew : slice_index_or schedule.skews lane 0 ≡ 0
+
+-- no bit is damaged, and the skews are within the depth
+pub record LeavesClean (s : Settings) (schedule : ScheduleValue) : Type 0 where
+  pub flips : schedule.flips ≡ []
+  pub darks : schedule.darks ≡ []
+  pub within : IsWithinDepth s schedule.skews
+
+-- the stream of a plan and its inputs
+pub record IsStreamOfReading (i : LinkReading) (stream : List Word) : Type 0 where
+  pub source : Source
+  pub is_source : IsSourceOf i.reading.plan i.reading.inputs source
+  pub is_stream : IsBurstStream source stream
 
 -- the counts of the code as those of the definition
 abbrev pub counts_value : Counted → Accidents

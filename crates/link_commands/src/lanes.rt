@@ -1,12 +1,12 @@
 //! The lanes of a link as they are received.
-ghost use Rattle.std.specs.Prelude.{◌≡◌, ◌<◌, ◌≤◌, ◌*◌, ◌-◌, ◌%◌, ◌^◌, ℕ, length, map, nat_lt, All, IfOk, Vec};
+ghost use Rattle.std.specs.Prelude.{◌≡◌, ◌<◌, ◌≤◌, ◌*◌, ◌-◌, ◌%◌, ◌^◌, ℕ, true, [], length, map, nat_lt, All, IfOk, Vec};
 ghost use Rattle.std.specs.List.{list_all};
 ghost use Rattle.std.specs.declared.alloc.Global.{Global};
 ghost use Rattle.lk_base.specs.Link.{group_of};
 ghost use Rattle.link_plan.specs.ScheduleViews.{schedule_value};
 ghost use Rattle.receive_commands.specs.Held.{vec_bytes};
 ghost use Rattle.link_commands.specs.Linked.{AreReceivedFiles};
-ghost use Rattle.link_commands.specs.Carrying.{AreDamaged};
+ghost use Rattle.link_commands.specs.Carrying.{AreDamaged, HoldsCodes, IsDamagedLane, LeavesAlone};
 
 use link_plan::Schedule;
 use link_replay::damage;
@@ -30,6 +30,49 @@ fn are_few(lanes: &[Vec<u8>]) -> bool
     lanes.iter().all(|lane| lane.len() < 1 << 50)
 }
 
+/// Whether a schedule damages no bit.
+pub fn damages_nothing(schedule: &Schedule) -> bool
+    ensures flips { result ≡ true → (schedule_value schedule.now).flips ≡ [] }
+    ensures darks { result ≡ true → (schedule_value schedule.now).darks ≡ [] }
+{
+    if schedule.flips.is_empty() {
+        schedule.darks.is_empty()
+    } else {
+        false
+    }
+}
+
+// Whether a schedule leaves a lane as it was sent, with no bits in front.
+fn is_left_alone(schedule: &Schedule, lane: u32) -> bool
+    requires { lane < length schedule.now.skews.items }
+    ensures { result ≡ true → LeavesAlone (schedule_value schedule.now) lane }
+{
+    if damages_nothing(schedule) {
+        let skew = schedule.skews[lane as usize];
+        skew == 0
+    } else {
+        false
+    }
+}
+
+// A lane as it is received.
+fn received_lane(
+    alloc: Global,
+    number: u32,
+    lane: Vec<u8>,
+    schedule: &Schedule,
+) -> Result<Vec<u8>, OutOfMemory>
+    requires few { length lane.items < 2 ^ 50 }
+    requires codes { HoldsCodes lane.items }
+    requires number { number < length schedule.now.skews.items }
+    ensures { IfOk result (λ received. IsDamagedLane (schedule_value schedule.now) number lane.items received.items) }
+{
+    if is_left_alone(schedule, number) {
+        return Ok(lane);
+    }
+    damage(alloc, number, &lane, sent_bits(&lane), schedule)
+}
+
 // Each of so many lanes as it is received. A lane is let go once it is.
 fn damage_all(
     alloc: Global,
@@ -38,6 +81,7 @@ fn damage_all(
     lanes: u32,
 ) -> Result<Vec<Vec<u8>>, OutOfMemory>
     requires few { All (λ (v : Vec ℕ Global). length v.items < 2 ^ 50) sent.items }
+    requires codes { All (λ (v : Vec ℕ Global). HoldsCodes v.items) sent.items }
     requires skews { length schedule.now.skews.items ≡ length sent.items }
     requires lanes { length sent.items ≡ lanes }
     ensures { IfOk result (λ lanes. AreDamaged (schedule_value schedule.now) (map vec_bytes sent.items) (map vec_bytes lanes.items)) }
@@ -45,7 +89,7 @@ fn damage_all(
     let mut received = Vec::new(alloc);
     let mut number = 0;
     for lane in sent {
-        received.push(damage(alloc, number, &lane, sent_bits(&lane), schedule)?)?;
+        received.push(received_lane(alloc, number, lane, schedule)?)?;
         number += 1;
     }
     Ok(received)

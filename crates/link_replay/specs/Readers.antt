@@ -5,7 +5,6 @@ use Rattle.lk_base.specs.Link.{Settings}
 use Rattle.lock_model.specs.declared.types.LaneStep.{LaneStep}
 use Rattle.lock_model.specs.declared.types.LaneStep.TheVariants as steps
 use Rattle.lock_model.specs.Steps.{AreSteps}
-use Rattle.lane_lock.specs.Bytes.{IsWithinWord}
 use Rattle.lane_lock.specs.Lane.{LaneState}
 use Rattle.lane_lock.specs.Standing as lock
 
@@ -14,13 +13,13 @@ pub record Reader : Type 0 where
   pub bytes : List ℕ
   -- the locks of those that came
   pub lock : LaneState
-  -- the steps of the last one's bits
+  -- the steps of the bits of the last ones
   pub shown : List LaneStep
 
 abbrev pub bytes_of : List Reader → List (List ℕ)
 bytes_of lanes = map (λ v. v.bytes) lanes
 
--- the step of bit k of the last byte
+-- the step of bit k of the last bytes
 abbrev pub step_at : ℕ → Reader → LaneStep
 step_at k v = get_or v.shown k steps.Ended
 
@@ -46,14 +45,9 @@ pub record IsFurther (rounds n : ℕ) (v w : Reader) (shown : List LaneStep) : T
   pub stands : (s : Settings) → Reads v s rounds → Reads w s (rounds + n)
   pub steps : (s : Settings) → Reads v s rounds → (k : ℕ) → k < 8 * n → IsNext s v.bytes (8 * rounds + k) (get_or shown k steps.Ended)
 
--- so many bytes of it are left, and no word ends within these
-pub record CanLeap (rounds n : ℕ) (v : Reader) : Type 0 where
-  pub there : rounds + n ≤ length v.bytes
-  pub within : IsWithinWord v.lock (8 * n)
-
--- nothing is shown within so many bytes
-abbrev pub quiet_steps : ℕ → List LaneStep
-quiet_steps n = replicate (8 * n) steps.Nothing
+-- so many bytes of it are left
+abbrev pub HasBytes : ℕ → ℕ → Reader → Type 0
+HasBytes rounds n v = rounds + n ≤ length v.bytes
 
 -- ---- all lanes
 
@@ -73,13 +67,13 @@ pub record AreFurther (rounds n : ℕ) (shown : Reader → List LaneStep) (befor
   pub count : length later ≡ length before
   pub each : (i : ℕ) (v : Reader) → i < length before → IsFurther rounds n (get_or before i v) (get_or later i v) (shown (get_or later i v))
 
--- the steps of bit k of the last byte are those of the bits at this place of the clock
+-- the steps of bit k of the last bytes are those of the bits at this place of the clock
 abbrev pub AreShown : Settings → ℕ → ℕ → List Reader → Type 0
 AreShown s clock k lanes = All (λ v. IsNext s v.bytes clock (step_at k v)) lanes
 
--- of all bits of the byte at this place
-abbrev pub ShowByte : Settings → ℕ → List Reader → Type 0
-ShowByte s round lanes = (k : ℕ) → k < 8 → AreShown s (8 * round + k) k lanes
+-- of all bits of so many bytes from this place on
+abbrev pub ShowBytes : Settings → ℕ → ℕ → List Reader → Type 0
+ShowBytes s place n lanes = (k : ℕ) → k < 8 * n → AreShown s (8 * place + k) k lanes
 
 -- a lane of which no byte came
 pub record IsFresh (s : Settings) (v : Reader) : Type 0 where

@@ -6,7 +6,7 @@ ghost use Rattle.link_replay.specs.Lanes.{AreFew};
 
 use crate::counts::Accidents;
 use crate::lanes::longest;
-use crate::readers::{leap, readers_of, take_all};
+use crate::readers::{readers_of, take_rounds};
 use crate::replay::Replay;
 use lk_base::{Link, OutOfMemory, Word};
 use std::alloc::Global;
@@ -34,10 +34,9 @@ pub fn accidents(
     let rounds = longest(received) + 1;
     let mut round = 0;
     while round < rounds {
-        take_all(&mut lanes, round);
-        replay.round(sent, &lanes, round)?;
-        round += 1;
-        round += leap(&mut lanes, round);
+        let count = take_rounds(&mut lanes, round, rounds - round);
+        replay.rounds(sent, &lanes, round, count)?;
+        round += count as usize;
     }
     Ok(Accidents {
         locks: replay.locks(),

@@ -1,14 +1,17 @@
-use Rattle.std.proofs.Common.{◌≡◌, ◌<◌, ◌%◌, ◌^◌, sym, subst, List, count_by, length, map}
+use Rattle.std.proofs.Common.{◌≡◌, ◌<◌, ◌%◌, ◌^◌, sym, subst, ℕ, List, count_by, length, map, Vec, Global}
+use Rattle.lk_base.specs.Checksum.{bits_of_bytes}
 use Rattle.lk_base.specs.Link.{group_of}
 use Rattle.lk_base.specs.declared.word.Word.{Word}
 use Rattle.link_plan.specs.ScheduleViews.{schedule_value}
 use Rattle.receive_commands.specs.Held.{vec_bytes}
 use Rattle.tx_end.specs.Sent.{AreSent, starts}
 use Rattle.tx_end.proofs.Shapes.{whole_groups}
-use Rattle.link_commands.specs.Carrying.{counts_value}
-use Rattle.link_commands.specs.Linked.{AreReceivedFiles}
+use Rattle.link_laws.specs.Accidents.{AreAccidents}
+use Rattle.link_commands.specs.Carrying.{IsStreamOfReading, counts_value}
+use Rattle.link_commands.specs.Linked.{AreReceivedFiles, sent_over}
+use Rattle.link_commands.specs.Values.{link_value}
 use Rattle.link_commands.proofs.FewSent.{few_sent, few_starts}
-use Rattle.link_commands.proofs.Writing.{bits_twice, few_enough}
+use Rattle.link_commands.proofs.Writing.{few_enough}
 use Rattle.link_commands.proofs.carried.carry.Goals as goal
 
 pub sent_in-requires : goal.sent_in-requires
@@ -22,13 +25,13 @@ received_lanes-requires-clause-whole c =
     subst (λ (ws : List Word). length ws % group_of c.args.read.now.reading.plan.link ≡ 0) (sym c.deref-2.ensures.value)
     (whole_groups c.in_ok-words.ensures.source c.in_ok-words.field-0.words.items (group_of c.args.read.now.reading.plan.link) c.in_ok-words.ensures.is.stream c.in_ok-words.ensures.is_source.shape.group)
 
-pub accidents-requires-clause-few : goal.accidents-requires-clause-few
-accidents-requires-clause-few c = few_enough c.deref-4.result.now c.in_ok-lanes.lanes.items c.deref-4.ensures.value c.in_ok-lanes.ensures.few
+pub counts_of-requires-clause-stream : goal.counts_of-requires-clause-stream
+counts_of-requires-clause-stream c =
+    let stream = c.in_ok-words.ensures in
+    subst (λ (ws : List Word). IsStreamOfReading (link_value c.args.read.now) ws) (sym c.deref-3.ensures.value) (record { source = stream.source; is_source = stream.is_source; is_stream = stream.is.stream })
 
-pub accidents-requires-clause-whole : goal.accidents-requires-clause-whole
-accidents-requires-clause-whole c =
-    subst (λ (ws : List Word). length ws % group_of c.args.read.now.reading.plan.link ≡ 0) (sym c.deref-3.ensures.value)
-    (whole_groups c.in_ok-words.ensures.source c.in_ok-words.field-0.words.items (group_of c.args.read.now.reading.plan.link) c.in_ok-words.ensures.is.stream c.in_ok-words.ensures.is_source.shape.group)
+pub counts_of-requires-clause-few : goal.counts_of-requires-clause-few
+counts_of-requires-clause-few c = few_enough c.deref-4.result.now c.in_ok-lanes.lanes.items c.deref-4.ensures.value c.in_ok-lanes.ensures.few
 
 pub returns-clause-carried : goal.returns-clause-carried
 returns-clause-carried c =
@@ -47,8 +50,10 @@ returns-clause-carried c =
       sent = subst (λ (ws : List Word). AreSent ws c.in_ok-sent.sent.items) c.deref.ensures.value c.in_ok-sent.ensures;
       lanes = subst (λ (ws : List Word). AreReceivedFiles link (schedule_value schedule) ws (map vec_bytes c.in_ok-lanes.lanes.items)) c.deref-2.ensures.value c.in_ok-lanes.ensures.are;
       few = c.in_ok-lanes.ensures.few;
-      counts = bits_twice link c.as_slice.result.now schedule.skews.items c.deref-3.result.now words c.deref-4.result.now c.in_ok-lanes.lanes.items (counts_value c.in_ok-counts.counts)
-          c.as_slice.ensures.value c.deref-3.ensures.value c.deref-4.ensures.value c.in_ok-counts.ensures;
+      counts =
+          subst (λ (vs : List (Vec ℕ Global)). AreAccidents (sent_over (link_value c.args.read.now) words) (map bits_of_bytes (map vec_bytes vs)) (counts_value c.in_ok-counts.counts)) c.deref-4.ensures.value
+          (subst (λ (ws : List Word). AreAccidents (sent_over (link_value c.args.read.now) ws) (map bits_of_bytes (map vec_bytes c.deref-4.result.now)) (counts_value c.in_ok-counts.counts)) c.deref-3.ensures.value
+          c.in_ok-counts.ensures);
     }
 
 pub returns-clause-few : goal.returns-clause-few

@@ -3,11 +3,14 @@ use Rattle.std.specs.List.{list_all}
 use Rattle.std.proofs.lemmas.List.{length-map}
 use Rattle.link_plan.specs.ScheduleViews.{schedule_value}
 use Rattle.receive_commands.specs.Held.{vec_bytes}
-use Rattle.link_commands.proofs.ReceivedLanes.{all_few, damaged_received, is_few}
+use Rattle.link_commands.proofs.ReceivedLanes.{all_few, damaged_received, hold_codes, is_few}
 use Rattle.link_commands.proofs.lanes.received_lanes.Goals as goal
 
 pub damage_all-requires-clause-few : goal.damage_all-requires-clause-few
 damage_all-requires-clause-few c = all_few c.in_ok-sent.sent.items (ap (list_all is_few) (sym c.deref.ensures.value) ∙ sym c.are_few.ensures ∙ c.if-not-are_few.false)
+
+pub damage_all-requires-clause-codes : goal.damage_all-requires-clause-codes
+damage_all-requires-clause-codes c = hold_codes c.args.link.now c.args.words.now c.in_ok-sent.sent.items c.in_ok-sent.ensures
 
 pub damage_all-requires-clause-skews : goal.damage_all-requires-clause-skews
 damage_all-requires-clause-skews c = c.requires.skews ∙ sym c.in_ok-sent.ensures.one_each ∙ length-map c.in_ok-sent.sent.items (λ file. file.items)

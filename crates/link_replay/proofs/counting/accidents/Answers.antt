@@ -1,16 +1,15 @@
--- One more round, and those behind it that show nothing; and the counts behind all bytes.
+-- A few more rounds; and the counts behind all bytes.
 use Rattle.std.proofs.Common.{ℕ, sym, ap, ◌∙◌, ◌≡◌, subst, ◌≤◌, ◌+◌, ◌*◌, List, length, map, arith}
 use Rattle.std.proofs.lemmas.List.{length-map, with_items_is}
 use Rattle.std.proofs.Math.Nat.{mul-le-mul_right}
-use Rattle.std.specs.Vec.{with_items}
 use Rattle.lk_base.specs.Checksum.{bits_of_bytes}
 use Rattle.lk_base.specs.Link.{Settings}
-use Rattle.link_replay.specs.Readers.{AreFurther, AreInTime, AreShort, Reader, ShowByte, bytes_of}
+use Rattle.link_replay.specs.Readers.{AreFurther, Reader, ShowBytes, bytes_of}
 use Rattle.link_replay.specs.Standing.{Replays}
 use Rattle.link_replay.proofs.EndGroups.{map-map}
 use Rattle.link_replay.proofs.AllBits.{whole}
 use Rattle.link_replay.proofs.LaneBounds.{strange_low}
-use Rattle.link_replay.proofs.Rounds.{AreAt, IsLeap, fresh_at, leapt_at, leapt_replays, taken_at, taken_shown}
+use Rattle.link_replay.proofs.Rounds.{AreAt, fresh_at, taken_at, taken_shown}
 use Rattle.link_replay.proofs.counting.accidents.Goals as goal
 
 pub loop-round-init : goal.loop-round-init
@@ -27,72 +26,55 @@ loop-round-init c =
       few = omega arith;
     }
 
-pub round-requires-clause-stands : goal.round-requires-clause-stands
-round-requires-clause-stands c =
+pub rounds-requires-clause-stands : goal.rounds-requires-clause-stands
+rounds-requires-clause-stands c =
     let received = map (λ b. b.items) c.args.received.now in
     let round = c.loop-round.round in
-    let now = c.take_all.new.lanes in
-    let items : c.deref.result.now ≡ now = c.deref.ensures.value ∙ with_items_is c.loop-round.lanes now (c.take_all.auto.lanes ∙ c.deref_mut.ensures.len) in
-    let f = subst (λ (ls : List Reader). AreFurther round 1 (λ w. w.shown) ls now) c.deref_mut.ensures.value c.take_all.ensures in
-    let at = taken_at c.args.link.now received round c.loop-round.lanes.items now c.loop-round.invariant.lanes f in
+    let n = c.take_rounds-count.result in
+    let now = c.take_rounds-count.new.lanes in
+    let items : c.deref.result.now ≡ now = c.deref.ensures.value ∙ with_items_is c.loop-round.lanes now (c.take_rounds-count.auto.lanes ∙ c.deref_mut.ensures.len) in
+    let f = subst (λ (ls : List Reader). AreFurther round n (λ w. w.shown) ls now) c.deref_mut.ensures.value c.take_rounds-count.ensures.further in
+    let at = taken_at c.args.link.now received round n c.loop-round.lanes.items now c.loop-round.invariant.lanes f in
     subst (λ (bs : List (List ℕ)). Replays c.loop-round.replay c.args.sent.now bs (8 * round)) (sym (ap bytes_of items ∙ at.bytes)) c.loop-round.invariant.stands
 
-pub round-requires-clause-shown : goal.round-requires-clause-shown
-round-requires-clause-shown c =
+pub rounds-requires-clause-shown : goal.rounds-requires-clause-shown
+rounds-requires-clause-shown c =
     let received = map (λ b. b.items) c.args.received.now in
     let round = c.loop-round.round in
-    let now = c.take_all.new.lanes in
-    let items : c.deref.result.now ≡ now = c.deref.ensures.value ∙ with_items_is c.loop-round.lanes now (c.take_all.auto.lanes ∙ c.deref_mut.ensures.len) in
-    let f = subst (λ (ls : List Reader). AreFurther round 1 (λ w. w.shown) ls now) c.deref_mut.ensures.value c.take_all.ensures in
-    subst (λ (ls : List Reader). ShowByte c.loop-round.replay.settings round ls) (sym items)
-    (subst (λ (s : Settings). ShowByte s round now) (sym c.loop-round.invariant.settings)
-    (taken_shown c.args.link.now received round c.loop-round.lanes.items now c.loop-round.invariant.lanes f))
+    let n = c.take_rounds-count.result in
+    let now = c.take_rounds-count.new.lanes in
+    let items : c.deref.result.now ≡ now = c.deref.ensures.value ∙ with_items_is c.loop-round.lanes now (c.take_rounds-count.auto.lanes ∙ c.deref_mut.ensures.len) in
+    let f = subst (λ (ls : List Reader). AreFurther round n (λ w. w.shown) ls now) c.deref_mut.ensures.value c.take_rounds-count.ensures.further in
+    subst (λ (ls : List Reader). ShowBytes c.loop-round.replay.settings round n ls) (sym items)
+    (subst (λ (s : Settings). ShowBytes s round n now) (sym c.loop-round.invariant.settings)
+    (taken_shown c.args.link.now received round n c.loop-round.lanes.items now c.loop-round.invariant.lanes f))
 
-pub leap-round-requires-clause-few : goal.leap-round-requires-clause-few
-leap-round-requires-clause-few c =
-    let received = map (λ b. b.items) c.args.received.now in
-    let round = c.loop-round.round in
-    let now = c.take_all.new.lanes in
-    let items : c.deref_mut-in-loop-round.result.now ≡ now = c.deref_mut-in-loop-round.ensures.value ∙ with_items_is c.loop-round.lanes now (c.take_all.auto.lanes ∙ c.deref_mut.ensures.len) in
-    let f = subst (λ (ls : List Reader). AreFurther round 1 (λ w. w.shown) ls now) c.deref_mut.ensures.value c.take_all.ensures in
-    let at = taken_at c.args.link.now received round c.loop-round.lanes.items now c.loop-round.invariant.lanes f in
-    subst AreShort (sym items) at.short
-
-pub leap-round-requires-clause-time : goal.leap-round-requires-clause-time
-leap-round-requires-clause-time c =
-    let received = map (λ b. b.items) c.args.received.now in
-    let round = c.loop-round.round in
-    let now = c.take_all.new.lanes in
-    let items : c.deref_mut-in-loop-round.result.now ≡ now = c.deref_mut-in-loop-round.ensures.value ∙ with_items_is c.loop-round.lanes now (c.take_all.auto.lanes ∙ c.deref_mut.ensures.len) in
-    let f = subst (λ (ls : List Reader). AreFurther round 1 (λ w. w.shown) ls now) c.deref_mut.ensures.value c.take_all.ensures in
-    let at = taken_at c.args.link.now received round c.loop-round.lanes.items now c.loop-round.invariant.lanes f in
-    subst (λ (ls : List Reader). AreInTime (8 * (round + 1)) ls) (sym items) at.time
+pub rounds-requires-clause-few : goal.rounds-requires-clause-few
+rounds-requires-clause-few c =
+    let t = c.loop-round-test.true in
+    let l = c.longest-rounds.ensures.few in
+    let m = c.take_rounds-count.ensures.limit in
+    omega (arith, t, l, m)
 
 pub loop-round-preserved : goal.loop-round-preserved
 loop-round-preserved c =
     let received = map (λ b. b.items) c.args.received.now in
     let round = c.loop-round.round in
     let i = c.loop-round.invariant in
-    let now = c.take_all.new.lanes in
-    let one = with_items_is c.loop-round.lanes now (c.take_all.auto.lanes ∙ c.deref_mut.ensures.len) in
+    let n = c.take_rounds-count.result in
+    let now = c.take_rounds-count.new.lanes in
+    let one = with_items_is c.loop-round.lanes now (c.take_rounds-count.auto.lanes ∙ c.deref_mut.ensures.len) in
     let items : c.deref.result.now ≡ now = c.deref.ensures.value ∙ one in
-    let f = subst (λ (ls : List Reader). AreFurther round 1 (λ w. w.shown) ls now) c.deref_mut.ensures.value c.take_all.ensures in
-    let at = taken_at c.args.link.now received round c.loop-round.lanes.items now i.lanes f in
-    let later = c.leap-round.new.lanes in
-    let n = c.leap-round.result in
-    let leap : IsLeap (round + 1) n now later =
-    subst (λ (ls : List Reader). IsLeap (round + 1) n ls later) (c.deref_mut-in-loop-round.ensures.value ∙ one) (c.leap-round.ensures.none, c.leap-round.ensures.some) in
-    let two = with_items_is (with_items c.loop-round.lanes now) later (c.leap-round.auto.lanes ∙ c.deref_mut-in-loop-round.ensures.len) in
-    let same = c.in_ok-round.ensures.same in
-    let settings = same.0 ∙ i.settings in
-    let r = subst (λ (bs : List (List ℕ)). Replays c.round.new.self c.args.sent.now bs (8 * (round + 1))) (ap bytes_of items ∙ at.bytes) c.in_ok-round.ensures.stands in
+    let f = subst (λ (ls : List Reader). AreFurther round n (λ w. w.shown) ls now) c.deref_mut.ensures.value c.take_rounds-count.ensures.further in
+    let at = taken_at c.args.link.now received round n c.loop-round.lanes.items now i.lanes f in
+    let same = c.in_ok-rounds.ensures.same in
     record {
-      lanes = subst (λ (ls : List Reader). AreAt c.args.link.now received (round + 1 + n) ls) (sym two) (leapt_at c.args.link.now received (round + 1) n now later at leap);
-      stands = leapt_replays c.round.new.self c.args.sent.now received (round + 1) n now later (subst (λ (s : Settings). AreAt s received (round + 1) now) (sym settings) at) leap r;
-      settled = c.in_ok-round.ensures.settled;
-      settings = settings;
+      lanes = subst (λ (ls : List Reader). AreAt c.args.link.now received (round + n) ls) (sym one) at;
+      stands = subst (λ (bs : List (List ℕ)). Replays c.rounds.new.self c.args.sent.now bs (8 * (round + n))) (ap bytes_of items ∙ at.bytes) c.in_ok-rounds.ensures.stands;
+      settled = c.in_ok-rounds.ensures.settled;
+      settings = same.0 ∙ i.settings;
       skews = same.1 ∙ i.skews;
-      few = (let t = c.loop-round-test.true in let l = c.longest-rounds.ensures.few in let m = c.leap-round.ensures.most in omega (arith, t, l, m));
+      few = (let t = c.loop-round-test.true in let l = c.longest-rounds.ensures.few in let m = c.take_rounds-count.ensures.limit in omega (arith, t, l, m));
     }
 
 pub returns : goal.returns
