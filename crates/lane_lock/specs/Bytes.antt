@@ -26,10 +26,6 @@ Brings v w given shown = (s : Settings) (bits : List Bool) (own : List LaneStep)
 abbrev pub Rests : LaneState → ℕ → Type 0
 Rests v count = v.watching ≡ true → v.taken + count < v.at + 67
 
--- a word lock goes on, and no word of it ends within so many bits
-abbrev pub IsWithinWord : LaneState → ℕ → Type 0
-IsWithinWord v count = (v.watching ≡ true) × (v.taken + count < v.at + 67)
-
 -- so many bits more, which are this number
 abbrev pub with_bits : LaneState → ℕ → ℕ → LaneState
 with_bits v count bits = record {

@@ -4,7 +4,7 @@ ghost use Rattle.lk_base.specs.Checksum.{bits_of};
 ghost use Rattle.lk_base.specs.Link.{Settings};
 ghost use Rattle.lock_model.specs.declared.types.LaneStep.TheVariants as variants;
 ghost use Rattle.lock_model.specs.Low.{is_low};
-ghost use Rattle.lane_lock.specs.Bytes.{Brings, IsWithinWord};
+ghost use Rattle.lane_lock.specs.Bytes.{Brings};
 ghost use Rattle.lane_lock.specs.Standing.{IsReport, Stands};
 
 use crate::found::{Found, found_of};
@@ -83,30 +83,6 @@ impl LaneSteps {
         self.width = 8 * count;
     }
 
-    /// How many whole bytes can come at once, of which it shows nothing: at most 7.
-    pub fn quiet_bytes(&self) -> u32
-        ensures most { result ≤ 7 }
-        ensures within { 0 < result → IsWithinWord self.now.lock (8 * result) }
-    {
-        self.lock.quiet_bytes()
-    }
-
-    /// Takes so many bytes at once, of which it shows nothing: the number is that of their bits, the first of them highest. At
-    /// most 2^60 bits come in all.
-    pub fn bytes(&mut self, bits: u64, count: u32)
-        requires most { count ≤ 7 }
-        requires bits { bits < 2 ^ (8 * count) }
-        requires few { self.old.lock.taken + 8 * count ≤ 2 ^ 60 }
-        requires within { IsWithinWord self.old.lock (8 * count) }
-        ensures taken { self.new.lock.taken ≡ self.old.lock.taken + 8 * count }
-        ensures shown { self.new.shown ≡ replicate 8 variants.Nothing }
-        ensures stands { Brings self.old.lock self.new.lock (bits_of (8 * count) bits) (replicate (8 * count) variants.Nothing) }
-    {
-        self.lock.bytes(bits, count);
-        self.found = Found::Quiet;
-        self.width = 8;
-    }
-
     /// The step of bit k of the last bytes, counted from the first, the highest of the first byte; behind them it has ended.
     pub fn step(&self, k: u32) -> LaneStep
         ensures value { result ≡ get_or self.now.shown k variants.Ended }
@@ -127,13 +103,13 @@ impl LaneSteps {
         }
     }
 
-    /// How many of the bits of the last byte from bit k on show nothing, up to the next that shows something: k is below 8.
-    pub fn quiet(&self, k: u32) -> u32
-        requires { k < 8 }
-        ensures most { result + k ≤ 8 }
+    /// How many of the bits of the last bytes from bit k on show nothing, up to the next that shows something, or to this end.
+    pub fn quiet_up_to(&self, k: u32, end: u32) -> u32
+        requires { k ≤ end }
+        ensures most { result + k ≤ end }
         ensures quiet { (j : ℕ) → k ≤ j → j < result + k → get_or self.now.shown j variants.Ended ≡ variants.Nothing }
     {
-        self.found.quiet(k, 8, self.width)
+        self.found.quiet(k, end, self.width)
     }
 
     /// The report over the bytes so far.
