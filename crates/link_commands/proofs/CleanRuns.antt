@@ -23,7 +23,7 @@ use Rattle.link_laws.specs.Received.{bits_of_lanes}
 use Rattle.link_laws.specs.LinkWidth.{KeepsLocks}
 use Rattle.link_laws.proofs.CleanKept.{clean_keep_locks}
 use Rattle.link_replay.specs.Damages.{lane_damage}
-use Rattle.receive_commands.specs.Receive.{AreLaneReports}
+use Rattle.lane_receipts.specs.LaneReports.{AreLaneReports}
 use Rattle.link_commands.specs.Delivery.{AllUndamaged, LosesNoLock}
 use Rattle.link_commands.specs.Inputs.{LinkReading, linked_in}
 use Rattle.link_commands.specs.Linked.{sent_over}

@@ -32,7 +32,7 @@ use Rattle.link_replay.specs.Damages.{lane_damage}
 use Rattle.link_replay.specs.Missing.{HasLowSlots}
 use Rattle.plan_inputs.specs.Values.{packet_value, packet_values, size_of}
 use Rattle.plan_inputs.specs.declared.packet.ChannelPacket.{ChannelPacket}
-use Rattle.receive_commands.specs.Held.{vec_bytes}
+use Rattle.lane_receipts.specs.Held.{vec_bytes}
 use Rattle.link_commands.specs.declared.carried.Carried.{Carried}
 use Rattle.link_commands.specs.Carrying.{IsCarried}
 use Rattle.link_commands.specs.Inputs.{LinkReading}

@@ -13,7 +13,7 @@ use Rattle.link_plan.specs.Schedules.{ScheduleValue}
 use Rattle.link_replay.specs.Damages.{received_of}
 use Rattle.link_replay.specs.declared.counts.Accidents.{Accidents as Counted}
 use Rattle.stream_commands.specs.Stream.{stream_text}
-use Rattle.receive_commands.specs.Held.{vec_bytes}
+use Rattle.lane_receipts.specs.Held.{vec_bytes}
 use Rattle.link_commands.specs.declared.carried.Carried.{Carried}
 use Rattle.link_commands.specs.Inputs.{LinkReading}
 use Rattle.link_commands.specs.Linked.{AreReceivedFiles, sent_over}

@@ -4,7 +4,7 @@ ghost use Rattle.std.specs.List.{list_all};
 ghost use Rattle.std.specs.declared.alloc.Global.{Global};
 ghost use Rattle.lk_base.specs.Link.{group_of};
 ghost use Rattle.link_plan.specs.ScheduleViews.{schedule_value};
-ghost use Rattle.receive_commands.specs.Held.{vec_bytes};
+ghost use Rattle.lane_receipts.specs.Held.{vec_bytes};
 ghost use Rattle.link_commands.specs.Linked.{AreReceivedFiles};
 ghost use Rattle.link_commands.specs.Carrying.{AreDamaged};
 

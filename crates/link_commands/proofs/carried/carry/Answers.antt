@@ -2,7 +2,7 @@ use Rattle.std.proofs.Common.{◌≡◌, ◌<◌, ◌%◌, ◌^◌, sym, subst, 
 use Rattle.lk_base.specs.Link.{group_of}
 use Rattle.lk_base.specs.declared.word.Word.{Word}
 use Rattle.link_plan.specs.ScheduleViews.{schedule_value}
-use Rattle.receive_commands.specs.Held.{vec_bytes}
+use Rattle.lane_receipts.specs.Held.{vec_bytes}
 use Rattle.tx_end.specs.Sent.{AreSent, starts}
 use Rattle.tx_end.proofs.Shapes.{whole_groups}
 use Rattle.link_commands.specs.Carrying.{counts_value}

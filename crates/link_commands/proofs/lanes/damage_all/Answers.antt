@@ -3,7 +3,7 @@ use Rattle.std.proofs.lemmas.List.{length-append, length-map, map-append}
 use Rattle.lane_model.specs.LaneBits.{IsFileOf}
 use Rattle.link_replay.specs.Damages.{received_of}
 use Rattle.link_plan.specs.ScheduleViews.{schedule_value}
-use Rattle.receive_commands.specs.Held.{vec_bytes}
+use Rattle.lane_receipts.specs.Held.{vec_bytes}
 use Rattle.link_commands.specs.Carrying.{AreDamaged}
 use Rattle.link_commands.proofs.ReceivedLanes.{IsDamagedLane, damaged_more}
 use Rattle.link_commands.proofs.lanes.damage_all.Goals as goal

@@ -2,7 +2,7 @@ use Rattle.std.proofs.Common.{◌∙◌, ap, sym, map}
 use Rattle.std.specs.List.{list_all}
 use Rattle.std.proofs.lemmas.List.{length-map}
 use Rattle.link_plan.specs.ScheduleViews.{schedule_value}
-use Rattle.receive_commands.specs.Held.{vec_bytes}
+use Rattle.lane_receipts.specs.Held.{vec_bytes}
 use Rattle.link_commands.proofs.ReceivedLanes.{all_few, damaged_received, is_few}
 use Rattle.link_commands.proofs.lanes.received_lanes.Goals as goal
 
