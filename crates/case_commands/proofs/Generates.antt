@@ -9,9 +9,9 @@ use Rattle.link_plan.specs.Listing.{channels_in_order}
 use Rattle.link_plan.proofs.InOrder.{narrow_in_order}
 use Rattle.plan_inputs.specs.Inputs.{numbers_in}
 use Rattle.plan_inputs.proofs.PlanStream.{planned_parts}
-use Rattle.receive_commands.proofs.HeldEnds.{all_differ}
-use Rattle.receive_commands.proofs.Joins.{order_rising}
-use Rattle.receive_commands.proofs.NamesDiffer.{differ_behind}
+use Rattle.lane_receipts.proofs.HeldEnds.{all_differ}
+use Rattle.receipts.proofs.Settings.{order_rising}
+use Rattle.receipts.proofs.NamesDiffer.{differ_behind}
 use Rattle.link_commands.specs.Link.{link_meaning, link_names, link_work}
 use Rattle.link_commands.specs.Linked.{IsLinked}
 use Rattle.link_commands.proofs.LinkWork.{linked_parts}

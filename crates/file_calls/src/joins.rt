@@ -1,11 +1,11 @@
-//! The calls of `receive_commands`: `join`, over a store in memory.
+//! The calls of `join_commands`: `join`, over a store in memory.
 ghost use Rattle.std.specs.Prelude.{◌≡◌, IfOk};
 
 use crate::commands::{obeyed, with_text};
 use crate::telling::tell_lines;
+use join_commands::{JoinPlan, JoinWords};
 use lk_base::OutOfMemory;
 use lk_outside::MemStore;
-use receive_commands::{JoinPlan, JoinWords};
 use std::alloc::Global;
 use std::io;
 

@@ -4,7 +4,7 @@ use Rattle.run_shell.specs.Meaning.{IsLawful, IsMeaning}
 use Rattle.run_shell.proofs.Endings.{misused_lawful, asked_lawful}
 use Rattle.stream_commands.proofs.CaptureWork.{capture_means}
 use Rattle.stream_commands.proofs.PlanWork.{burst_means, send_means}
-use Rattle.receive_commands.proofs.Joins.{join_words_means, join_plan_means}
+use Rattle.join_commands.proofs.Joins.{join_words_means, join_plan_means}
 use Rattle.receive_commands.proofs.Receives.{receive_means}
 use Rattle.link_commands.proofs.LinkWork.{link_means}
 use Rattle.case_commands.proofs.GenerateWork.{generate_means}

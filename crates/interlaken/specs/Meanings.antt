@@ -4,8 +4,8 @@ use Rattle.run_shell.specs.Meaning.{Meaning}
 use Rattle.run_shell.specs.Ending.{misused_meaning}
 use Rattle.stream_commands.specs.Capture.{burst_capture_meaning}
 use Rattle.stream_commands.specs.Plan.{burst_plan_meaning, send_plan_meaning}
-use Rattle.receive_commands.specs.JoinPlan.{join_plan_meaning}
-use Rattle.receive_commands.specs.JoinWords.{join_words_meaning}
+use Rattle.join_commands.specs.JoinPlan.{join_plan_meaning}
+use Rattle.join_commands.specs.JoinWords.{join_words_meaning}
 use Rattle.receive_commands.specs.Receive.{receive_meaning}
 use Rattle.link_commands.specs.Link.{link_meaning}
 use Rattle.case_commands.specs.Generate.{generate_meaning}

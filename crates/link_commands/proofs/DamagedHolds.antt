@@ -38,9 +38,9 @@ use Rattle.pcap_files.specs.Written.{capture_bytes, header_bytes, record_head}
 use Rattle.plan_inputs.specs.Sources.{IsSourceOf}
 use Rattle.plan_inputs.proofs.SameSource.{same_source}
 use Rattle.run_shell.specs.Outcome.{Outcome, content_of}
-use Rattle.receive_commands.specs.Received.{capture_name, spans_name}
-use Rattle.receive_commands.specs.WordsLaw as words_law
-use Rattle.receive_commands.proofs.Joins.{plan_setting}
+use Rattle.receipts.specs.Received.{capture_name, spans_name}
+use Rattle.receipts.specs.Received as received
+use Rattle.receipts.proofs.Settings.{plan_setting}
 use Rattle.tx_end.specs.Sent.{AreSent, IsEnd, IsQuiet, IsSent, ends_on, starts_on}
 use Rattle.tx_end.specs.declared.sent.Sent.{Sent as SentPacket}
 use Rattle.tx_end.proofs.ListedSent.{one_list}
@@ -225,8 +225,8 @@ module _ (o : Outcome) (h : IsLinkedBy damaged_reading wide_words o) where
   capture : content_of o.files (capture_name (codes "o") 1) ≡ Some (capture_bytes 1 [])
   capture =
       unmet.captures 1 (subst (λ (x : Setting). Contains x.channels 1) (sym setting_is) (0, lit< tt, refl))
-      ∙ ap₂ (λ (es : List Epoch) (ps : List Packet). Some (capture_bytes 1 (words_law.bytes_of (filter (meets_none (items_of es)) ps)))) (one_epoch unmet.epochs unmet.are) sent_is
-      ∙ ap (λ (ps : List Packet). Some (capture_bytes 1 (words_law.bytes_of ps))) meets_one
+      ∙ ap₂ (λ (es : List Epoch) (ps : List Packet). Some (capture_bytes 1 (received.bytes_of (filter (meets_none (items_of es)) ps)))) (one_epoch unmet.epochs unmet.are) sent_is
+      ∙ ap (λ (ps : List Packet). Some (capture_bytes 1 (received.bytes_of ps))) meets_one
 
 pub damaged_meets : DamagedLinkMeets
 unfolding bits_of register_after fault_from framed_at role_of

@@ -37,12 +37,12 @@ use Rattle.run_shell.proofs.Fills.{name_cases, other, same}
 use Rattle.run_shell.proofs.Readings.{behind_ok}
 use Rattle.stream_commands.specs.Off.{NoBurstWhenOff}
 use Rattle.stream_commands.proofs.NoBurstWhenOff.{stream_never}
-use Rattle.receive_commands.specs.Received.{capture_file, capture_name, packets_on, received_files, spans_name}
-use Rattle.receive_commands.specs.Receive.{names_of_lanes}
-use Rattle.receive_commands.specs.WordsLaw.{bytes_of}
-use Rattle.receive_commands.proofs.HeldEnds.{small_of}
-use Rattle.receive_commands.proofs.LaneNames.{apart}
-use Rattle.receive_commands.proofs.NamesDiffer.{names_differ}
+use Rattle.receipts.specs.Received.{capture_file, capture_name, packets_on, received_files, spans_name}
+use Rattle.lane_receipts.specs.LaneReports.{names_of_lanes}
+use Rattle.receipts.specs.Received.{bytes_of}
+use Rattle.lane_receipts.proofs.HeldEnds.{small_of}
+use Rattle.lane_receipts.proofs.LaneNames.{apart}
+use Rattle.receipts.proofs.NamesDiffer.{names_differ}
 use Rattle.link_commands.specs.Delivery.{AllUndamaged, CleanLinkDeliversAll, DeliversAll, DeliversUnmet, LinkDelivers, LinkNeverBurstsWhenOff, sent_on}
 use Rattle.link_commands.specs.Inputs.{LinkReading, linked_in, with_schedule}
 use Rattle.link_commands.specs.Linked.{IsLinkedBy, sent_over}

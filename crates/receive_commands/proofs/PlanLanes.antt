@@ -1,5 +1,6 @@
 -- `receive`: the reading before its outcome, and its ends.
-use Rattle.std.proofs.Common.{◌≡◌, ℕ, zero, suc, List, [], ◌∷◌, ◌++◌, refl, sym, ap, ◌∙◌, subst, arith, inl, inr, ◌⊎◌, Option, Some, None, IfSome, Result, Ok, Err, MatchResult, Contains}
+use Rattle.std.proofs.Common.{◌≡◌, ℕ, List, ◌++◌, refl, sym, ap, ◌∙◌, subst, inl, inr, Option, Some, None, IfSome, Result, Ok, Err, MatchResult, Contains}
+use Rattle.std.proofs.lemmas.List.Elements.{Contains-append_cases}
 use Rattle.lk_outside.specs.Files.{Files, Told}
 use Rattle.link_plan.specs.Plan.{PlanValue}
 use Rattle.link_plan.specs.Views.{plan_value}
@@ -15,8 +16,9 @@ use Rattle.run_shell.specs.Writing.{Fills}
 use Rattle.run_shell.proofs.Readings.{first_stops, second_reads}
 use Rattle.run_shell.proofs.Works.{behind_stops, made_of, names_by, store_stops}
 use Rattle.run_shell.proofs.Writing.{writes_comes}
-use Rattle.receive_commands.specs.JoinPlan.{plan_names}
-use Rattle.receive_commands.specs.Receive.{IsReceiveInput, IsReceived, PlanLanes, lanes_in, names_of_lanes, plan_lanes_in, receive_meaning, receive_work, with_lanes}
+use Rattle.receipts.specs.Settings.{plan_names}
+use Rattle.receive_commands.specs.Receive.{IsReceiveInput, IsReceived, PlanLanes, lanes_in, plan_lanes_in, receive_meaning, receive_work, with_lanes}
+use Rattle.lane_receipts.specs.LaneReports.{names_of_lanes}
 
 -- ---- reading
 
@@ -61,14 +63,6 @@ module _ (file : List ℕ) where
 
 -- ---- the ends
 
-contains_cases : (ns ms : List (List ℕ)) (q : List ℕ) → Contains (ns ++ ms) q → Contains ns q ⊎ Contains ms q
-contains_cases [] ms q h = inr h
-contains_cases (n ∷ ns) ms q (zero, lt, e) = inl (0, omega arith, e)
-contains_cases (n ∷ ns) ms q (suc k, lt, e) = elim (contains_cases ns ms q (k, omega arith, e)) [
-  | inl (j, l, f) ↦ inl (suc j, omega arith, f)
-  | inr h ↦ inr h
-]
-
 module _ (file : List ℕ) (plan : PlanValue) where
   abbrev Filled : Result Finished Stop → Option Files → Option Files → Files → Type 0
   Filled r y z files = (lanes : List (List ℕ)) → lanes_in files (names_of_lanes plan) ≡ Ok lanes → Fills (IsReceived (record { plan = plan; lanes = lanes })) (plan_names plan ++ names_of_lanes plan) r y z
@@ -90,7 +84,7 @@ module _ (file : List ℕ) (plan : PlanValue) where
         store_stops (receive_meaning file) (Contains (plan_names plan ++ names_of_lanes plan)) s u (Some u) z (h lanes got).by_store names (λ o k. (h lanes got).part o (made_of (receive_work file) u i o is_in k))
       where
         names : (q : List ℕ) → Contains (plan_names plan ++ names_of_lanes plan) q → (receive_meaning file).Names u q
-        names q c = elim (contains_cases (plan_names plan) (names_of_lanes plan) q c) [
+        names q c = elim (Contains-append_cases (plan_names plan) (names_of_lanes plan) q c) [
           | inl made ↦ names_by (receive_work file) u i q is_in made
           | inr lane ↦ inl (inr (subst (λ r. MatchResult r (λ p. Contains (names_of_lanes p) q) (λ e. ⊥)) (sym had) lane))
         ]

@@ -1,16 +1,15 @@
 -- Lanes are read on, and their events come.
-use Rattle.std.proofs.Common.{◌≡◌, ℕ, zero, suc, ◌+◌, ◌<◌, ◌≤◌, true, false, List, [], ◌∷◌, ◌++◌, length, map, set, get_or, slice_get, refl, sym, ap, ◌∙◌, subst, append_assoc, arith, inl, inr, ◌⊎◌, Option, Some, None, IfSome, IsSomeAnd, Result, Ok, Err, Contains}
+use Rattle.std.proofs.Common.{◌≡◌, ℕ, zero, suc, ◌+◌, ◌<◌, ◌≤◌, true, false, List, [], ◌∷◌, ◌++◌, length, set, get_or, slice_get, sym, ap, ◌∙◌, subst, append_assoc, arith, inl, inr, ◌⊎◌, Option, Some, None, IfSome, IsSomeAnd, Result, Ok, Err, Contains}
 use Rattle.std.proofs.lemmas.Option.{none-some, same_Some}
 use Rattle.lk_base.specs.Limits.{lane_limit}
 use Rattle.lk_base.specs.Link.{Settings}
 use Rattle.lk_outside.specs.Files.{Files, file, Told}
 use Rattle.receive_model.specs.Events.{Event}
-use Rattle.receiver_model.specs.Fed.{Fed, least_unfinished}
+use Rattle.receiver_model.specs.Fed.{Fed}
 use Rattle.receiver_model.specs.Given.{AreEvents}
-use Rattle.rx_end.specs.Calls.{bytes_at, count_at, is_open, is_unfinished, room_at}
-use Rattle.rx_end.specs.Standing.{Stands}
+use Rattle.rx_end.specs.Calls.{bytes_at, is_unfinished}
 use Rattle.rx_end.specs.States.{State}
-use Rattle.rx_end.proofs.Pieces.{given_come_first, lanes_are_those}
+use Rattle.rx_end.proofs.Pieces.{given_come_first}
 use Rattle.run_shell.specs.declared.stop.Stop.{Stop}
 use Rattle.run_shell.specs.declared.stop.Stop.TheVariants as stop
 use Rattle.run_shell.specs.Outcome.{LeavesOthers}
@@ -18,14 +17,17 @@ use Rattle.run_shell.specs.Stops.{IsOfStore}
 use Rattle.run_shell.specs.Outputs.{open_names}
 use Rattle.run_shell.proofs.Creating.{named_at}
 use Rattle.run_shell.proofs.Writing.{whole_leaves}
-use Rattle.receive_commands.specs.declared.receipt.Receipt.{Receipt}
-use Rattle.receive_commands.specs.declared.lane_offsets.OpenLane.{OpenLane}
-use Rattle.receive_commands.specs.Receipts.{Beginning, IsReceipt, names_of}
+use Rattle.receipts.specs.declared.receipt.Receipt.{Receipt}
+use Rattle.lane_receipts.specs.declared.lane_offsets.OpenLane.{OpenLane}
+use Rattle.receipts.specs.Receipts.{Beginning, IsReceipt, names_of}
 use Rattle.receive_commands.specs.Receive.{lanes_in}
-use Rattle.receive_commands.specs.Feeding.{AllComeFrom, AllReceived, ComeFirst, CutOffBehind, Drains, FeedsLane, HasFed, IsBroken, IsCutOff, IsLeastOpen, IsLeastOrNone, IsPieceAt, IsReceiving, IsTaking, NotRead, fed_next, left_in, left_of, offset_next, offset_of}
-use Rattle.receive_commands.proofs.Receiving.{open_part}
-use Rattle.receive_commands.proofs.LaneOffsets.{all_over, less_left, open_below}
-use Rattle.receive_commands.proofs.FedLanes.{all_end, begin_all, comes_there, least_is, next_from, next_offset, open_is, room_there}
+use Rattle.receive_commands.specs.ReadLanes.{AllComeFrom, AllReceived, CutOffBehind, FeedsLane, HasFed, IsBroken, IsPieceAt, IsReceiving, NotRead, left_in, left_of}
+use Rattle.lane_receipts.specs.Feeding.{ComeFirst, Drains, IsCutOff, IsLeastOpen, IsLeastOrNone, fed_next, offset_next}
+use Rattle.receipts.proofs.Receiving.{open_part}
+use Rattle.lane_receipts.proofs.LaneOffsets.{all_over}
+use Rattle.lane_receipts.proofs.FedLanes.{all_end, next_offset}
+use Rattle.lane_receipts.proofs.OpenLanes.{counted, unfinished}
+use Rattle.receive_commands.proofs.FileLanes.{begin_all, comes_there, next_from}
 
 -- ---- files that are no outputs
 
@@ -38,7 +40,8 @@ pub receipt_leaves : (b : Beginning) (given : List Event) (kept : Receipt) (now 
 receipt_leaves b given kept now is =
     subst (λ ns. Told b.was now (LeavesOthers (λ files q. Contains ns q))) is.names (whole_leaves (open_names kept.outputs) is.given.done b.was now is.given.stand)
 
-widened : (P Q : List ℕ → Type 0) (s : Stop) → ((q : List ℕ) → P q → Q q) → IsOfStore P s → IsOfStore Q s
+-- a stop at one of these names is one at more names
+pub widened : (P Q : List ℕ → Type 0) (s : Stop) → ((q : List ℕ) → P q → Q q) → IsOfStore P s → IsOfStore Q s
 widened P Q (stop.Plan why) more h = h
 widened P Q (stop.Input n why) more h = h
 widened P Q (stop.Store n) more h = more _ h
@@ -46,6 +49,12 @@ widened P Q stop.StoreNoMemory more h = h
 widened P Q stop.OutOfMemory more h = h
 
 -- ---- what is left to read
+
+-- less is left where one lane goes on
+less_left : (offsets : List (Option ℕ)) (i : ℕ) (o p : Option ℕ) → slice_get offsets i ≡ Some o → left_of p < left_of o → left_in (set offsets i p) < left_in offsets
+less_left [] i o p e lt = absurd (none-some o e)
+less_left (x ∷ offsets) zero o p e lt = let same : x ≡ o = same_Some x o e in let l : left_of x ≡ left_of o = ap left_of same in omega arith
+less_left (x ∷ offsets) (suc i) o p e lt = let less = less_left offsets i o p e lt in omega arith
 
 less_by : (at : ℕ) (piece : List ℕ) → at + length piece ≤ lane_limit → left_of (offset_next at piece) < left_of (Some at)
 less_by at [] within = omega arith
@@ -108,10 +117,6 @@ cut_broken b s names fed why now from cut = record {
 
 -- ---- one lane is read
 
--- the files are as they were, and more was fed
-pub fed_taking : (b : Beginning) (s : Settings) (fed later : List Fed) (given : List Event) (r r' : State) (kept : Receipt) (x y : Option Files) → y ≡ x → IsTaking b s fed given r kept x → Stands r' s b.setting later given → IsTaking b s later given r' kept y
-fed_taking b s fed later given r r' kept x y same at stands = record { stands = stands; receipt = subst (λ z. IsReceipt b given kept z) (sym same) at.receipt; fits = at.fits }
-
 pub fed_feeds : {T : Type 0} (b : Beginning) (s : Settings) (fed : List Fed) (next : OpenLane) (name : List ℕ) (before offsets : List (Option ℕ)) (old : Option Files) (result : Result T Stop) (r : State) (kept : Receipt) (now : Option Files) (piece : List ℕ)
     → IfSome old (λ files. IsSomeAnd (file files name) (IsPieceAt next.offset piece)) → next.offset + length piece ≤ lane_limit → offsets ≡ set before next.lane (offset_next next.offset piece)
     → Drains b s (fed_next next.lane piece fed) result r kept now → FeedsLane b s fed next name before offsets result old r kept now
@@ -122,31 +127,11 @@ fed_feeds b s fed next name before offsets old (Err why) r kept now piece read w
 
 module _ (b : Beginning) (s : Settings) (names : List (List ℕ)) (first fed : List Fed) (given : List Event) (r : State) (offsets : List (Option ℕ)) (kept : Receipt) (now : Option Files) (at : IsReceiving b s names first fed given r offsets kept now) where
   module _ (next : OpenLane) (least : IsLeastOpen (length offsets) offsets next.lane next.offset) where
-    here : slice_get (map offset_of fed) next.lane ≡ Some (Some next.offset)
-    here = subst (λ (os : List (Option ℕ)). slice_get os next.lane ≡ Some (Some next.offset)) at.reached least.next
+    not_over : is_unfinished next.lane fed ≡ true
+    not_over = unfinished b s fed given r offsets kept now at.drained at.reached next least
 
-    unfinished : is_unfinished next.lane fed ≡ true
-    unfinished = (open_is fed next.lane next.offset here).0
-
-    counted : bytes_at next.lane fed ≡ next.offset
-    counted = (open_is fed next.lane next.offset here).1
-
-    pub lane_open : is_open next.lane r.lanes ≡ true
-    lane_open = (lanes_are_those r s b.setting fed given next.lane at.drained.taking.stands).1 ∙ unfinished
-
-    pub lane_counted : count_at next.lane r.lanes ≡ next.offset
-    lane_counted = (lanes_are_those r s b.setting fed given next.lane at.drained.taking.stands).2 ∙ counted
-
-    least_fed : least_unfinished fed ≡ Some next.offset
-    least_fed = least_is fed next.lane next.offset here (λ other n e.
-        let there : slice_get offsets other ≡ Some (Some n) = subst (λ (os : List (Option ℕ)). slice_get os other ≡ Some (Some n)) (sym at.reached) e in
-        least.least other n (open_below offsets other (Some n) there) there)
-
-    pub lane_empty : room_at next.lane r.lanes ≡ 4096
-    lane_empty =
-        let st = at.drained.taking.stands in
-        let all : st.rounds ≡ next.offset = at.drained.rounds ∙ rw least_fed refl in
-        room_there r.lanes s st.rounds fed st.columns next.lane st.lanes unfinished (counted ∙ sym all)
+    fed_so : bytes_at next.lane fed ≡ next.offset
+    fed_so = counted b s fed given r offsets kept now at.drained at.reached next least
 
     module _ (name : List ℕ) (named : name ≡ get_or names next.lane []) (out : Contains (names_of b) name → ⊥) where
       stays : Told b.was now (LeavesOthers (λ files q. Contains (names_of b) q))
@@ -157,13 +142,13 @@ module _ (b : Beginning) (s : Settings) (names : List (List ℕ)) (first fed : L
         where
           by : (x : Option Files) → IfSome x (λ files. IsSomeAnd (file files name) (IsPieceAt next.offset piece)) → IfSome x (AllComeFrom names fed) → IfSome x (AllComeFrom names (fed_next next.lane piece fed))
           by None is h = tt
-          by (Some files) is h = next_from files name names fed next.lane next.offset piece (sym named) unfinished counted is h
+          by (Some files) is h = next_from files name names fed next.lane next.offset piece (sym named) not_over fed_so is h
 
       -- a piece of a lane was read, and all of its events came
       pub lane_read : (r' : State) (later : List (Option ℕ)) (kept' : Receipt) (now' : Option Files) (h : HasFed b s fed next name offsets later now r' kept' now') → IsReceiving b s names first (fed_next next.lane h.piece fed) h.given r' later kept' now'
       lane_read r' later kept' now' h = record {
         drained = h.drained;
-        reached = h.reached ∙ ap (λ (os : List (Option ℕ)). set os next.lane (offset_next next.offset h.piece)) at.reached ∙ sym (next_offset fed next.lane next.offset h.piece unfinished counted);
+        reached = h.reached ∙ ap (λ (os : List (Option ℕ)). set os next.lane (offset_next next.offset h.piece)) at.reached ∙ sym (next_offset fed next.lane next.offset h.piece not_over fed_so);
         from = λ f. from_next h.piece h.read (at.from f);
       }
 
@@ -172,8 +157,8 @@ module _ (b : Beginning) (s : Settings) (names : List (List ℕ)) (first fed : L
       not_absent (Some files) why from (inl is) = widened (λ n. n ≡ name) (λ q. Contains (names_of b) q ⊎ Contains names q) why (λ q e. inr (subst (Contains names) (sym e) among)) is
         where
           among : Contains names name
-          among = named_at names next.lane name (name_below files names fed next.lane unfinished from) named
-      not_absent (Some files) why from (inr none) = absurd (comes_there files name names fed next.lane (sym named) unfinished from none)
+          among = named_at names next.lane name (name_below files names fed next.lane not_over from) named
+      not_absent (Some files) why from (inr none) = absurd (comes_there files name names fed next.lane (sym named) not_over from none)
 
       -- it could not be read
       unread : (why : Stop) (now' : Option Files) → IfSome b.was (AllComeFrom names fed) → NotRead name why now now' → IsBroken b s names why now'

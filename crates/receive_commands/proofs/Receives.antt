@@ -1,32 +1,22 @@
 -- `receive`: what its lanes come to.
-use Rattle.std.proofs.Common.{◌≡◌, ℕ, zero, suc, ◌*◌, ◌<◌, Bool, true, false, List, [], ◌∷◌, ◌++◌, length, map, slice_get, refl, sym, ap, ap₂, ◌∙◌, subst, arith, inl, inr, ◌⊎◌, Option, Some, None, IfSome, Result, Ok, Err, Contains}
-use Rattle.std.specs.Prelude.{nat_le}
-use Rattle.std.specs.List.{list_all}
-use Rattle.std.proofs.lemmas.List.{length-map, take_all}
-use Rattle.lk_base.specs.Checksum.{bits_of_bytes}
-use Rattle.lk_base.specs.Link.{Settings, IsLink}
+use Rattle.std.proofs.Common.{◌≡◌, ℕ, ◌*◌, ◌<◌, false, List, [], ◌++◌, length, map, slice_get, refl, sym, ap, ap₂, ◌∙◌, subst, arith, inl, inr, ◌⊎◌, Option, Some, None, IfSome, Result, Ok, Err, Contains}
+use Rattle.std.proofs.lemmas.List.{length-map}
+use Rattle.std.proofs.lemmas.List.Elements.{Contains-append_left, Contains-append_right}
+use Rattle.lk_base.specs.Link.{IsLink}
 use Rattle.lk_outside.specs.Files.{Files, Told}
 use Rattle.lock_model.specs.declared.types.LaneReport.{LaneReport}
-use Rattle.lock_model.specs.Report.{report_of}
-use Rattle.lock_model.proofs.Determined.{determined}
-use Rattle.lock_model.proofs.Existing.{attempts_exist}
-use Rattle.lane_lock.specs.Standing.{IsReport}
 use Rattle.receive_model.specs.Events.{Event, Setting}
-use Rattle.receiver_model.specs.Fed.{Fed, first_bits}
+use Rattle.receiver_model.specs.Fed.{Fed}
 use Rattle.receiver_model.specs.Given.{AreEvents}
 use Rattle.receiver_model.proofs.Clocks.{AreShort, short_at_end}
 use Rattle.receiver_model.proofs.KnownEvents.{events_are_determined, events_exist, known_events_exist}
-use Rattle.reassembly.specs.Settings as reassembly
-use Rattle.reassembly.proofs.Channels.{settings_are_one}
 use Rattle.rx_end.specs.Calls.{IsReportOf}
 use Rattle.rx_end.specs.PiecesLaw.{bytes_of}
 use Rattle.rx_end.specs.Standing.{Stands}
 use Rattle.rx_end.specs.States.{State}
-use Rattle.rx_end.proofs.Listed.{in_order}
 use Rattle.rx_end.proofs.Pieces.{known_at_end}
 use Rattle.link_plan.specs.Plan.{PlanValue}
-use Rattle.link_plan.specs.Listing.{channels_in_order}
-use Rattle.plan_inputs.specs.Inputs.{numbers_in, plan_in}
+use Rattle.plan_inputs.specs.Inputs.{plan_in}
 use Rattle.plan_inputs.proofs.SomeSource.{plan_limits}
 use Rattle.run_shell.specs.declared.stop.Stop.{Stop}
 use Rattle.run_shell.specs.declared.stop.Stop.TheVariants as stop
@@ -40,54 +30,18 @@ use Rattle.run_shell.proofs.Moves.{if_both, if_told_by}
 use Rattle.run_shell.proofs.Readings.{behind_ok}
 use Rattle.run_shell.proofs.Works.{is_meaning}
 use Rattle.run_shell.proofs.Writing.{none_writes, one_writes, part_leaves}
-use Rattle.receive_commands.specs.declared.receipt.Receipt.{Receipt}
-use Rattle.receive_commands.specs.Received.{output_names, received_files, received_outcome, received_text}
-use Rattle.receive_commands.specs.Receipts.{Beginning, IsStopped, closed_outcome, given_of, names_of}
-use Rattle.receive_commands.specs.JoinPlan.{IsSettingOf, plan_names}
-use Rattle.receive_commands.specs.Receive.{AreLaneReports, IsLaneReport, IsReceived, PlanLanes, lane_lines, lanes_in, names_of_lanes, plan_lanes_in, receive_meaning, receive_work, with_lanes}
-use Rattle.receive_commands.specs.Feeding.{AllComeFrom, AllReceived, IsBroken}
-use Rattle.receive_commands.proofs.Joins.{order_rising, plan_setting, setting_from}
-use Rattle.receive_commands.proofs.Making.{stopped_writes}
-use Rattle.receive_commands.proofs.Placing.{lists_channels}
-use Rattle.receive_commands.proofs.FedLanes.{lanes_count, whole_all}
-
--- ---- reports
-
-lane_report : (s : Settings) (bytes : List ℕ) (report : LaneReport) → IsReport s (bits_of_bytes bytes) report → IsLaneReport s bytes report
-lane_report s bytes report h =
-    let (attempts, are) = attempts_exist s.metaframe (bits_of_bytes bytes) in
-    record { attempts = attempts; are = are; is = h attempts are }
-
--- the reports of a receiver behind all bits are those of the lanes
-pub reports_are : (s : Settings) (rounds : ℕ) (fed : List Fed) (reports : List LaneReport) → length reports ≡ length fed → AreShort (8 * rounds) fed
-    → ((lane : ℕ) (report : LaneReport) → slice_get reports lane ≡ Some report → IsReportOf s rounds lane fed report) → AreLaneReports s (bytes_of fed) reports
-reports_are s rounds [] [] len short each = tt
-reports_are s rounds [] (report ∷ reports) len short each = absurd (omega arith)
-reports_are s rounds (lane ∷ fed) [] len short each = absurd (omega arith)
-reports_are s rounds (lane ∷ fed) (report ∷ reports) len short each =
-    let all : first_bits (8 * rounds) lane ≡ bits_of_bytes lane.bytes = take_all (8 * rounds) (bits_of_bytes lane.bytes) (let lt = short.0 in omega (arith, lt)) in (
-      lane_report s lane.bytes report (subst (λ (bits : List Bool). IsReport s bits report) all (each 0 report refl)),
-      reports_are s rounds fed reports (omega arith) short.1 (λ k r e. each (suc k) r e),
-    )
-
-pub some_reports : (s : Settings) (lanes : List (List ℕ)) → (reports : List LaneReport) × AreLaneReports s lanes reports
-some_reports s [] = ([], tt)
-some_reports s (bytes ∷ lanes) =
-    let (attempts, are) = attempts_exist s.metaframe (bits_of_bytes bytes) in
-    let (reports, rest) = some_reports s lanes in
-    (report_of s (bits_of_bytes bytes) attempts ∷ reports, (record { attempts = attempts; are = are; is = refl }, rest))
-
-one_report : (s : Settings) (bytes : List ℕ) (r q : LaneReport) → IsLaneReport s bytes r → IsLaneReport s bytes q → r ≡ q
-one_report s bytes r q h k =
-    h.is ∙ ap (report_of s (bits_of_bytes bytes)) (determined s.metaframe (bits_of_bytes bytes) h.attempts k.attempts h.are k.are) ∙ sym k.is
-
-pub same_reports : (s : Settings) (lanes : List (List ℕ)) (rs qs : List LaneReport) → AreLaneReports s lanes rs → AreLaneReports s lanes qs → rs ≡ qs
-same_reports s [] [] [] h k = refl
-same_reports s [] [] (q ∷ qs) h k = absurd k
-same_reports s [] (r ∷ rs) qs h k = absurd h
-same_reports s (bytes ∷ lanes) [] qs h k = absurd h
-same_reports s (bytes ∷ lanes) (r ∷ rs) [] h k = absurd k
-same_reports s (bytes ∷ lanes) (r ∷ rs) (q ∷ qs) h k = ap₂ (λ (x : LaneReport) (xs : List LaneReport). x ∷ xs) (one_report s bytes r q h.0 k.0) (same_reports s lanes rs qs h.1 k.1)
+use Rattle.receipts.specs.declared.receipt.Receipt.{Receipt}
+use Rattle.receipts.specs.Received.{output_names, received_files, received_outcome, received_text}
+use Rattle.receipts.specs.Receipts.{Beginning, IsStopped, closed_outcome, given_of, names_of}
+use Rattle.receipts.specs.Settings.{IsSettingOf, plan_names}
+use Rattle.lane_receipts.specs.LaneReports.{AreLaneReports, lane_lines, names_of_lanes}
+use Rattle.receive_commands.specs.Receive.{IsReceived, PlanLanes, lanes_in, plan_lanes_in, receive_meaning, receive_work, with_lanes}
+use Rattle.receive_commands.specs.ReadLanes.{AllComeFrom, AllReceived, IsBroken}
+use Rattle.receipts.proofs.Settings.{plan_setting, is_the_setting, the_setting}
+use Rattle.lane_receipts.proofs.Reports.{reports_are, same_reports, some_reports}
+use Rattle.receipts.proofs.Making.{stopped_writes}
+use Rattle.receive_commands.proofs.FileLanes.{lanes_count, whole_all}
+use Rattle.receive_commands.proofs.ReceiveLanes.{widened}
 
 -- ---- the work
 
@@ -103,12 +57,6 @@ one_received i o p h k =
     h.is ∙ ap (λ (x : Setting). received_outcome x i.plan.link_type i.plan.out (lane_lines 0 h.reports) h.events) e
     ∙ ap (λ (x : List LaneReport). received_outcome k.setting i.plan.link_type i.plan.out (lane_lines 0 x) h.events) g
     ∙ ap (λ (x : List Event). received_outcome k.setting i.plan.link_type i.plan.out (lane_lines 0 k.reports) x) f ∙ sym k.is
-
-abbrev pub the_setting : PlanValue → Setting
-the_setting plan = setting_from (channels_in_order (numbers_in plan)) (order_rising (numbers_in plan)) plan.settings.max_packet
-
-pub is_the_setting : (plan : PlanValue) → IsSettingOf plan (the_setting plan)
-is_the_setting plan = record { channels = refl; max_packet = refl }
 
 some_received : (plan : PlanValue) (lanes : List (List ℕ)) → IsLink plan.settings → 0 < length lanes → (o : Outcome) × IsReceived (record { plan = plan; lanes = lanes }) o
 some_received plan lanes link some =
@@ -140,39 +88,13 @@ work name = record {
 pub receive_means : (name : List ℕ) → IsMeaning (receive_meaning name)
 receive_means name = is_meaning (receive_work name) (work name)
 
--- ---- names
-
-contains_left : (ns ms : List (List ℕ)) (q : List ℕ) → Contains ns q → Contains (ns ++ ms) q
-contains_left [] ms q (k, lt, e) = absurd (omega arith)
-contains_left (n ∷ ns) ms q (zero, lt, e) = (0, omega arith, e)
-contains_left (n ∷ ns) ms q (suc k, lt, e) = let (j, l, f) = contains_left ns ms q (k, omega arith, e) in (suc j, omega arith, f)
-
-contains_right : (ns ms : List (List ℕ)) (q : List ℕ) → Contains ms q → Contains (ns ++ ms) q
-contains_right [] ms q h = h
-contains_right (n ∷ ns) ms q h = let (j, l, f) = contains_right ns ms q h in (suc j, omega arith, f)
-
-wider : (P Q : List ℕ → Type 0) (s : Stop) → ((q : List ℕ) → P q → Q q) → IsOfStore P s → IsOfStore Q s
-wider P Q (stop.Plan why) more h = h
-wider P Q (stop.Input n why) more h = h
-wider P Q (stop.Store n) more h = more _ h
-wider P Q stop.StoreNoMemory more h = h
-wider P Q stop.OutOfMemory more h = h
+-- ---- more names
 
 fills_more : (of : Outcome → Type 0) (ns ms : List (List ℕ)) (r : Result Finished Stop) (x y : Option Files) → Fills of ns r x y → Fills of (ns ++ ms) r x y
 fills_more of ns ms (Ok f) x y h = h
-fills_more of ns ms (Err s) x y h = record { by_store = wider (Contains ns) (Contains (ns ++ ms)) s (contains_left ns ms) h.by_store; part = h.part }
+fills_more of ns ms (Err s) x y h = record { by_store = widened (Contains ns) (Contains (ns ++ ms)) s (Contains-append_left ns ms) h.by_store; part = h.part }
 
 -- ---- what came of the lanes
-
--- the channels of a plan are those of its setting
-pub setting_lists : (plan : PlanValue) (numbers : List ℕ) (setting : Setting) → numbers_in plan ≡ numbers → list_all (λ m. nat_le m 255) numbers ≡ true → IsSettingOf plan setting → reassembly.IsSettingOf setting numbers plan.settings.max_packet
-setting_lists plan numbers setting same narrow is =
-    let most = plan.settings.max_packet in
-    let one = settings_are_one numbers most in
-    let ordered = in_order one.0 numbers most narrow one.1 in
-    let listed : setting.channels ≡ channels_in_order numbers = is.channels ∙ ap channels_in_order same in
-    let mine = lists_channels setting (channels_in_order numbers) most (record { listed = listed; longest = is.max_packet }) in
-    record { lists = λ channel. mine.lists channel ∙ sym (ordered.lists channel) ∙ one.1.lists channel; takes = is.max_packet }
 
 module _ (plan : PlanValue) (b : Beginning) (is_setting : IsSettingOf plan b.setting) (typed : b.link_type ≡ plan.link_type) (named : b.prefix ≡ plan.out) (none : b.ahead ≡ []) where
   abbrev lane_files : List (List ℕ)
@@ -203,11 +125,11 @@ module _ (plan : PlanValue) (b : Beginning) (is_setting : IsSettingOf plan b.set
       (k.is ∙ ap (λ (x : Setting). received_outcome x plan.link_type plan.out (lane_lines 0 k.reports) k.events) e ∙ sym (outcome_is (lane_lines 0 k.reports) k.events))
 
   store_by : (why : Stop) → IsOfStore (λ q. Contains (names_of b) q ⊎ Contains lane_files q) why → IsOfStore (Contains (plan_names plan ++ lane_files)) why
-  store_by why = wider (λ q. Contains (names_of b) q ⊎ Contains lane_files q) (Contains (plan_names plan ++ lane_files)) why among
+  store_by why = widened (λ q. Contains (names_of b) q ⊎ Contains lane_files q) (Contains (plan_names plan ++ lane_files)) why among
     where
       among : (q : List ℕ) → Contains (names_of b) q ⊎ Contains lane_files q → Contains (plan_names plan ++ lane_files) q
-      among q (inl h) = contains_left (plan_names plan) lane_files q (subst (λ ns. Contains ns q) names_are h)
-      among q (inr h) = contains_right (plan_names plan) lane_files q h
+      among q (inl h) = Contains-append_left (plan_names plan) lane_files q (subst (λ ns. Contains ns q) names_are h)
+      among q (inr h) = Contains-append_right (plan_names plan) lane_files q h
 
   pub broken_fills : (why : Stop) (later : Option Files) → IsBroken b plan.settings lane_files why later → Comes (Err why) later
   broken_fills why later h =

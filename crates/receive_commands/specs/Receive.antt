@@ -1,23 +1,19 @@
 -- What `receive FILE` means, where FILE is a plan.
-use Rattle.std.specs.Prelude.{◌≡◌, ◌⊎◌, ℕ, suc, List, [], ◌∷◌, ◌++◌, Result, Ok, MatchResult, Contains}
-use Rattle.lk_base.specs.Checksum.{bits_of_bytes}
+use Rattle.std.specs.Prelude.{◌≡◌, ◌⊎◌, ℕ, List, [], ◌∷◌, Result, Ok, MatchResult, Contains}
 use Rattle.lk_base.specs.Limits.{lane_limit}
-use Rattle.lk_base.specs.Link.{Settings, IsLink}
+use Rattle.lk_base.specs.Link.{IsLink}
 use Rattle.lk_outside.specs.Files.{Files}
 use Rattle.lock_model.specs.declared.types.LaneReport.{LaneReport}
-use Rattle.lock_model.specs.Locks.{Attempt, AreAttempts}
-use Rattle.lock_model.specs.Report.{report_of}
 use Rattle.receive_model.specs.Events.{Event, Setting}
 use Rattle.receiver_model.specs.Given.{AreEvents}
 use Rattle.link_plan.specs.Plan.{PlanValue}
-use Rattle.link_reports.specs.Lines.{lane_line}
 use Rattle.plan_inputs.specs.Inputs.{plan_in}
 use Rattle.run_shell.specs.Outcome.{Outcome}
 use Rattle.run_shell.specs.Meaning.{Meaning}
 use Rattle.run_shell.specs.Reading.{Refusal, Work, behind, bytes_in, meaning_by}
-use Rattle.stream_commands.specs.Outputs.{lane_names}
-use Rattle.receive_commands.specs.Received.{received_outcome}
-use Rattle.receive_commands.specs.JoinPlan.{IsSettingOf, plan_names}
+use Rattle.receipts.specs.Received.{received_outcome}
+use Rattle.lane_receipts.specs.LaneReports.{AreLaneReports, lane_lines, names_of_lanes}
+use Rattle.receipts.specs.Settings.{IsSettingOf, plan_names}
 
 -- ---- the plan and its lanes
 
@@ -31,10 +27,6 @@ pub record PlanLanes : Type 0 where
   pub plan : PlanValue
   pub lanes : List (List ℕ)
 
--- the names of the files of a plan's lanes, by number
-abbrev pub names_of_lanes : PlanValue → List (List ℕ)
-names_of_lanes plan = lane_names plan.out plan.settings.lanes
-
 abbrev pub with_lanes : Files → PlanValue → Result PlanLanes Refusal
 with_lanes files plan = behind (lanes_in files (names_of_lanes plan)) (λ lanes. Ok (record { plan = plan; lanes = lanes }))
 
@@ -47,23 +39,6 @@ abbrev pub IsReceiveInput : List ℕ → Files → List ℕ → Type 0
 IsReceiveInput name files q = (q ≡ name) ⊎ MatchResult (plan_in files name) (λ plan. Contains (names_of_lanes plan) q) (λ r. ⊥)
 
 -- ---- what they come to
-
--- this is the report of a lane with these bytes
-pub record IsLaneReport (s : Settings) (bytes : List ℕ) (report : LaneReport) : Type 0 where
-  pub attempts : List Attempt
-  pub are : AreAttempts s.metaframe (bits_of_bytes bytes) attempts
-  pub is : report ≡ report_of s (bits_of_bytes bytes) attempts
-
--- there is one for each lane, in order
-abbrev pub AreLaneReports : Settings → List (List ℕ) → List LaneReport → Type 0
-AreLaneReports s [] [] = Unit {0}
-AreLaneReports s (bytes ∷ lanes) (report ∷ reports) = IsLaneReport s bytes report × AreLaneReports s lanes reports
-AreLaneReports s lanes reports = ⊥
-
--- the lines of lanes, from this number on
-abbrev pub lane_lines : ℕ → List LaneReport → List ℕ
-lane_lines lane [] = []
-lane_lines lane (report ∷ reports) = lane_line lane report ++ lane_lines (suc lane) reports
 
 -- What the lanes of a plan come to: the captures and the span table of the events of their bits, and the lines of their reports
 -- before those of what came.

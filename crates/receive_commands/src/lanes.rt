@@ -1,54 +1,23 @@
 //! The lanes are read in turn, and what comes of them goes over into a receipt.
-ghost use Rattle.std.specs.Prelude.{◌≡◌, ◌<◌, ◌≤◌, ◌+◌, ◌^◌, ◌++◌, [], true, List, ℕ, Option, Some, length, map, set, slice_get, Contains, IfOk, IfSome, string_bytes};
+ghost use Rattle.std.specs.Prelude.{◌≡◌, ◌<◌, ◌≤◌, ◌^◌, true, List, ℕ, Option, Some, length, map, slice_get, Contains, IfSome, string_bytes};
 ghost use Rattle.lk_base.specs.Limits.{lane_limit};
 ghost use Rattle.lk_base.specs.Link.{Settings};
-ghost use Rattle.lock_model.specs.declared.types.LaneReport.{LaneReport};
-ghost use Rattle.receive_model.specs.Events.{Event, Setting};
+ghost use Rattle.receive_model.specs.Events.{Event};
 ghost use Rattle.receiver_model.specs.Fed.{Fed};
-ghost use Rattle.rx_end.specs.Calls.{IsReportOf, count_at, is_open, room_at};
-ghost use Rattle.rx_end.specs.Standing.{Stands};
+ghost use Rattle.rx_end.specs.Calls.{count_at, is_open, room_at};
 ghost use Rattle.run_shell.specs.Stops.{StopCount};
 ghost use Rattle.run_shell.specs.Outputs.{open_names};
-ghost use Rattle.receive_commands.specs.Receive.{lane_lines};
-ghost use Rattle.receive_commands.specs.Receipts.{Beginning};
-ghost use Rattle.receive_commands.specs.Feeding.{FeedsLane, IsTaking, AllComeFrom, ReceivesLanes, fed_next, offset_next, offset_of};
+ghost use Rattle.receipts.specs.Receipts.{Beginning};
+ghost use Rattle.receive_commands.specs.ReadLanes.{FeedsLane, AllComeFrom, ReceivesLanes};
+ghost use Rattle.lane_receipts.specs.Feeding.{IsTaking, offset_of};
 
-use crate::lane_events::take_events;
-use crate::lane_offsets::{OpenLane, least_open};
 use crate::lanes_in::read_lane;
-use crate::receipt::Receipt;
-use link_reports::lane_line;
-use lk_base::OutOfMemory;
+use lane_receipts::{OpenLane, feed_piece, least_open, take_events};
 use lk_outside::Store;
+use receipts::Receipt;
 use run_shell::Stop;
 use rx_end::Receiver;
 use std::alloc::Global;
-
-/// A piece of a lane comes; where it is empty the lane is over. The lane has room for it.
-pub fn feed_piece(
-    receiver: &mut Receiver,
-    offsets: &mut [Option<u64>],
-    next: OpenLane,
-    piece: &[u8],
-)
-    requires unfinished { is_open next.lane receiver.old.lanes ≡ true }
-    requires counted { count_at next.lane receiver.old.lanes ≡ next.offset }
-    requires room { room_at next.lane receiver.old.lanes ≡ 4096 }
-    requires small { length piece.now ≤ 4096 }
-    requires within { next.offset + length piece.now < 2 ^ 57 }
-    requires place { next.lane < length offsets.old }
-    ensures stands { (s : Settings) (setting : Setting) (fed : List Fed) (given : List Event) →
-        Stands receiver.old s setting fed given → Stands receiver.new s setting (fed_next next.lane piece.now fed) given }
-    ensures offsets { offsets.new ≡ set offsets.old next.lane (offset_next next.offset piece.now) }
-{
-    if piece.is_empty() {
-        receiver.finish(next.lane);
-        offsets[next.lane as usize] = None;
-    } else {
-        let count = receiver.feed(next.lane, piece);
-        offsets[next.lane as usize] = Some(next.offset + count as u64);
-    }
-}
 
 // Reads the lane on, and takes all events that its piece brings.
 fn take_piece<S: Store>(
@@ -103,18 +72,4 @@ pub fn take_lanes<S: Store>(
         take_piece(alloc, store, receipt, receiver, offsets, next, name)?;
     }
     Ok(())
-}
-
-/// The lines of the reports of so many lanes, which are those of the receiver.
-pub fn lane_lines(alloc: Global, receiver: &Receiver, lanes: u32) -> Result<Vec<u8>, OutOfMemory>
-    requires { lanes ≤ length receiver.now.lanes }
-    ensures { IfOk result (λ text. (reports : List LaneReport) × (length reports ≡ lanes) × (text.items ≡ lane_lines 0 reports) × ((s : Settings) (setting : Setting) (fed : List Fed) (given : List Event) (stands : Stands receiver.now s setting fed given) →
-        (lane : ℕ) (report : LaneReport) → slice_get reports lane ≡ Some report → IsReportOf s stands.rounds lane fed report)) }
-{
-    let mut text = Vec::new(alloc);
-    for lane in 0..lanes {
-        let report = receiver.lane_report(lane);
-        lane_line(alloc, &mut text, lane, &report)?;
-    }
-    Ok(text)
 }

@@ -4,7 +4,7 @@ ghost use Rattle.lk_base.specs.Limits.{lane_limit};
 ghost use Rattle.run_shell.specs.Stops.{StopCount};
 ghost use Rattle.run_shell.specs.Reading.{Probes};
 ghost use Rattle.receive_commands.specs.Receive.{lanes_in};
-ghost use Rattle.receive_commands.specs.Feeding.{ReadsLane};
+ghost use Rattle.receive_commands.specs.ReadLanes.{ReadsLane};
 
 use lk_base::LANE_LIMIT;
 use lk_outside::Store;

@@ -1,9 +1,10 @@
 use Rattle.std.proofs.Common.{◌∙◌, ◌<◌, sym, subst, arith, map, length, string_bytes, Contains, Some}
 use Rattle.std.proofs.lemmas.Result.{err_from_is_err_and}
+use Rattle.std.proofs.lemmas.Option.{slice_get_within}
 use Rattle.run_shell.proofs.Creating.{named, named_at}
-use Rattle.receive_commands.specs.Feeding.{fed_next}
-use Rattle.receive_commands.proofs.LaneOffsets.{open_below}
-use Rattle.receive_commands.proofs.ReceiveLanes.{cut_broken, lane_broken, lane_counted, lane_empty, lane_open, lane_read, lanes_received, less, still_within}
+use Rattle.lane_receipts.specs.Feeding.{fed_next}
+use Rattle.receive_commands.proofs.ReceiveLanes.{cut_broken, lane_broken, lane_read, lanes_received, less, still_within}
+use Rattle.lane_receipts.proofs.OpenLanes.{lane_counted, lane_empty, lane_open}
 use Rattle.receive_commands.proofs.lanes.take_lanes.Goals as goal
 
 pub returns-in_err-take_events-clause-receives : goal.returns-in_err-take_events-clause-receives
@@ -24,19 +25,19 @@ pub take_piece-requires-clause-unfinished : goal.take_piece-requires-clause-unfi
 take_piece-requires-clause-unfinished g c =
     let (b, s, first, given, at, is) = c.requires.taking in
     let (fed, came, now) = c.loop-next.invariant.receiving b s first given at is in
-    lane_open b s (map string_bytes c.args.names.now) first fed came c.loop-next.receiver c.loop-next.offsets c.loop-next.receipt _ now c.in-Some.next c.in-Some.ensures
+    lane_open b s fed came c.loop-next.receiver c.loop-next.offsets c.loop-next.receipt _ now.drained now.reached c.in-Some.next c.in-Some.ensures
 
 pub take_piece-requires-clause-counted : goal.take_piece-requires-clause-counted
 take_piece-requires-clause-counted g c =
     let (b, s, first, given, at, is) = c.requires.taking in
     let (fed, came, now) = c.loop-next.invariant.receiving b s first given at is in
-    lane_counted b s (map string_bytes c.args.names.now) first fed came c.loop-next.receiver c.loop-next.offsets c.loop-next.receipt _ now c.in-Some.next c.in-Some.ensures
+    lane_counted b s fed came c.loop-next.receiver c.loop-next.offsets c.loop-next.receipt _ now.drained now.reached c.in-Some.next c.in-Some.ensures
 
 pub take_piece-requires-clause-room : goal.take_piece-requires-clause-room
 take_piece-requires-clause-room g c =
     let (b, s, first, given, at, is) = c.requires.taking in
     let (fed, came, now) = c.loop-next.invariant.receiving b s first given at is in
-    lane_empty b s (map string_bytes c.args.names.now) first fed came c.loop-next.receiver c.loop-next.offsets c.loop-next.receipt _ now c.in-Some.next c.in-Some.ensures
+    lane_empty b s fed came c.loop-next.receiver c.loop-next.offsets c.loop-next.receipt _ now.drained now.reached c.in-Some.next c.in-Some.ensures
 
 pub take_piece-requires-clause-taking : goal.take_piece-requires-clause-taking
 take_piece-requires-clause-taking g c =
@@ -48,7 +49,7 @@ pub loop-next-preserved : goal.loop-next-preserved
 loop-next-preserved g c =
     let next = c.in-Some.next in
     let least = c.in-Some.ensures in
-    let below = open_below c.loop-next.offsets next.lane (Some next.offset) least.next in
+    let below = slice_get_within c.loop-next.offsets next.lane (Some next.offset) least.next in
     let count = c.requires.named in
     let same = c.loop-next.auto.offsets in
     let lt : next.lane < length c.args.names.now = omega (arith, below, count, same) in
@@ -82,7 +83,7 @@ pub returns-in_err-take_piece-clause-receives : goal.returns-in_err-take_piece-c
 returns-in_err-take_piece-clause-receives g c b s first given at is from =
     let next = c.in-Some.next in
     let least = c.in-Some.ensures in
-    let below = open_below c.loop-next.offsets next.lane (Some next.offset) least.next in
+    let below = slice_get_within c.loop-next.offsets next.lane (Some next.offset) least.next in
     let count = c.requires.named in
     let same = c.loop-next.auto.offsets in
     let lt : next.lane < length c.args.names.now = omega (arith, below, count, same) in

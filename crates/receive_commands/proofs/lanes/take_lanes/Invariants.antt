@@ -3,8 +3,9 @@ use Rattle.lk_base.specs.Limits.{lane_limit}
 use Rattle.lk_base.specs.Link.{Settings}
 use Rattle.receive_model.specs.Events.{Event}
 use Rattle.receiver_model.specs.Fed.{Fed}
-use Rattle.receive_commands.specs.Receipts.{Beginning}
-use Rattle.receive_commands.specs.Feeding.{IsReceiving, IsTaking, left_in, offset_of}
+use Rattle.receipts.specs.Receipts.{Beginning}
+use Rattle.receive_commands.specs.ReadLanes.{IsReceiving, left_in}
+use Rattle.lane_receipts.specs.Feeding.{IsTaking, offset_of}
 use Rattle.receive_commands.proofs.lanes.take_lanes.Given as goal
 
 -- lanes are read as far as what was fed, and all events that are known have come

@@ -2,8 +2,10 @@ use Rattle.std.proofs.Common.{◌≤◌, ◌+◌, sym, subst, inl, length, List,
 use Rattle.std.proofs.lemmas.Result.{err_from_is_err_and}
 use Rattle.lk_base.specs.Limits.{lane_limit}
 use Rattle.lk_outside.specs.Files.{file}
-use Rattle.receive_commands.specs.Feeding.{IsPieceAt, fed_next}
-use Rattle.receive_commands.proofs.ReceiveLanes.{fed_feeds, fed_taking}
+use Rattle.receive_commands.specs.ReadLanes.{IsPieceAt}
+use Rattle.lane_receipts.specs.Feeding.{fed_next}
+use Rattle.receive_commands.proofs.ReceiveLanes.{fed_feeds}
+use Rattle.lane_receipts.proofs.OpenLanes.{fed_taking}
 use Rattle.receive_commands.proofs.lanes.take_piece.Goals as goal
 
 pub returns-in_err-piece-clause-feeds : goal.returns-in_err-piece-clause-feeds

@@ -3,14 +3,16 @@ use Rattle.std.proofs.lemmas.Result.{err_from_is_err_and}
 use Rattle.link_plan.specs.Listing.{channels_in_order, numbers_of}
 use Rattle.link_plan.specs.Views.{plan_value}
 use Rattle.rx_end.specs.Calls.{nothing_fed}
-use Rattle.receive_commands.specs.Received.{output_names}
-use Rattle.receive_commands.specs.Receipts.{Beginning}
-use Rattle.receive_commands.specs.Receive.{names_of_lanes}
-use Rattle.receive_commands.specs.Feeding.{AllReceived, IsBroken, IsTaking}
-use Rattle.receive_commands.proofs.Joins.{order_rises, plan_order}
-use Rattle.receive_commands.proofs.LaneNames.{apart}
-use Rattle.receive_commands.proofs.ReceiveEnds.{begin_stands, lanes_held, longest_of, memory_broken, names_count, nothing_offsets, nothing_there, nothing_within, open_broken}
-use Rattle.receive_commands.proofs.Receives.{broken_fills, broken_leaves, is_the_setting, none_fills, received_fills, the_setting, written_leaves}
+use Rattle.receipts.specs.Received.{output_names}
+use Rattle.receipts.specs.Receipts.{Beginning}
+use Rattle.lane_receipts.specs.LaneReports.{names_of_lanes}
+use Rattle.receive_commands.specs.ReadLanes.{AllReceived, IsBroken}
+use Rattle.lane_receipts.specs.Feeding.{IsTaking}
+use Rattle.receipts.proofs.Settings.{order_rises, plan_order, is_the_setting, the_setting}
+use Rattle.lane_receipts.proofs.LaneNames.{apart}
+use Rattle.lane_receipts.proofs.Beginnings.{begin_stands, longest_of, names_count, nothing_offsets}
+use Rattle.receive_commands.proofs.ReceiveEnds.{lanes_held, memory_broken, nothing_there, nothing_within, open_broken}
+use Rattle.receive_commands.proofs.Receives.{broken_fills, broken_leaves, none_fills, received_fills, written_leaves}
 use Rattle.receive_commands.proofs.receive.receive_lanes.Goals as goal
 
 pub open-requires-clause-in_order : goal.open-requires-clause-in_order

@@ -5,7 +5,8 @@ use Rattle.link_plan.specs.Views.{plan_value}
 use Rattle.run_shell.specs.Outcome.{LeavesOthers}
 use Rattle.run_shell.specs.Stops.{Comes}
 use Rattle.run_shell.proofs.Readings.{reading_ends}
-use Rattle.receive_commands.specs.Receive.{IsReceiveInput, PlanLanes, lanes_in, names_of_lanes, receive_meaning, receive_work}
+use Rattle.receive_commands.specs.Receive.{IsReceiveInput, PlanLanes, lanes_in, receive_meaning, receive_work}
+use Rattle.lane_receipts.specs.LaneReports.{names_of_lanes}
 use Rattle.receive_commands.proofs.PlanLanes.{receive_comes, receive_leaves}
 use Rattle.receive_commands.proofs.Receives.{receive_means}
 use Rattle.receive_commands.proofs.receive.ReceiveCommand.obey.Goals as goal

@@ -1,0 +1,10 @@
+pub mod LaneNames
+pub mod LaneEvents
+pub mod LaneOffsets
+pub mod FedLanes
+pub mod OpenLanes
+pub mod LaneLines
+pub mod Reports
+pub mod Beginnings
+pub mod HeldLanes
+pub mod HeldEnds
