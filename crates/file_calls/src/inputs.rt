@@ -7,7 +7,7 @@ use lk_base::OutOfMemory;
 use lk_outside::MemStore;
 use pcap_files::{write_header, write_packet};
 use plan_inputs::{
-    ChannelPacket, PlanInputs, PlanReading, read_inputs, read_plan_file, read_plan_inputs,
+    CapturePackets, PlanInputs, PlanReading, read_inputs, read_plan_file, read_plan_inputs,
     read_schedule_file,
 };
 use run_shell::Stop;
@@ -62,12 +62,24 @@ fn read_all(alloc: Global, store: &mut MemStore) -> Result<(PlanReading, Schedul
     Ok((reading, schedule))
 }
 
-// Each packet with its channel.
-fn packets_text(alloc: Global, packets: &[ChannelPacket]) -> Result<String, OutOfMemory> {
-    let mut text = String::new(alloc);
-    for packet in packets {
-        let one = format!(in alloc; " {}: {:?}", packet.channel, packet.bytes.as_slice())?;
+// Tells each packet of a capture with its channel.
+fn tell_packets(
+    alloc: Global,
+    text: &mut String,
+    capture: &CapturePackets,
+) -> Result<(), OutOfMemory> {
+    for number in 0..capture.count() {
+        let one = format!(in alloc; " {}: {:?}", capture.channel, capture.packet(number))?;
         text.push_str(one.as_str())?;
+    }
+    Ok(())
+}
+
+// Each packet with its channel.
+fn packets_text(alloc: Global, captures: &[CapturePackets]) -> Result<String, OutOfMemory> {
+    let mut text = String::new(alloc);
+    for capture in captures {
+        tell_packets(alloc, &mut text, capture)?;
     }
     Ok(text)
 }
