@@ -1,0 +1,14 @@
+//! Calls commands over stores in memory, and tells what they gave.
+#![tactic(auto)]
+
+mod commands;
+mod joins;
+mod list_files;
+mod telling;
+
+use std::io;
+
+fn main(rt: HostRuntime) -> io::Result<()> {
+    list_files::tell_all(&rt)?;
+    joins::tell_all(&rt)
+}
