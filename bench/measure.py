@@ -13,12 +13,16 @@ import tempfile
 
 from make_capture import write_capture
 
-PLAN = "lanes,8\nmetaframe,2048\nchannel,0,a.pcap\nout,o\n"
+PLAN = "lanes,8\nmetaframe,2048\nchannel,0,a.pcap\n"
+# One bit of a lane is inverted, so the link counts its accidents.
+SCHEDULE = "flip,3,1000000\n"
+FILES = {"a.plan": PLAN + "out,o\n", "d.plan": PLAN + "schedule,d.schedule\nout,o\n", "d.schedule": SCHEDULE}
 # In this order: later commands read what earlier ones wrote.
 COMMANDS = [
     ("burst", "the capture", ["burst", "a.pcap"]), ("join", "its words file", ["join", "a.pcap.words"]),
     ("burst", "a plan", ["burst", "a.plan"]), ("join", "a plan", ["join", "a.plan"]),
     ("send", "8 lanes", ["send", "a.plan"]), ("receive", "8 lanes", ["receive", "a.plan"]), ("link", "8 lanes", ["link", "a.plan"]),
+    ("link", "8 lanes, one bit inverted", ["link", "d.plan"]),
 ]
 # These read no more than LISTED bytes: the first words of the words file, whose lines they list and read back.
 LISTED = 16777216
@@ -51,8 +55,9 @@ def table(program, megabytes, size):
     row("---", "---", "---", "---", "---")
     with tempfile.TemporaryDirectory() as folder:
         write_capture(os.path.join(folder, "a.pcap"), megabytes, size)
-        with open(os.path.join(folder, "a.plan"), "w") as file:
-            file.write(PLAN)
+        for name, text in FILES.items():
+            with open(os.path.join(folder, name), "w") as file:
+                file.write(text)
         # The first run brings the capture into the machine's memory.
         measured(["md5sum", "a.pcap"], folder)
         _, base, peak = measured(["md5sum", "a.pcap"], folder)
