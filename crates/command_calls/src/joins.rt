@@ -1,12 +1,12 @@
 //! The calls of `join_commands`: `join`, over a store in memory.
-ghost use Rattle.std.specs.Prelude.{◌≡◌, IfOk};
+ghost use Rattle.std.specs.Prelude.{◌≡◌, ◌<◌, ◌^◌, IfOk};
 
 use crate::commands::{obeyed, with_text};
 use crate::telling::tell_lines;
 use join_commands::{JoinPlan, JoinWords};
 use lk_base::OutOfMemory;
 use lk_outside::MemStore;
-use std::alloc::Global;
+use std::alloc::{AllocError, Global};
 use std::io;
 
 // The words of one packet of 60 bytes, 0 to 59, on channel 0.
@@ -22,14 +22,28 @@ const SIXTY: [u8; 108] = [
 
 const PLAN: &str = "lanes,1\nmetaframe,32\nchannel,3,b\nchannel,0,a\nout,o\n";
 
-// A store of a words file of this name, and a plan.
+// Puts a words file of this name, and a plan.
+fn put_files(store: &mut MemStore, name: &str, words: &[u8]) -> Result<(), OutOfMemory>
+    ensures { store.new.faults ≡ store.old.faults }
+{
+    store.put(name, words)?;
+    store.put("p", PLAN.as_bytes())
+}
+
+// A store of these files.
 fn store_of(alloc: Global, name: &str, words: &[u8]) -> Result<MemStore, OutOfMemory>
     ensures { IfOk result (λ store. store.faults ≡ 0) }
 {
     let mut store = MemStore::make(alloc);
-    store.put(name, words)?;
-    store.put("p", PLAN.as_bytes())?;
+    put_files(&mut store, name, words)?;
     Ok(store)
+}
+
+fn size_line(alloc: Global, name: &str, file: Option<&[u8]>) -> Result<String, AllocError> {
+    match file {
+        Some(found) => format!(in alloc; "{name}: {} bytes\n", found.len()),
+        None => format!(in alloc; "{name}: no file\n"),
+    }
 }
 
 // Adds how many bytes the file of this name has.
@@ -39,19 +53,32 @@ fn with_size(
     store: &MemStore,
     name: &str,
 ) -> Result<(), OutOfMemory> {
-    let line = match store.get(name) {
-        Some(found) => format!(in alloc; "{name}: {} bytes\n", found.len())?,
-        None => format!(in alloc; "{name}: no file\n")?,
-    };
+    let line = size_line(alloc, name, store.get(name))?;
     out.extend_from_slice(line.as_bytes())?;
     Ok(())
 }
 
+fn join_words(alloc: Global, store: &mut MemStore) -> Result<Vec<u8>, OutOfMemory>
+    requires { store.old.faults < 2 ^ 60 }
+{
+    let mut out = obeyed(alloc, &JoinWords::make("a.words"), store)?;
+    with_size(alloc, &mut out, store, "a.words.0.pcap")?;
+    with_text(&mut out, store, "a.words.spans.csv")?;
+    Ok(out)
+}
+
 fn words_joined(alloc: Global) -> Result<Vec<u8>, OutOfMemory> {
     let mut store = store_of(alloc, "a.words", &SIXTY)?;
-    let mut out = obeyed(alloc, &JoinWords::make("a.words"), &mut store)?;
-    with_size(alloc, &mut out, &store, "a.words.0.pcap")?;
-    with_text(&mut out, &store, "a.words.spans.csv")?;
+    join_words(alloc, &mut store)
+}
+
+fn join_plan(alloc: Global, store: &mut MemStore) -> Result<Vec<u8>, OutOfMemory>
+    requires { store.old.faults < 2 ^ 60 }
+{
+    let mut out = obeyed(alloc, &JoinPlan::make("p"), store)?;
+    with_size(alloc, &mut out, store, "o.0.pcap")?;
+    with_size(alloc, &mut out, store, "o.3.pcap")?;
+    with_text(&mut out, store, "o.spans.csv")?;
     Ok(out)
 }
 
@@ -60,11 +87,7 @@ fn plan_joined(alloc: Global) -> Result<Vec<u8>, OutOfMemory> {
     let mut inverted = SIXTY;
     inverted[50] ^= 1;
     let mut store = store_of(alloc, "o.words", &inverted)?;
-    let mut out = obeyed(alloc, &JoinPlan::make("p"), &mut store)?;
-    with_size(alloc, &mut out, &store, "o.0.pcap")?;
-    with_size(alloc, &mut out, &store, "o.3.pcap")?;
-    with_text(&mut out, &store, "o.spans.csv")?;
-    Ok(out)
+    join_plan(alloc, &mut store)
 }
 
 /// Tells what `join` prints and writes.

@@ -1,5 +1,5 @@
 //! The calls of `listing_commands`: `list` and `assemble`, over a store in memory.
-ghost use Rattle.std.specs.Prelude.{◌≡◌, IfOk};
+ghost use Rattle.std.specs.Prelude.{◌≡◌, ◌<◌, ◌^◌, IfOk};
 
 use crate::commands::{obeyed, with_text};
 use crate::telling::{hex_of, tell_lines};
@@ -41,18 +41,40 @@ fn with_bytes(
     Ok(())
 }
 
+fn list(
+    alloc: Global,
+    store: &mut MemStore,
+    name: &str,
+    output: &str,
+) -> Result<Vec<u8>, OutOfMemory>
+    requires { store.old.faults < 2 ^ 60 }
+{
+    let mut out = obeyed(alloc, &ListFile::make(name), store)?;
+    with_text(&mut out, store, output)?;
+    Ok(out)
+}
+
 fn listed(alloc: Global, name: &str, bytes: &[u8], output: &str) -> Result<Vec<u8>, OutOfMemory> {
     let mut store = store_of(alloc, name, bytes)?;
-    let mut out = obeyed(alloc, &ListFile::make(name), &mut store)?;
-    with_text(&mut out, &store, output)?;
+    list(alloc, &mut store, name, output)
+}
+
+fn assemble(
+    alloc: Global,
+    store: &mut MemStore,
+    name: &str,
+    output: &str,
+) -> Result<Vec<u8>, OutOfMemory>
+    requires { store.old.faults < 2 ^ 60 }
+{
+    let mut out = obeyed(alloc, &AssembleText::make(name), store)?;
+    with_bytes(alloc, &mut out, store, output)?;
     Ok(out)
 }
 
 fn assembled(alloc: Global, name: &str, text: &[u8], output: &str) -> Result<Vec<u8>, OutOfMemory> {
     let mut store = store_of(alloc, name, text)?;
-    let mut out = obeyed(alloc, &AssembleText::make(name), &mut store)?;
-    with_bytes(alloc, &mut out, &store, output)?;
-    Ok(out)
+    assemble(alloc, &mut store, name, output)
 }
 
 /// Tells what `list` and `assemble` print and write, and that they create nothing where they refuse.

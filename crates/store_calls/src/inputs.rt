@@ -1,7 +1,7 @@
 //! The calls of `plan_inputs`: plans and their inputs, read from a store in memory.
 ghost use Rattle.std.specs.Prelude.{◌≡◌, ◌<◌, ◌≤◌, ◌^◌, IfOk, length};
 
-use crate::telling::tell;
+use crate::telling::{made, tell};
 use link_plan::{LocalRow, Plan, Schedule};
 use lk_base::OutOfMemory;
 use lk_outside::MemStore;
@@ -17,49 +17,42 @@ use std::io;
 const PLAN: &str =
     "lanes,2\nmetaframe,32\nchannel,7,a\nchannel,3,b\nflow,f\nlocal,l\nschedule,s\nout,o\n";
 
-// A capture of one packet.
-fn capture_of(alloc: Global, packet: &[u8]) -> Result<Vec<u8>, OutOfMemory>
+// Puts a capture of one packet into a store.
+fn put_capture(
+    alloc: Global,
+    store: &mut MemStore,
+    name: &str,
+    packet: &[u8],
+) -> Result<(), OutOfMemory>
     requires least { 1 ≤ length packet.now }
     requires most { length packet.now ≤ 262144 }
+    ensures { store.new.faults ≡ store.old.faults }
 {
     let mut capture = Vec::new(alloc);
     write_header(alloc, &mut capture, 1)?;
     write_packet(alloc, &mut capture, packet)?;
-    Ok(capture)
+    store.put(name, &capture)
 }
 
-// A store of a plan, two captures and three files of rows.
+// Puts a plan, two captures and three files of rows into a store.
+fn put_files(alloc: Global, store: &mut MemStore) -> Result<(), OutOfMemory>
+    ensures { store.new.faults ≡ store.old.faults }
+{
+    put_capture(alloc, store, "a", &[1, 2, 3])?;
+    put_capture(alloc, store, "b", &[4])?;
+    store.put("p", PLAN.as_bytes())?;
+    store.put("f", b"5,81BFFF00004B8D9D\n")?;
+    store.put("l", b"6,3,off\n")?;
+    store.put("s", b"skew,1,9\n")
+}
+
+// A store of these files.
 fn store_of(alloc: Global) -> Result<MemStore, OutOfMemory>
     ensures { IfOk result (λ store. store.faults ≡ 0) }
 {
-    let a = capture_of(alloc, &[1, 2, 3])?;
-    let b = capture_of(alloc, &[4])?;
     let mut store = MemStore::make(alloc);
-    store.put("p", PLAN.as_bytes())?;
-    store.put("a", &a)?;
-    store.put("b", &b)?;
-    store.put("f", b"5,81BFFF00004B8D9D\n".as_slice())?;
-    store.put("l", b"6,3,off\n".as_slice())?;
-    store.put("s", b"skew,1,9\n".as_slice())?;
+    put_files(alloc, &mut store)?;
     Ok(store)
-}
-
-// Reads the plan, and then its inputs.
-fn read_in_turn(alloc: Global, store: &mut MemStore) -> Result<(Plan, PlanInputs), Stop>
-    requires { store.old.faults < 2 ^ 60 }
-{
-    let plan = read_plan_file(alloc, store, "p")?;
-    let inputs = read_inputs(alloc, store, &plan)?;
-    Ok((plan, inputs))
-}
-
-// Reads the plan with its inputs, and its schedule.
-fn read_all(alloc: Global, store: &mut MemStore) -> Result<(PlanReading, Schedule), Stop>
-    requires { store.old.faults < 2 ^ 60 }
-{
-    let reading = read_plan_inputs(alloc, store, "p")?;
-    let schedule = read_schedule_file(alloc, store, &reading.plan)?;
-    Ok((reading, schedule))
 }
 
 // Tells each packet of a capture with its channel.
@@ -86,12 +79,12 @@ fn packets_text(alloc: Global, captures: &[CapturePackets]) -> Result<String, Ou
 
 fn inputs_text(alloc: Global, plan: &Plan, inputs: &PlanInputs) -> Result<String, OutOfMemory> {
     let packets = packets_text(alloc, &inputs.packets)?;
-    Ok(format!(in alloc;
+    made(format!(in alloc;
         "channels {}, packets{packets}, flow rows {}, local rows {}",
         plan.channels.len(),
         inputs.flow.len(),
         inputs.local.len()
-    )?)
+    ))
 }
 
 fn local_text(alloc: Global, rows: &[LocalRow]) -> Result<String, OutOfMemory> {
@@ -119,27 +112,69 @@ fn reading_text(
 ) -> Result<String, OutOfMemory> {
     let slots = slots_text(alloc, &reading.inputs)?;
     let local = local_text(alloc, &reading.inputs.local)?;
-    Ok(format!(in alloc;
+    made(format!(in alloc;
         "packets {}, slots of flow rows{slots}, local rows{local}, skews {:?}",
         reading.inputs.packets.len(),
         schedule.skews.as_slice()
-    )?)
+    ))
+}
+
+fn stop_text(alloc: Global, stop: &Stop) -> Result<String, OutOfMemory> {
+    made(format!(in alloc; "{stop:?}"))
+}
+
+// Reads the inputs of a plan.
+fn inputs_of(alloc: Global, store: &mut MemStore, plan: &Plan) -> Result<String, OutOfMemory>
+    requires { store.old.faults < 2 ^ 60 }
+{
+    match read_inputs(alloc, store, plan) {
+        Ok(inputs) => inputs_text(alloc, plan, &inputs),
+        Err(stop) => stop_text(alloc, &stop),
+    }
+}
+
+// Reads the plan, and then its inputs.
+fn plan_in_turn(alloc: Global, store: &mut MemStore) -> Result<String, OutOfMemory>
+    requires { store.old.faults < 2 ^ 60 }
+{
+    match read_plan_file(alloc, store, "p") {
+        Ok(plan) => inputs_of(alloc, store, &plan),
+        Err(stop) => stop_text(alloc, &stop),
+    }
 }
 
 fn in_turn(alloc: Global) -> Result<String, OutOfMemory> {
     let mut store = store_of(alloc)?;
-    match read_in_turn(alloc, &mut store) {
-        Ok((plan, inputs)) => inputs_text(alloc, &plan, &inputs),
-        Err(stop) => Ok(format!(in alloc; "{stop:?}")?),
+    plan_in_turn(alloc, &mut store)
+}
+
+// Reads the schedule of a plan that is read.
+fn schedule_of(
+    alloc: Global,
+    store: &mut MemStore,
+    reading: &PlanReading,
+) -> Result<String, OutOfMemory>
+    requires { store.old.faults < 2 ^ 60 }
+{
+    match read_schedule_file(alloc, store, &reading.plan) {
+        Ok(schedule) => reading_text(alloc, reading, &schedule),
+        Err(stop) => stop_text(alloc, &stop),
+    }
+}
+
+// Reads the plan with its inputs, and its schedule.
+fn plan_at_once(alloc: Global, store: &mut MemStore) -> Result<String, OutOfMemory>
+    requires { store.old.faults < 2 ^ 60 }
+{
+    match read_plan_inputs(alloc, store, "p") {
+        Ok(reading) => schedule_of(alloc, store, &reading),
+        Err(stop) => stop_text(alloc, &stop),
     }
 }
 
 fn at_once(alloc: Global) -> Result<String, OutOfMemory> {
     let mut store = store_of(alloc)?;
-    match read_all(alloc, &mut store) {
-        Ok((reading, schedule)) => reading_text(alloc, &reading, &schedule),
-        Err(stop) => Ok(format!(in alloc; "{stop:?}")?),
-    }
+    plan_at_once(alloc, &mut store)
 }
 
 /// Tells what is read of a plan and the files that it names.

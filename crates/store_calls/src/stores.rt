@@ -1,5 +1,8 @@
 //! The calls of `lk_outside` over memory.
-use crate::telling::{tell, text_in};
+ghost use Rattle.std.specs.Prelude.{◌≡◌, IsSome};
+ghost use Rattle.lk_outside.specs.Files.{file};
+
+use crate::telling::{made, tell, text_in};
 use lk_base::OutOfMemory;
 use lk_outside::{MemSink, MemStore, Sink, Store, read_whole};
 use std::alloc::Global;
@@ -10,58 +13,100 @@ fn held<'a>(store: &'a MemStore, name: &str) -> &'a str {
     text_in(store.get(name).unwrap_or(&[]))
 }
 
+// An append to a file that is there, and two reads of it.
+fn grow(alloc: Global, store: &mut MemStore, name: &str) -> Result<String, OutOfMemory>
+    requires none_yet { store.old.faults ≡ 0 }
+    requires there { IsSome (file store.old.files name.now) }
+{
+    let appended = store.append(name, b"new");
+    let mut buf = [0; 8];
+    let read = store.read_at(name, 1, &mut buf);
+    let again = store.read_at(name, 1, &mut [0; 8]);
+    let text = text_in(&buf[..2]);
+    made(format!(in alloc; "append {appended:?}, read {read:?} {text}, read {again:?}"))
+}
+
+fn create(alloc: Global, store: &mut MemStore, name: &str) -> Result<String, OutOfMemory>
+    requires { store.old.faults ≡ 0 }
+{
+    let created = store.create(name);
+    if created.is_err() {
+        return made(format!(in alloc; "create {created:?}"));
+    }
+    let grown = grow(alloc, store, name)?;
+    made(format!(in alloc; "create {created:?}, {grown}"))
+}
+
 // The second read is to fail.
-fn each_call(alloc: Global) -> Result<String, OutOfMemory> {
-    let mut store = MemStore::make(alloc);
+fn make_calls(alloc: Global, store: &mut MemStore) -> Result<String, OutOfMemory>
+    requires { store.old.faults ≡ 0 }
+{
     store.fail(&[1], &[], &[])?;
     store.put("a", b"old")?;
-    let old = String::from_str(alloc, held(&store, "a"))?;
-    let created = store.create("a");
-    if created.is_err() {
-        return Ok(format!(in alloc; "create {created:?}")?);
-    }
-    let appended = store.append("a", b"new");
-    let mut buf = [0; 8];
-    let read = store.read_at("a", 1, &mut buf);
-    let text = String::from_str(alloc, text_in(&buf[..2]))?;
-    let again = store.read_at("a", 1, &mut buf);
-    Ok(format!(in alloc;
-        "put {old}, create {created:?}, append {appended:?}, read {read:?} {text}, read {again:?}"
-    )?)
+    let old = String::from_str(alloc, held(store, "a"))?;
+    let created = create(alloc, store, "a")?;
+    made(format!(in alloc; "put {old}, {created}"))
+}
+
+fn each_call(alloc: Global) -> Result<String, OutOfMemory> {
+    let mut store = MemStore::make(alloc);
+    make_calls(alloc, &mut store)
 }
 
 // The first append is to fail.
-fn a_half(alloc: Global) -> Result<String, OutOfMemory> {
-    let mut store = MemStore::make(alloc);
+fn append_half(alloc: Global, store: &mut MemStore) -> Result<String, OutOfMemory>
+    requires { store.old.faults ≡ 0 }
+{
     store.fail(&[], &[], &[0])?;
     let created = store.create("a");
     if created.is_err() {
-        return Ok(format!(in alloc; "create {created:?}")?);
+        return made(format!(in alloc; "create {created:?}"));
     }
     let appended = store.append("a", b"abcde");
-    Ok(format!(in alloc; "{appended:?}, a holds {}", held(&store, "a"))?)
+    made(format!(in alloc; "{appended:?}, a holds {}", held(store, "a")))
+}
+
+fn a_half(alloc: Global) -> Result<String, OutOfMemory> {
+    let mut store = MemStore::make(alloc);
+    append_half(alloc, &mut store)
 }
 
 // The second write is to fail.
-fn three_writes(alloc: Global) -> Result<String, OutOfMemory> {
-    let mut sink = MemSink::make(alloc);
+fn write_thrice(alloc: Global, sink: &mut MemSink) -> Result<String, OutOfMemory>
+    requires { sink.old.faults ≡ 0 }
+{
     sink.fail(&[1])?;
     let first = sink.write(b"ab");
     let second = sink.write(b"cd");
     let third = sink.write(b"ef");
-    Ok(format!(in alloc;
+    made(format!(in alloc;
         "{first:?}, {second:?}, {third:?}, written {}",
         text_in(sink.written())
-    )?)
+    ))
+}
+
+fn three_writes(alloc: Global) -> Result<String, OutOfMemory> {
+    let mut sink = MemSink::make(alloc);
+    write_thrice(alloc, &mut sink)
+}
+
+fn count_text(alloc: Global, bytes: &[u8]) -> Result<String, OutOfMemory> {
+    made(format!(in alloc; "{} bytes", bytes.len()))
+}
+
+fn read_file(alloc: Global, store: &mut MemStore) -> Result<String, OutOfMemory>
+    requires { store.old.faults ≡ 0 }
+{
+    store.put("a", b"abc")?;
+    match read_whole(alloc, store, "a", 3) {
+        Ok(bytes) => count_text(alloc, &bytes),
+        Err(why) => made(format!(in alloc; "{why:?}")),
+    }
 }
 
 fn a_whole_file(alloc: Global) -> Result<String, OutOfMemory> {
     let mut store = MemStore::make(alloc);
-    store.put("a", b"abc")?;
-    match read_whole(alloc, &mut store, "a", 3) {
-        Ok(bytes) => Ok(format!(in alloc; "{} bytes", bytes.len())?),
-        Err(why) => Ok(format!(in alloc; "{why:?}")?),
-    }
+    read_file(alloc, &mut store)
 }
 
 /// Tells what stores and sinks in memory answer.

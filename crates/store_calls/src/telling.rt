@@ -1,4 +1,5 @@
 use lk_base::OutOfMemory;
+use std::alloc::AllocError;
 use std::io;
 
 /// Prints what calls came to, in one line behind a name.
@@ -6,6 +7,14 @@ pub fn tell(rt: &impl Print, name: &str, text: Result<String, OutOfMemory>) -> i
     match text {
         Ok(text) => println!(rt; "{name}: {text}"),
         Err(_) => println!(rt; "{name}: no memory"),
+    }
+}
+
+/// A text that found its memory.
+pub fn made(text: Result<String, AllocError>) -> Result<String, OutOfMemory> {
+    match text {
+        Ok(text) => Ok(text),
+        Err(_) => Err(OutOfMemory),
     }
 }
 

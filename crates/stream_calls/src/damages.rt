@@ -1,9 +1,10 @@
 //! The calls of `link_replay`.
-ghost use Rattle.std.specs.Prelude.{◌≡◌, IfOk, length, map};
+ghost use Rattle.std.specs.Prelude.{◌≡◌, ◌%◌, IfOk, length, map};
 ghost use Rattle.std.specs.Bool.{OnTrue};
 ghost use Rattle.link_replay.specs.Lanes.{AreFew};
+ghost use Rattle.lk_base.specs.Link.{group_of};
 
-use crate::telling::{hex_of, tell};
+use crate::telling::{hex_of, made, tell};
 use link_plan::{Dark, Flip, Schedule};
 use link_replay::{Accidents, accidents, damage};
 use lk_base::{Link, OutOfMemory, Word};
@@ -109,20 +110,37 @@ fn are_few(received: &[Vec<u8>]) -> bool
     true
 }
 
+// Such words in all seven groups.
+fn seven_groups(alloc: Global) -> Result<Vec<Word>, OutOfMemory> {
+    let mut words = Vec::new(alloc);
+    for slot in 0..392 {
+        words.push(word_at(slot))?;
+    }
+    Ok(words)
+}
+
+fn received_of(
+    alloc: Global,
+    link: &Link,
+    words: &[Word],
+    skews: [u32; 2],
+) -> Result<Vec<Vec<u8>>, OutOfMemory>
+    requires { length words.now % group_of link.now ≡ 0 }
+{
+    let sent = lanes_of(alloc, link, words)?;
+    behind(alloc, skews, &sent)
+}
+
 // The accidents of two lanes of such words with these skews, where those are told to be the skews.
 fn counted(alloc: Global, skews: [u32; 2], told: [u32; 2]) -> Result<Accidents, OutOfMemory> {
     let Some(link) = Link::make(2, 32, 1, 256, 64, 7, 4, 262144) else {
         return Err(OutOfMemory);
     };
-    let mut words = Vec::new(alloc);
-    for slot in 0..392 {
-        words.push(word_at(slot))?;
-    }
+    let words = seven_groups(alloc)?;
     if words.len() as u64 % link.group_words() != 0 {
         return Err(OutOfMemory);
     }
-    let sent = lanes_of(alloc, &link, &words)?;
-    let received = behind(alloc, skews, &sent)?;
+    let received = received_of(alloc, &link, &words, skews)?;
     let few = are_few(&received);
     if received.len() != 2 || !few {
         return Err(OutOfMemory);
@@ -132,10 +150,10 @@ fn counted(alloc: Global, skews: [u32; 2], told: [u32; 2]) -> Result<Accidents, 
 
 fn accidents_text(alloc: Global, skews: [u32; 2], told: [u32; 2]) -> Result<String, OutOfMemory> {
     let found = counted(alloc, skews, told)?;
-    Ok(format!(in alloc;
+    made(format!(in alloc;
         "locks {}, groups {}, stretches {}",
         found.locks, found.groups, found.stretches
-    )?)
+    ))
 }
 
 /// Tells a damaged lane, and the accidents of lanes that are only skewed.

@@ -1,7 +1,7 @@
 //! The calls of `lane_lock`.
 ghost use Rattle.std.specs.Prelude.{◌≡◌, ◌≤◌, ◌<◌, ◌+◌, ◌^◌};
 
-use crate::telling::tell;
+use crate::telling::{made, tell};
 use coding_67b::Encoder;
 use lane_lock::{LaneLock, LaneReport, LaneStep, LostWhy};
 use lk_base::{Link, OutOfMemory, Word};
@@ -99,10 +99,20 @@ fn give_words(lock: &mut LaneLock, shown: &mut Shown, words: u32)
 }
 
 fn report_text(alloc: Global, r: &LaneReport) -> Result<String, OutOfMemory> {
-    Ok(format!(in alloc;
+    made(format!(in alloc;
         "locks {}, first {:?}, lost {}, unframed {}, bad {}, sync {}, state {}, diag {}",
         r.locks, r.first, r.lost, r.unframed, r.bad, r.sync, r.state, r.diag
-    )?)
+    ))
+}
+
+fn nine_text(alloc: Global, lock: &mut LaneLock, ones: u32) -> Result<String, OutOfMemory>
+    requires { lock.old.taken ≡ 0 }
+{
+    let mut shown = none_shown();
+    give_bits(lock, &mut shown, true, ones);
+    give_words(lock, &mut shown, 288);
+    let report = report_text(alloc, &lock.report())?;
+    made(format!(in alloc; "locked {}, words {}, {report}", shown.locked, shown.words))
 }
 
 // A lane of nine metaframes behind so many ones.
@@ -111,11 +121,21 @@ fn nine(alloc: Global, ones: u32) -> Result<String, OutOfMemory> {
         return Err(OutOfMemory);
     };
     let mut lock = LaneLock::make(alloc, &link)?;
+    nine_text(alloc, &mut lock, ones)
+}
+
+fn lost_text(alloc: Global, lock: &mut LaneLock) -> Result<String, OutOfMemory>
+    requires { lock.old.taken ≡ 0 }
+{
     let mut shown = none_shown();
-    give_bits(&mut lock, &mut shown, true, ones);
-    give_words(&mut lock, &mut shown, 288);
-    let report = report_text(alloc, &lock.report())?;
-    Ok(format!(in alloc; "locked {}, words {}, {report}", shown.locked, shown.words)?)
+    give_words(lock, &mut shown, 128);
+    let words = shown.words;
+    give_bits(lock, &mut shown, true, 1072);
+    let r = lock.report();
+    made(format!(in alloc;
+        "words {words}, then {}, lost {:?}, locks {}, lost {}, bad {}, sync {}, state {}",
+        shown.words, shown.lost, r.locks, r.lost, r.bad, r.sync, r.state
+    ))
 }
 
 // A lane of four metaframes, and then only ones.
@@ -124,15 +144,7 @@ fn lost(alloc: Global) -> Result<String, OutOfMemory> {
         return Err(OutOfMemory);
     };
     let mut lock = LaneLock::make(alloc, &link)?;
-    let mut shown = none_shown();
-    give_words(&mut lock, &mut shown, 128);
-    let words = shown.words;
-    give_bits(&mut lock, &mut shown, true, 1072);
-    let r = lock.report();
-    Ok(format!(in alloc;
-        "words {words}, then {}, lost {:?}, locks {}, lost {}, bad {}, sync {}, state {}",
-        shown.words, shown.lost, r.locks, r.lost, r.bad, r.sync, r.state
-    )?)
+    lost_text(alloc, &mut lock)
 }
 
 /// Tells the locks of lanes of idle words.

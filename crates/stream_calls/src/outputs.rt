@@ -2,10 +2,10 @@
 ghost use Rattle.std.specs.Prelude.{OnOk};
 ghost use Rattle.reassembly.specs.States.{NothingWaits};
 
-use crate::telling::tell;
+use crate::telling::{made, tell};
 use lk_base::{Aligned, OutOfMemory, Pos, RxWord, Why};
 use reassembly::{Out, Reassembly};
-use std::alloc::Global;
+use std::alloc::{AllocError, Global};
 use std::io;
 
 // A packet of channel 0 is open where channel 3's ends, and meets a Bad word; another comes behind it.
@@ -46,44 +46,79 @@ fn take_all(
     Ok(())
 }
 
+// Puts the words, and takes their outputs.
+fn put_words(
+    reassembly: &mut Reassembly,
+    outs: &mut Vec<Out>,
+    bytes: &mut [u8],
+) -> Result<(), OutOfMemory>
+    requires { NothingWaits reassembly.old }
+    ensures { OnOk result (NothingWaits reassembly.new) }
+{
+    for (number, word) in WORDS.iter().enumerate() {
+        reassembly.put(Aligned::Word(at(number as u32), *word));
+        take_all(reassembly, outs, bytes)?;
+    }
+    Ok(())
+}
+
+// Puts the words and their end, and takes their outputs.
+fn put_all(
+    reassembly: &mut Reassembly,
+    outs: &mut Vec<Out>,
+    bytes: &mut [u8],
+) -> Result<(), OutOfMemory>
+    requires { NothingWaits reassembly.old }
+{
+    put_words(reassembly, outs, bytes)?;
+    reassembly.put(Aligned::Break(at(13), Why::End));
+    take_all(reassembly, outs, bytes)?;
+    reassembly.finish();
+    take_all(reassembly, outs, bytes)
+}
+
 // The outputs of the words, and the bytes that were read of their packets.
 fn outputs(alloc: Global, bytes: &mut [u8]) -> Result<Vec<Out>, OutOfMemory> {
     let mut outs = Vec::new(alloc);
     let mut reassembly = Reassembly::make(alloc, &[3, 0], 262144)?;
-    for (number, word) in WORDS.iter().enumerate() {
-        reassembly.put(Aligned::Word(at(number as u32), *word));
-        take_all(&mut reassembly, &mut outs, bytes)?;
-    }
-    reassembly.put(Aligned::Break(at(13), Why::End));
-    take_all(&mut reassembly, &mut outs, bytes)?;
-    reassembly.finish();
-    take_all(&mut reassembly, &mut outs, bytes)?;
+    put_all(&mut reassembly, &mut outs, bytes)?;
     Ok(outs)
+}
+
+fn output_text(alloc: Global, out: Option<&Out>) -> Result<String, AllocError> {
+    match out {
+        Some(out) => format!(in alloc; "{out:?}"),
+        None => format!(in alloc; "none"),
+    }
 }
 
 // An output of the words.
 fn output(alloc: Global, number: usize) -> Result<String, OutOfMemory> {
     let mut bytes = [0; 6];
     let outs = outputs(alloc, &mut bytes)?;
-    match outs.as_slice().get(number) {
-        Some(out) => Ok(format!(in alloc; "{out:?}")?),
-        None => Ok(format!(in alloc; "none")?),
-    }
+    made(output_text(alloc, outs.as_slice().get(number)))
 }
 
 // How many outputs the words have, and what was read last.
 fn all(alloc: Global) -> Result<String, OutOfMemory> {
     let mut bytes = [0; 6];
     let outs = outputs(alloc, &mut bytes)?;
-    Ok(format!(in alloc; "outputs {}, read {bytes:?}", outs.len())?)
+    made(format!(in alloc; "outputs {}, read {bytes:?}", outs.len()))
+}
+
+// The outputs of a reassembly that ends.
+fn end_text(alloc: Global, reassembly: &mut Reassembly) -> Result<String, AllocError>
+    requires { NothingWaits reassembly.old }
+{
+    reassembly.finish();
+    let first = reassembly.next();
+    let second = reassembly.next();
+    format!(in alloc; "{first:?}, {second:?}")
 }
 
 fn no_words(alloc: Global) -> Result<String, OutOfMemory> {
     let mut reassembly = Reassembly::make(alloc, &[0], 8)?;
-    reassembly.finish();
-    let first = reassembly.next();
-    let second = reassembly.next();
-    Ok(format!(in alloc; "{first:?}, {second:?}")?)
+    made(end_text(alloc, &mut reassembly))
 }
 
 /// Tells outputs of the words of two channels, one of them bad, and of no words.

@@ -2,7 +2,7 @@
 ghost use Rattle.std.specs.Prelude.{◌≤◌, map, All};
 ghost use Rattle.std.specs.List.Sorted.{IsNonDecreasing};
 
-use crate::telling::tell;
+use crate::telling::{made, tell};
 use lk_base::{OutOfMemory, Shape, Word};
 use std::alloc::Global;
 use std::io;
@@ -60,9 +60,12 @@ fn two_channels(alloc: Global, flow: &[FlowRow], local: &[LocalRow]) -> Result<S
             bytes: &short,
         },
     ];
-    let made = words_of(alloc, shape, &[1, 2], &[1, 2], &packets, flow, local)?;
-    let counts = count_sent(alloc, shape, &[1, 2], &packets, &made.words)?;
-    Ok(Stream { made, counts })
+    let stream = words_of(alloc, shape, &[1, 2], &[1, 2], &packets, flow, local)?;
+    let counts = count_sent(alloc, shape, &[1, 2], &packets, &stream.words)?;
+    Ok(Stream {
+        made: stream,
+        counts,
+    })
 }
 
 // The bursts of a stream, each with its slot and channel.
@@ -79,14 +82,14 @@ fn bursts(alloc: Global, words: &[Word]) -> Result<Vec<(usize, u64)>, OutOfMemor
 }
 
 // The slots, the bursts and the channel that holds the stream.
-fn words_text(alloc: Global, made: &Made) -> Result<String, OutOfMemory> {
-    let found = bursts(alloc, &made.words)?;
-    Ok(format!(in alloc;
+fn words_text(alloc: Global, stream: &Made) -> Result<String, OutOfMemory> {
+    let found = bursts(alloc, &stream.words)?;
+    made(format!(in alloc;
         "slots {}, bursts {:?}, held {:?}",
-        made.words.len(),
+        stream.words.len(),
         found.as_slice(),
-        made.held
-    )?)
+        stream.held
+    ))
 }
 
 fn words(alloc: Global, flow: &[FlowRow], local: &[LocalRow]) -> Result<String, OutOfMemory>
@@ -99,18 +102,22 @@ fn words(alloc: Global, flow: &[FlowRow], local: &[LocalRow]) -> Result<String, 
 }
 
 // What is sent of each channel, and the packets that are left.
-fn sent(alloc: Global, flow: &[FlowRow]) -> Result<String, OutOfMemory>
-    requires flow_in_order { IsNonDecreasing (map (λ row. row.slot) flow.now) }
-    requires flow_low { All (λ row. row.slot ≤ 16777215) flow.now }
-{
-    let stream = two_channels(alloc, flow, &[])?;
+fn counts_text(alloc: Global, counts: &[SentCount]) -> Result<String, OutOfMemory> {
     let mut text = String::from_str(alloc, "channel, packets, bytes, left")?;
-    for count in &stream.counts {
+    for count in counts {
         let one = (count.channel, count.packets, count.bytes, count.left);
         let one = format!(in alloc; " {one:?}")?;
         text.push_str(one.as_str())?;
     }
     Ok(text)
+}
+
+fn sent(alloc: Global, flow: &[FlowRow]) -> Result<String, OutOfMemory>
+    requires flow_in_order { IsNonDecreasing (map (λ row. row.slot) flow.now) }
+    requires flow_low { All (λ row. row.slot ≤ 16777215) flow.now }
+{
+    let stream = two_channels(alloc, flow, &[])?;
+    counts_text(alloc, &stream.counts)
 }
 
 // Whether a word tells that channel 1 is on.
@@ -131,7 +138,7 @@ fn told_off(alloc: Global) -> Result<String, OutOfMemory> {
     let stream = two_channels(alloc, &[], &[off])?;
     let words = &stream.made.words;
     let on = words.iter().filter(|word| tells_one_on(**word)).count();
-    Ok(format!(in alloc; "slots {}, words that tell channel 1 on {on}", words.len())?)
+    made(format!(in alloc; "slots {}, words that tell channel 1 on {on}", words.len()))
 }
 
 fn tell_streams(rt: &HostRuntime) -> io::Result<()> {

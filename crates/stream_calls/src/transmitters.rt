@@ -6,7 +6,7 @@ ghost use Rattle.stream_model.specs.BurstStream.{Source};
 ghost use Rattle.tx_end.specs.Sending.{Sends};
 ghost use Rattle.tx_end.specs.declared.tx_out.TxOut.{TxOut};
 
-use crate::telling::{hex_of, tell};
+use crate::telling::{hex_of, made, tell};
 use lk_base::{Link, OutOfMemory};
 use std::alloc::Global;
 use std::io;
@@ -69,7 +69,7 @@ fn digest(file: &[u8]) -> u32 {
 
 fn file_text(alloc: Global, file: &[u8]) -> Result<String, OutOfMemory> {
     let sum = digest(file);
-    Ok(format!(in alloc; "{} bytes, digest {sum:08X}", file.len())?)
+    made(format!(in alloc; "{} bytes, digest {sum:08X}", file.len()))
 }
 
 // Each packet with its channel, its number there, and the slots of its first and its last word.
@@ -86,27 +86,49 @@ fn sent_text(alloc: Global, sent: &[Sent]) -> Result<String, OutOfMemory> {
     Ok(text)
 }
 
-fn one_lane(alloc: Global) -> Result<String, OutOfMemory> {
-    let mut transmitter = two_channels(alloc, &link_of(1, 32)?, &[7; 300], &[7; 40])?;
-    let file = file_of(alloc, &mut transmitter, 0)?;
-    let whole = file_text(alloc, &file)?;
+// A file, and how it begins.
+fn start_text(alloc: Global, file: &[u8]) -> Result<String, OutOfMemory> {
+    let whole = file_text(alloc, file)?;
     let start = hex_of(alloc, &file[..file.len().min(25)])?;
+    made(format!(in alloc; "{whole}, begins {start}"))
+}
+
+fn lane_text(alloc: Global, transmitter: &mut Transmitter) -> Result<String, OutOfMemory>
+    requires { (s : Settings) × (source : Source) × (words : List Word) × (outs : List TxOut) × Sends transmitter.old s source words outs }
+{
+    let file = file_of(alloc, transmitter, 0)?;
+    let start = start_text(alloc, &file)?;
     let sent = sent_text(alloc, transmitter.sent())?;
     let slots = transmitter.slots();
     let held = transmitter.held();
-    Ok(format!(in alloc; "{whole}, begins {start}, slots {slots}, held {held:?}, sent{sent}")?)
+    made(format!(in alloc; "{start}, slots {slots}, held {held:?}, sent{sent}"))
+}
+
+fn one_lane(alloc: Global) -> Result<String, OutOfMemory> {
+    let mut transmitter = two_channels(alloc, &link_of(1, 32)?, &[7; 300], &[7; 40])?;
+    lane_text(alloc, &mut transmitter)
+}
+
+fn text_of_file(
+    alloc: Global,
+    transmitter: &mut Transmitter,
+    lane: u32,
+) -> Result<String, OutOfMemory>
+    requires { (s : Settings) × (source : Source) × (words : List Word) × (outs : List TxOut) × Sends transmitter.old s source words outs }
+{
+    let file = file_of(alloc, transmitter, lane)?;
+    file_text(alloc, &file)
 }
 
 // A lane of two whose files end within a byte.
 fn one_of_two(alloc: Global, lane: u32) -> Result<String, OutOfMemory> {
     let mut transmitter = two_channels(alloc, &link_of(2, 33)?, &[7; 300], &[7; 40])?;
-    let file = file_of(alloc, &mut transmitter, lane)?;
-    file_text(alloc, &file)
+    text_of_file(alloc, &mut transmitter, lane)
 }
 
 fn no_words(alloc: Global) -> Result<String, OutOfMemory> {
     let lanes = lanes_of(alloc, &link_of(2, 33)?, &[])?;
-    Ok(format!(in alloc; "{} lanes", lanes.len())?)
+    made(format!(in alloc; "{} lanes", lanes.len()))
 }
 
 /// Tells the files of lanes that carry packets of two channels.

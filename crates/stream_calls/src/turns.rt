@@ -3,7 +3,7 @@ ghost use Rattle.std.specs.Prelude.{◌≡◌, ℕ, ◌<◌, List, [], length, f
 ghost use Rattle.burst_scheduler.specs.Asked.{Asked};
 ghost use Rattle.burst_scheduler.specs.Gives.{Gives};
 
-use crate::telling::tell;
+use crate::telling::{made, tell};
 use burst_scheduler::Scheduler;
 use lk_base::{OutOfMemory, Shape, Word};
 use std::alloc::Global;
@@ -76,25 +76,30 @@ fn show(alloc: Global, scheduler: &mut Scheduler) -> Result<Shown, OutOfMemory>
 }
 
 fn text_of(alloc: Global, shown: &Shown, held: Option<u16>) -> Result<String, OutOfMemory> {
-    Ok(format!(in alloc;
+    made(format!(in alloc;
         "slots {}, bursts {:?}, ends {:?}, held {held:?}",
         shown.slots,
         shown.bursts.as_slice(),
         shown.ends.as_slice()
-    )?)
+    ))
+}
+
+fn turns_text(alloc: Global, scheduler: &mut Scheduler) -> Result<String, OutOfMemory>
+    requires { (a : Asked) × Gives scheduler.old a × (a.words ≡ []) × (a.waits ≡ false) }
+{
+    let shown = show(alloc, scheduler)?;
+    text_of(alloc, &shown, scheduler.held())
 }
 
 fn both_on(alloc: Global) -> Result<String, OutOfMemory> {
     let mut scheduler = two_channels(alloc, &[7; 300], &[7; 40])?;
-    let shown = show(alloc, &mut scheduler)?;
-    text_of(alloc, &shown, scheduler.held())
+    turns_text(alloc, &mut scheduler)
 }
 
 fn one_off(alloc: Global) -> Result<String, OutOfMemory> {
     let mut scheduler = two_channels(alloc, &[7; 300], &[7; 40])?;
     scheduler.flow(0x81BF_FF00_004B_8D9D);
-    let shown = show(alloc, &mut scheduler)?;
-    text_of(alloc, &shown, scheduler.held())
+    turns_text(alloc, &mut scheduler)
 }
 
 /// Tells the bursts of two channels, where both are on and where one is off.

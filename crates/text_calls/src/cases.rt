@@ -1,17 +1,17 @@
 //! The calls of `link_cases`.
-use crate::telling::{tell, text_in};
+use crate::telling::{made, tell, text_in};
 use link_cases::generate;
 use lk_base::OutOfMemory;
 use std::alloc::Global;
 use std::io;
 
 fn a_case(alloc: Global) -> Result<String, OutOfMemory> {
-    let made = generate(alloc, 1044146, "g")?;
-    let captures = made.captures.len();
-    Ok(format!(in alloc;
+    let case = generate(alloc, 1044146, "g")?;
+    let captures = case.captures.len();
+    made(format!(in alloc;
         "captures {captures}, schedule {:?}",
-        text_in(&made.schedule)
-    )?)
+        text_in(&case.schedule)
+    ))
 }
 
 /// Tells what is drawn from a number.

@@ -1,5 +1,5 @@
 //! The calls of `word_text`.
-use crate::telling::{hex_of, tell, tell_lines};
+use crate::telling::{hex_of, made, tell, tell_lines};
 use lk_base::OutOfMemory;
 use std::alloc::Global;
 use std::io;
@@ -62,41 +62,26 @@ fn assembled(alloc: Global, text: &[u8]) -> Result<String, OutOfMemory> {
     let mut bytes = Vec::new(alloc);
     match assemble(alloc, text, &mut bytes)? {
         Ok(()) => hex_of(alloc, &bytes),
-        Err(why) => Ok(format!(in alloc; "{why}, {} bytes", bytes.len())?),
+        Err(why) => made(format!(in alloc; "{why}, {} bytes", bytes.len())),
     }
 }
 
 /// Tells listings of each kind of word and of code, the bytes of them again, and why texts are no listings.
 pub fn tell_all(rt: &HostRuntime) -> io::Result<()> {
-    tell_lines(
-        rt,
-        "the listing of each kind of word",
-        words_listed(rt.alloc()),
-    )?;
+    let alloc = rt.alloc();
+    tell_lines(rt, "the listing of each kind of word", words_listed(alloc))?;
     tell(
         rt,
         "the words of this listing",
-        assembled(rt.alloc(), WORDS_TEXT),
+        assembled(alloc, WORDS_TEXT),
     )?;
-    tell_lines(
-        rt,
-        "the listing of each kind of code",
-        lane_listed(rt.alloc()),
-    )?;
-    tell(
-        rt,
-        "the lane of this listing",
-        assembled(rt.alloc(), LANE_TEXT),
-    )?;
+    tell_lines(rt, "the listing of each kind of code", lane_listed(alloc))?;
+    tell(rt, "the lane of this listing", assembled(alloc, LANE_TEXT))?;
     tell(
         rt,
         "a Sync word spelled as a code",
-        assembled(rt.alloc(), b"lane\ncode 0 10 78F678F678F678F6\n"),
+        assembled(alloc, b"lane\ncode 0 10 78F678F678F678F6\n"),
     )?;
-    tell(
-        rt,
-        "a lane of 67 bits",
-        assembled(rt.alloc(), b"lane\nsync 0\n"),
-    )?;
-    tell(rt, "an empty text", assembled(rt.alloc(), b""))
+    tell(rt, "a lane of 67 bits", assembled(alloc, b"lane\nsync 0\n"))?;
+    tell(rt, "an empty text", assembled(alloc, b""))
 }

@@ -1,7 +1,7 @@
 //! The calls of `link_plan`.
 ghost use Rattle.std.specs.Prelude.{◌<◌, ◌^◌, length};
 
-use crate::telling::tell;
+use crate::telling::{add_part, made, tell};
 use link_plan::{
     FlowRow, Key, LocalRow, Plan, PlanError, Schedule, read_flow, read_local, read_plan,
     read_schedule, refusal_text,
@@ -14,6 +14,14 @@ use std::io;
 const PLAN: &[u8] =
     b"\xEF\xBB\xBFlanes,4\r\nmetaframe,\"32\"\n\nchannel,5,\"a,b.pcap\"\nchannel,3\nout,o";
 
+static REFUSALS: &[PlanError] = &[
+    PlanError::NoFile,
+    PlanError::TooLarge,
+    PlanError::Missing(Key::Metaframe),
+    PlanError::UnknownKey(12),
+    PlanError::Number(1),
+];
+
 fn plan_text(alloc: Global, plan: &Plan) -> Result<String, OutOfMemory> {
     let lanes = plan.link.lanes();
     let deskew = plan.link.deskew();
@@ -21,11 +29,11 @@ fn plan_text(alloc: Global, plan: &Plan) -> Result<String, OutOfMemory> {
         Some(row) => row.capture.as_deref(),
         None => None,
     };
-    Ok(format!(in alloc;
+    made(format!(in alloc;
         "lanes {lanes}, deskew {deskew}, entries {:?}, first capture {capture:?}, out {}",
         plan.entries.as_slice(),
         plan.out.as_str()
-    )?)
+    ))
 }
 
 fn plan_of(alloc: Global, bytes: &[u8]) -> Result<String, OutOfMemory> {
@@ -37,8 +45,8 @@ fn plan_of(alloc: Global, bytes: &[u8]) -> Result<String, OutOfMemory> {
 
 fn flow_text(alloc: Global, rows: &[FlowRow]) -> Result<String, OutOfMemory> {
     match rows.first() {
-        Some(row) => Ok(format!(in alloc; "slot {}, word {:016X}", row.slot, row.word)?),
-        None => Ok(format!(in alloc; "no row")?),
+        Some(row) => made(format!(in alloc; "slot {}, word {:016X}", row.slot, row.word)),
+        None => made(format!(in alloc; "no row")),
     }
 }
 
@@ -62,9 +70,9 @@ fn local_text(alloc: Global, rows: &[LocalRow]) -> Result<String, OutOfMemory> {
     match rows.first() {
         Some(row) => {
             let on = row.on;
-            Ok(format!(in alloc; "slot {}, channel {}, on {on}", row.slot, row.channel)?)
+            made(format!(in alloc; "slot {}, channel {}, on {on}", row.slot, row.channel))
         }
-        None => Ok(format!(in alloc; "no row")?),
+        None => made(format!(in alloc; "no row")),
     }
 }
 
@@ -91,10 +99,10 @@ fn schedule_text(alloc: Global, schedule: &Schedule) -> Result<String, OutOfMemo
         .as_slice()
         .first()
         .map(|d| (d.lane, d.first, d.count));
-    Ok(format!(in alloc;
+    made(format!(in alloc;
         "skews {:?}, flip {flip:?}, dark {dark:?}",
         schedule.skews.as_slice()
-    )?)
+    ))
 }
 
 fn schedule_of(alloc: Global, bytes: &[u8]) -> Result<String, OutOfMemory>
@@ -106,47 +114,48 @@ fn schedule_of(alloc: Global, bytes: &[u8]) -> Result<String, OutOfMemory>
     }
 }
 
-fn refusals(alloc: Global) -> Result<String, OutOfMemory> {
-    let absent = refusal_text(alloc, &PlanError::NoFile)?;
-    let large = refusal_text(alloc, &PlanError::TooLarge)?;
-    let missing = refusal_text(alloc, &PlanError::Missing(Key::Metaframe))?;
-    let key = refusal_text(alloc, &PlanError::UnknownKey(12))?;
-    let number = refusal_text(alloc, &PlanError::Number(1))?;
-    Ok(format!(in alloc; "{absent}; {large}; {missing}; {key}; {number}")?)
+fn add_refusal(alloc: Global, text: &mut String, why: &PlanError) -> Result<(), OutOfMemory> {
+    let refusal = refusal_text(alloc, why)?;
+    add_part(text, refusal.as_str())
+}
+
+fn refusals(alloc: Global, whys: &[PlanError]) -> Result<String, OutOfMemory> {
+    let mut text = String::new(alloc);
+    for why in whys {
+        add_refusal(alloc, &mut text, why)?;
+    }
+    Ok(text)
 }
 
 /// Tells what plans, and the files of rows that they name, are read as.
 pub fn tell_all(rt: &HostRuntime) -> io::Result<()> {
+    let alloc = rt.alloc();
     tell(
         rt,
         "a plan with a mark, quotes and defaults",
-        plan_of(rt.alloc(), PLAN),
+        plan_of(alloc, PLAN),
     )?;
     tell(
         rt,
         "a field that is no text, in a second row of a key",
-        plan_of(rt.alloc(), b"lanes,4\nlanes,4,\xFF"),
+        plan_of(alloc, b"lanes,4\nlanes,4,\xFF"),
     )?;
-    tell(
-        rt,
-        "a flow row",
-        flow_of(rt.alloc(), b"7,80BFffff000000a9\n"),
-    )?;
-    tell(rt, "a local row", local_of(rt.alloc(), b"0,3,off"))?;
+    tell(rt, "a flow row", flow_of(alloc, b"7,80BFffff000000a9\n"))?;
+    tell(rt, "a local row", local_of(alloc, b"0,3,off"))?;
     tell(
         rt,
         "a local row of another channel",
-        local_of(rt.alloc(), b"0,3,off\n0,4,off"),
+        local_of(alloc, b"0,3,off\n0,4,off"),
     )?;
     tell(
         rt,
         "a schedule",
-        schedule_of(rt.alloc(), b"flip,3,11594\nskew,1,469\ndark,2,0,7"),
+        schedule_of(alloc, b"flip,3,11594\nskew,1,469\ndark,2,0,7"),
     )?;
     tell(
         rt,
         "a flip of another lane",
-        schedule_of(rt.alloc(), b"flip,0,1\nflip,4,1"),
+        schedule_of(alloc, b"flip,0,1\nflip,4,1"),
     )?;
-    tell(rt, "refusals of plans", refusals(rt.alloc()))
+    tell(rt, "refusals of plans", refusals(alloc, REFUSALS))
 }

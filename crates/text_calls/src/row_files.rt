@@ -2,7 +2,7 @@
 ghost use Rattle.std.specs.Prelude.{IsTrue, map};
 ghost use Rattle.csv_rows.specs.Tables.{shown, is_table};
 
-use crate::telling::{tell, text_in};
+use crate::telling::{made, tell, text_in};
 use csv::ByteRecord;
 use csv_rows::{
     Form, NotTaken, RowRule, Rule, Times, field_of, next_row, read_rows, rows, text_of, told_in,
@@ -51,12 +51,16 @@ impl RowRule for FieldCounts {
     }
 }
 
-fn a_row(alloc: Global) -> Result<String, OutOfMemory> {
+fn first_row(alloc: Global, row: &mut ByteRecord) -> Result<bool, OutOfMemory> {
     let mut reader = rows(alloc, ROWS);
+    next_row(&mut reader, row)
+}
+
+fn a_row(alloc: Global) -> Result<String, OutOfMemory> {
     let mut row = ByteRecord::new(alloc);
-    let found = next_row(&mut reader, &mut row)?;
+    let found = first_row(alloc, &mut row)?;
     let field = text_in(field_of(&row, 1));
-    Ok(format!(in alloc; "found {found}, field 1 is {field}")?)
+    made(format!(in alloc; "found {found}, field 1 is {field}"))
 }
 
 fn a_key(alloc: Global) -> Result<String, OutOfMemory> {
@@ -64,9 +68,9 @@ fn a_key(alloc: Global) -> Result<String, OutOfMemory> {
         Ok(told) => {
             let out = text_of(alloc, keys(), told.rows.as_slice(), 1)?;
             let count = told.items.len();
-            Ok(format!(in alloc; "{count} rows, out is {:?}", out.as_deref())?)
+            made(format!(in alloc; "{count} rows, out is {:?}", out.as_deref()))
         }
-        Err(why) => Ok(format!(in alloc; "{why:?}")?),
+        Err(why) => made(format!(in alloc; "{why:?}")),
     }
 }
 
@@ -75,12 +79,13 @@ fn a_rule(alloc: Global) -> Result<String, OutOfMemory> {
         counts: Vec::new(alloc),
     };
     let taken = read_rows(alloc, ROWS, &mut rule);
-    Ok(format!(in alloc; "{taken:?}, fields {:?}", rule.counts.as_slice())?)
+    made(format!(in alloc; "{taken:?}, fields {:?}", rule.counts.as_slice()))
 }
 
 /// Tells what the rows of two keys are read as.
 pub fn tell_all(rt: &HostRuntime) -> io::Result<()> {
-    tell(rt, "a row with its fields", a_row(rt.alloc()))?;
-    tell(rt, "the text of a key", a_key(rt.alloc()))?;
-    tell(rt, "a rule that takes each row", a_rule(rt.alloc()))
+    let alloc = rt.alloc();
+    tell(rt, "a row with its fields", a_row(alloc))?;
+    tell(rt, "the text of a key", a_key(alloc))?;
+    tell(rt, "a rule that takes each row", a_rule(alloc))
 }

@@ -1,5 +1,5 @@
 use lk_base::OutOfMemory;
-use std::alloc::Global;
+use std::alloc::{AllocError, Global};
 use std::io;
 
 /// Prints what calls came to, in one line behind a name.
@@ -27,6 +27,23 @@ pub fn text_in(bytes: &[u8]) -> &str {
     match str::from_utf8(bytes) {
         Ok(text) => text,
         Err(_) => "no UTF-8",
+    }
+}
+
+/// Adds a part to a text, behind a semicolon where others stand before it.
+pub fn add_part(text: &mut String, part: &str) -> Result<(), OutOfMemory> {
+    if !text.is_empty() {
+        text.push_str("; ")?;
+    }
+    text.push_str(part)?;
+    Ok(())
+}
+
+/// A text that found its memory.
+pub fn made(text: Result<String, AllocError>) -> Result<String, OutOfMemory> {
+    match text {
+        Ok(text) => Ok(text),
+        Err(_) => Err(OutOfMemory),
     }
 }
 
