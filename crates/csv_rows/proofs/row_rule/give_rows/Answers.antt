@@ -1,4 +1,4 @@
-use Rattle.std.proofs.Common.{◌∙◌, ◌+◌, length, ap, arith, rules}
+use Rattle.std.proofs.Common.{◌∙◌, ◌+◌, length, ap, arith}
 use Rattle.csv.specs.Records.{fields_of}
 use Rattle.csv_rows.specs.Behind.{said_in}
 use Rattle.csv_rows.specs.Reading.{rows_left}
@@ -31,4 +31,4 @@ returns-in-Err-Fault-clause-refused g c =
     let gives = rw c.in-Ok-true.field-0-test at (c.in-Ok-true.ensures {u = tt}) in
     let took = c.in-Err-Fault.ensures {u = tt} in
     row-refused (said_in (g.R.RowRule.reads (g.R.RowRule.given c.args.rule.now)) (rows_left c.args.rdr.now)) (c.loop-number.number + 1) c.in-Err-Fault.fault (said-refused (g.R.RowRule.reads (g.R.RowRule.given c.args.rule.now)) (g.R.RowRule.reads (g.R.RowRule.given c.loop-number.rule)) (g.R.RowRule.HasTaken c.loop-number.rule) c.loop-number.number
-    (fields_of c.next_row.new.row) (rows_left c.loop-number.rdr) (rows_left c.next_row.new.rdr) (rows_left c.args.rdr.now) c.in-Err-Fault.fault (ap g.R.RowRule.reads inv.same) inv.so_far gives.1 (λ before held. took.fault c.in-Err-Fault.fault before (search rules) held))
+    (fields_of c.next_row.new.row) (rows_left c.loop-number.rdr) (rows_left c.next_row.new.rdr) (rows_left c.args.rdr.now) c.in-Err-Fault.fault (ap g.R.RowRule.reads inv.same) inv.so_far gives.1 (λ before held. took.fault c.in-Err-Fault.fault before c.in-Err-Fault.field-0-is held))
