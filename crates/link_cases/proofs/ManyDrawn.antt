@@ -61,3 +61,14 @@ viewed-more {X} {V} one view old new value state now n x e f g h k =
           ∙ sym (ap (λ (p : Drawn (List X)). p.0) more),
       h ∙ ap (λ s. (one s).1) f ∙ sym (ap (λ (p : Drawn (List X)). p.1) more),
     )
+
+-- values so far as they are drawn, one more
+pub drawn-more : {X : Type 0} (one : ℕ → Drawn X) (old new : List X) (value : X) (state now n x : ℕ) → old ≡ (many one n x).0 → state ≡ (many one n x).1 → value ≡ (one state).0 → now ≡ (one state).1 → new ≡ old ++ value ∷ []
+    → (new ≡ (many one (n + 1) x).0) × (now ≡ (many one (n + 1) x).1)
+drawn-more {X} one old new value state now n x e f g h k =
+    let before = (many one n x).0 in
+    let more = many_more one n x in
+    let same : value ≡ (one (many one n x).1).0 = g ∙ ap (λ s. (one s).0) f in (
+      k ∙ ap (λ (xs : List X). xs ++ value ∷ []) e ∙ ap (λ (v : X). before ++ v ∷ []) same ∙ sym (ap (λ (p : Drawn (List X)). p.0) more),
+      h ∙ ap (λ s. (one s).1) f ∙ sym (ap (λ (p : Drawn (List X)). p.1) more),
+    )

@@ -1,10 +1,10 @@
-ghost use Rattle.std.specs.Prelude.{◌≡◌, ◌<◌, ◌^◌, IfOk, length, map};
+ghost use Rattle.std.specs.Prelude.{◌≡◌, ◌<◌, ◌^◌, [], ◌∷◌, ◌++◌, IfOk, OnOk, length, map};
 ghost use Rattle.std.specs.List.{enumerate_from};
 ghost use Rattle.csv.specs.Records.{fields_of};
 ghost use Rattle.link_plan.specs.ScheduleViews.{flip_value};
 ghost use Rattle.link_cases.specs.Texts.{rows_text, skew_row, flip_row, schedule_rows};
 
-use crate::rows::{digits, text_of, triple};
+use crate::rows::{digits, push_row, text_of, triple};
 use csv::ByteRecord;
 use link_plan::Flip;
 use lk_base::OutOfMemory;
@@ -28,16 +28,34 @@ fn flip_row(alloc: Global, flip: Flip) -> Result<ByteRecord, AllocError>
     triple(alloc, "flip", number.as_str(), bit.as_str())
 }
 
+// Adds the skew of a lane to the rows.
+fn push_skew(
+    alloc: Global,
+    rows: &mut Vec<ByteRecord>,
+    lane: u64,
+    bits: u32,
+) -> Result<(), OutOfMemory>
+    ensures { OnOk result (map fields_of rows.new.items ≡ map fields_of rows.old.items ++ skew_row (lane, bits) ∷ []) }
+{
+    let row = skew_row(alloc, lane, bits)?;
+    push_row(rows, row)
+}
+
+// Adds an inverted bit to the rows.
+fn push_flip(alloc: Global, rows: &mut Vec<ByteRecord>, flip: Flip) -> Result<(), OutOfMemory>
+    ensures { OnOk result (map fields_of rows.new.items ≡ map fields_of rows.old.items ++ flip_row (flip_value flip) ∷ []) }
+{
+    let row = flip_row(alloc, flip)?;
+    push_row(rows, row)
+}
+
 // A row for each skew.
 fn skew_rows(alloc: Global, skews: &[u32]) -> Result<Vec<ByteRecord>, OutOfMemory>
     ensures { IfOk result (λ v. map fields_of v.items ≡ map skew_row (enumerate_from 0 skews.now)) }
 {
     let mut rows = Vec::new(alloc);
     for (lane, bits) in skews.iter().enumerate() {
-        let row = skew_row(alloc, lane as u64, *bits)?;
-        if rows.push(row).is_err() {
-            return Err(OutOfMemory);
-        }
+        push_skew(alloc, &mut rows, lane as u64, *bits)?;
     }
     Ok(rows)
 }
@@ -52,10 +70,7 @@ fn schedule_rows(
 {
     let mut rows = skew_rows(alloc, skews)?;
     for flip in flips {
-        let row = flip_row(alloc, *flip)?;
-        if rows.push(row).is_err() {
-            return Err(OutOfMemory);
-        }
+        push_flip(alloc, &mut rows, *flip)?;
     }
     Ok(rows)
 }

@@ -1,6 +1,6 @@
-ghost use Rattle.std.specs.Prelude.{◌≡◌, IfOk, string_bytes};
-ghost use Rattle.std.specs.Fmt.{WritesOnOk};
-ghost use Rattle.pcap_files.specs.declared.error.PcapError.TheVariants.{Magic};
+ghost use Rattle.std.specs.Prelude.{◌≡◌, ◌++◌, IfOk, codes, string_bytes};
+ghost use Rattle.std.specs.Fmt.{WritesOnOk, decimal};
+ghost use Rattle.pcap_files.specs.declared.error.PcapError.TheVariants.{Magic, Version, Long};
 ghost use Rattle.pcap_files.specs.Texts.{refusal_text};
 
 use lk_base::OutOfMemory;
@@ -33,6 +33,27 @@ fn write_magic<W: fmt::Write>(f: &mut fmt::Formatter<W>, magic: u32) -> fmt::Res
     write!(f, "magic {magic:08X}")
 }
 
+// Writes the text of a wrong version.
+fn write_version<W: fmt::Write>(f: &mut fmt::Formatter<W>, major: u16, minor: u16) -> fmt::Result
+    ensures { WritesOnOk W.write_str_gives f.old result (refusal_text (Version major minor)) f.new }
+{
+    write!(f, "version {major}.{minor}")
+}
+
+// Writes what is wrong, and at which offset or with which record.
+fn write_number<W: fmt::Write>(f: &mut fmt::Formatter<W>, what: &str, number: u64) -> fmt::Result
+    ensures { WritesOnOk W.write_str_gives f.old result (what.now ++ (codes " " ++ decimal number)) f.new }
+{
+    write!(f, "{what} {number}")
+}
+
+// Writes the text of a record that is too long.
+fn write_long<W: fmt::Write>(f: &mut fmt::Formatter<W>, number: u64, length: u32) -> fmt::Result
+    ensures { WritesOnOk W.write_str_gives f.old result (refusal_text (Long number length)) f.new }
+{
+    write!(f, "long record {number} length {length}")
+}
+
 impl fmt::Display for PcapError {
     ghost use Rattle.std.specs.Prelude.{Some};
     ghost use Rattle.pcap_files.specs.Texts.{refusal_text};
@@ -40,13 +61,13 @@ impl fmt::Display for PcapError {
     ghost output = { λ e. Some (refusal_text e) };
 
     fn fmt<W: fmt::Write>(&self, f: &mut fmt::Formatter<W>) -> fmt::Result {
-        match self {
-            PcapError::Magic(magic) => write_magic(f, *magic),
-            PcapError::NgFile => write!(f, "pcapng"),
-            PcapError::Version(major, minor) => write!(f, "version {major}.{minor}"),
-            PcapError::Short(offset) => write!(f, "short at {offset}"),
-            PcapError::Empty(number) => write!(f, "empty record {number}"),
-            PcapError::Long(number, length) => write!(f, "long record {number} length {length}"),
+        match *self {
+            PcapError::Magic(magic) => write_magic(f, magic),
+            PcapError::NgFile => f.write_str("pcapng"),
+            PcapError::Version(major, minor) => write_version(f, major, minor),
+            PcapError::Short(offset) => write_number(f, "short at", offset),
+            PcapError::Empty(number) => write_number(f, "empty record", number),
+            PcapError::Long(number, length) => write_long(f, number, length),
         }
     }
 }

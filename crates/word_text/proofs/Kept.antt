@@ -15,5 +15,8 @@ kept-then old more mid new e k =
     kept-put old (more ++ drop (length mid) new) new
     (sym (take-append-drop (length mid) new) ∙ ap (λ (l : List ℕ). l ++ drop (length mid) new) (k ∙ e) ∙ append_assoc old more (drop (length mid) new))
 
+pub kept-trans : (old mid new : List ℕ) → IsKept old mid → IsKept mid new → IsKept old new
+kept-trans old mid new h k = kept-then old (drop (length old) mid) mid new (sym (take-append-drop (length old) mid) ∙ ap (λ (l : List ℕ). l ++ drop (length old) mid) h) k
+
 pub kept-by : (old more mid new : List ℕ) → mid ≡ old ++ more → new ≡ mid → IsKept old new
 kept-by old more mid new e f = kept-put old more new (f ∙ e)

@@ -8,11 +8,12 @@ use Rattle.word_text.specs.CodeLines.{rest_line}
 use Rattle.word_text.specs.Refusals.{IsRestLine, HasNoWholeBytes}
 use Rattle.word_text.specs.Bytes.{CodesPut, TakesBytes, PutsBytes}
 use Rattle.word_text.specs.declared.piece.Piece.{Piece}
+use Rattle.word_text.proofs.Kept.{kept-trans}
 use Rattle.word_text.proofs.Taking.{takes-then, takes-count}
 use Rattle.word_text.proofs.Rests.{no-rest}
 use Rattle.word_text.proofs.Lanes.{no-end-there}
 use Rattle.word_text.proofs.LaneEnds.{no-whole, wrong-code, wrong-behind, all-put, last-line}
-use Rattle.word_text.proofs.lane_text.put_lane.Goals as goal
+use Rattle.word_text.proofs.lane_text.put_lines.Goals as goal
 
 abbrev Told : Option Piece → List ℕ → Type 0
 Told o line = MatchOption o (IsRestLine line → ⊥) (λ rest. (0 < rest.count) × (rest.count < 67) × (rest.bits < 2 ^ rest.count) × (line ≡ rest_line (bits_of rest.count rest.bits)))
@@ -23,6 +24,8 @@ record IsRest (rest : Piece) (line : List ℕ) : Type 0 where
   short : length (bits_of rest.count rest.bits) < 67
   size : length (bits_of rest.count rest.bits) ≡ rest.count
   is : line ≡ rest_line (bits_of rest.count rest.bits)
+  narrow : rest.count < 67
+  below : rest.bits < 2 ^ rest.count
 
 no-one : (o : Option Piece) (line : List ℕ) → o ≡ None → Told o line → IsRestLine line → ⊥
 no-one None line e h = h
@@ -34,7 +37,7 @@ one (Some v) w line e h =
     let same : v ≡ w = cc in
     let size = length-bits_of v.count v.bits in
     let (some, short, low, is) = h in
-    subst (λ (x : Piece). IsRest x line) same (record { some = omega (arith, size, some); short = omega (arith, size, short); size = size; is = is })
+    subst (λ (x : Piece). IsRest x line) same (record { some = omega (arith, size, some); short = omega (arith, size, short); size = size; is = is; narrow = short; below = low })
 
 empty : (left : List ℕ) → length left ≡ 0 → left ≡ []
 empty [] h = refl
@@ -113,3 +116,45 @@ returns-clause-answer c =
     let rest = one c.in_ok-rest.field-0 c.in-Some-2.rest c.in-Some.line.now c.in-Some-2.is (c.in_ok-rest.ensures {u = tt}) in
     rest-whole (ended lane_head ++ c.args.lines.now) c.in_ok-end.end.left.now c.in-Some.line.now c.in-Some.more.now c.in_ok-end.end.number c.put_codes.new.writer c.args.out.now.items c.put_codes.new.out.items c.put_last.new.bytes.items c.in-Some-2.rest end.codes
     (c.in-Some.ensures {u = tt}).cut (none-by _ _ c.is_empty-2.ensures c.if-not-is_empty.false) rest (c.in_ok-put_last.ensures {u = tt}).bits
+
+pub returns-then-end-ne0-clause-kept : goal.returns-then-end-ne0-clause-kept
+returns-then-end-ne0-clause-kept c = (c.in_ok-end.ensures {u = tt}).kept
+
+pub returns-then-is_empty-clause-kept : goal.returns-then-is_empty-clause-kept
+returns-then-is_empty-clause-kept c = (c.in_ok-end.ensures {u = tt}).kept
+
+pub returns-in_default-clause-kept : goal.returns-in_default-clause-kept
+returns-in_default-clause-kept c = (c.in_ok-end.ensures {u = tt}).kept
+
+pub returns-in_default-2-clause-kept : goal.returns-in_default-2-clause-kept
+returns-in_default-2-clause-kept c = (c.in_ok-end.ensures {u = tt}).kept
+
+pub returns-then-not-is_empty-clause-kept : goal.returns-then-not-is_empty-clause-kept
+returns-then-not-is_empty-clause-kept c = (c.in_ok-end.ensures {u = tt}).kept
+
+pub returns-then-end-rest-ne0-clause-kept : goal.returns-then-end-rest-ne0-clause-kept
+returns-then-end-rest-ne0-clause-kept c = (c.in_ok-end.ensures {u = tt}).kept
+
+pub returns-clause-kept : goal.returns-clause-kept
+returns-clause-kept c = kept-trans c.args.out.now.items c.put_codes.new.out.items c.put_last.new.bytes.items (c.in_ok-end.ensures {u = tt}).kept (c.in_ok-put_last.ensures {u = tt}).kept
+
+pub returns-in_err-put_last-clause-kept : goal.returns-in_err-put_last-clause-kept
+returns-in_err-put_last-clause-kept c = kept-trans c.args.out.now.items c.put_codes.new.out.items c.put_last.new.bytes.items (c.in_ok-end.ensures {u = tt}).kept (c.in_err-put_last.ensures {u = tt}).kept
+
+pub put_last-requires-clause-waiting : goal.put_last-requires-clause-waiting
+put_last-requires-clause-waiting c = (c.in_ok-end.ensures {u = tt}).waiting.0
+
+pub put_last-requires-clause-few : goal.put_last-requires-clause-few
+put_last-requires-clause-few c = (c.in_ok-end.ensures {u = tt}).waiting.1
+
+pub put_last-requires-clause-count : goal.put_last-requires-clause-count
+put_last-requires-clause-count c = (one c.in_ok-rest.field-0 c.in-Some-2.rest c.in-Some.line.now c.in-Some-2.is (c.in_ok-rest.ensures {u = tt})).narrow
+
+pub put_last-requires-clause-below : goal.put_last-requires-clause-below
+put_last-requires-clause-below c = (one c.in_ok-rest.field-0 c.in-Some-2.rest c.in-Some.line.now c.in-Some-2.is (c.in_ok-rest.ensures {u = tt})).below
+
+pub put_last-requires-clause-whole : goal.put_last-requires-clause-whole
+put_last-requires-clause-whole c = c.if-end-rest-ne0.false
+
+pub overflow_add-result : goal.overflow_add-result
+overflow_add-result c = let few = (c.in_ok-end.ensures {u = tt}).few in omega (arith, few)
