@@ -59,12 +59,8 @@ impl CalendarIn {
     pub fn make(alloc: Global, entries: &[u16]) -> Result<CalendarIn, OutOfMemory>
         ensures { IfOk result (λ calendar. Stands calendar entries.now []) }
     {
-        let mut on = Vec::new(alloc);
-        for _channel in 0..65536usize {
-            on.push(true)?;
-        }
-        let mut own = Vec::new(alloc);
-        own.extend_from_slice(entries)?;
+        let on = vec![in alloc; true; 65536]?;
+        let own = Vec::from_slice(alloc, entries)?;
         Ok(CalendarIn {
             entries: own,
             next: None,

@@ -34,12 +34,8 @@ impl CalendarOut {
         requires high { length entries.now ≤ 1024 }
         ensures { IfOk result (λ calendar. StandsOut calendar entries.now [] 0) }
     {
-        let mut on = Vec::new(alloc);
-        for _channel in 0..65536usize {
-            on.push(true)?;
-        }
-        let mut own = Vec::new(alloc);
-        own.extend_from_slice(entries)?;
+        let on = vec![in alloc; true; 65536]?;
+        let own = Vec::from_slice(alloc, entries)?;
         Ok(CalendarOut {
             entries: own,
             first: 0,
