@@ -1,3 +1,4 @@
+use Rattle.std.proofs.lemmas.Grind.{common_steps}
 use Rattle.std.proofs.Common.{◌≡◌, ◌∙◌, ap, refl, true, false, arith, rules, length, replicate}
 use Rattle.std.proofs.lemmas.List.{get_or-replicate, length-replicate}
 use Rattle.stream_model.specs.Calendar.{word_number}
@@ -14,3 +15,6 @@ returns c =
       next = refl;
       states = λ channel h. rw on (get_or-replicate 65536 channel true false h);
     }
+
+pub loop-channel-preserved : goal.loop-channel-preserved
+loop-channel-preserved c = grind (arith, common_steps)
