@@ -1,4 +1,4 @@
-use Rattle.std.proofs.Common.{◌≡◌, ℕ, ◌+◌, ◌<◌, length, ap, sym, ◌∙◌, arith, false, true, nat_lt, get_or}
+use Rattle.std.proofs.Common.{◌≡◌, ℕ, ◌+◌, ◌<◌, length, ap, sym, ◌∙◌, arith, false, true, nat_lt, get_or, rules}
 use Rattle.std.proofs.lemmas.List.{get_or_default}
 use Rattle.std.proofs.lemmas.Bool.Decides.{nat_tests}
 use Rattle.stream_model.specs.Calendar.{first_entry}
@@ -18,3 +18,6 @@ returns-then-n-len c entries local j t s all =
     let below : c.index-channel.result.now < length c.args.self.now.on.items = omega (arith, s.wide) in
     rw test (c.index.ensures ∙ get_or_default c.args.self.now.on.items c.index-channel.result.now c.index.result.now false below ∙ s.states c.index-channel.result.now small
     ∙ ap (last_local local) channel ∙ sym (local_all local (get_or entries (first_entry entries j + c.args.place) 0) t all))
+
+pub returns-else-n-len : goal.returns-else-n-len
+returns-else-n-len c = search rules

@@ -1,4 +1,4 @@
-use Rattle.std.proofs.Common.{◌≡◌, ◌+◌, ◌*◌, ◌^◌, ◌<◌, ◌≤◌, length, ap, sym, ◌∙◌, arith}
+use Rattle.std.proofs.Common.{◌≡◌, ◌+◌, ◌*◌, ◌^◌, ◌<◌, ◌≤◌, length, ap, sym, ◌∙◌, arith, rules}
 use Rattle.stream_model.specs.Calendar.{calendar_bit}
 use Rattle.std.proofs.lemmas.Nat.{pow-add}
 use Rattle.calendar.proofs.Turn.{more, again, first_small, one_bit, is_bit, bits_more}
@@ -27,3 +27,6 @@ returns-clause-stands c entries local j s =
       | then-after-len w ↦ record { shown = s.shown; low = s.low; wide = s.wide; first = w.self-is ∙ ap (λ n. n + 16) s.first ∙ sym (more entries j low (omega (arith, s.first, ap length s.shown, w.if-after-len.true))); states = s.states }
       | else-after-len w ↦ record { shown = s.shown; low = s.low; wide = s.wide; first = w.self-is ∙ sym (again entries j low (omega (arith, s.first, ap length s.shown, w.if-after-len.false))); states = s.states }
     ]
+
+pub returns-clause-reset : goal.returns-clause-reset
+returns-clause-reset c = search rules
