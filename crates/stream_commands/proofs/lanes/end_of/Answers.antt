@@ -23,3 +23,21 @@ returns c = λ s words outs k stream.
           (c.slots.ensures.count s source words outs k)
           (c.in_ok-lines.ensures ∙ ap (λ (cs : List SentCount). counted_lines cs c.slots.result) c.deref.ensures.value);
     }
+
+pub sent-requires : goal.sent-requires
+sent-requires c = let (s, words, outs, k, stream) = c.requires.whole in (s, source_of c.args.source.now, words, outs, k)
+
+pub slots-requires : goal.slots-requires
+slots-requires c = let (s, words, outs, k, stream) = c.requires.whole in (s, source_of c.args.source.now, words, outs, k)
+
+pub held-requires : goal.held-requires
+held-requires c = let (s, words, outs, k, stream) = c.requires.whole in (s, source_of c.args.source.now, words, outs, k)
+
+pub count_listed-requires-clause-narrow : goal.count_listed-requires-clause-narrow
+count_listed-requires-clause-narrow c = c.requires.kept.narrow
+
+pub count_listed-requires-clause-listed : goal.count_listed-requires-clause-listed
+count_listed-requires-clause-listed c = c.requires.kept.listed
+
+pub count_listed-requires-clause-sized : goal.count_listed-requires-clause-sized
+count_listed-requires-clause-sized c = c.requires.kept.sized

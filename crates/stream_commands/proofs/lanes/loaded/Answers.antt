@@ -26,3 +26,42 @@ loop-packet-preserved c =
     subst (λ (ps : List (ℕ × List ℕ)). Sends c.packet.new.self c.args.link.now (record { shape = a.shape; channels = a.channels.now; entries = a.entries.now; packets = ps; flow = a.flow.now; local = a.local.now }) [] [])
     (one_packet a.packets.now i no_packet c.loop-packet-test.true)
     (c.in_ok-packet.ensures.ok c.args.link.now source c.loop-packet.invariant fits.0 fits.1)
+
+pub make-requires-clause-channels_low : goal.make-requires-clause-channels_low
+make-requires-clause-channels_low c = c.requires.kept.channels_low
+
+pub make-requires-clause-channels_high : goal.make-requires-clause-channels_high
+make-requires-clause-channels_high c = c.requires.kept.channels_high
+
+pub make-requires-clause-entries_low : goal.make-requires-clause-entries_low
+make-requires-clause-entries_low c = c.requires.kept.entries_low
+
+pub make-requires-clause-entries_high : goal.make-requires-clause-entries_high
+make-requires-clause-entries_high c = c.requires.kept.entries_high
+
+pub make-requires-clause-distinct : goal.make-requires-clause-distinct
+make-requires-clause-distinct c = c.requires.kept.distinct
+
+pub make-requires-clause-narrow : goal.make-requires-clause-narrow
+make-requires-clause-narrow c = c.requires.kept.narrow
+
+pub make-requires-clause-among : goal.make-requires-clause-among
+make-requires-clause-among c = c.requires.kept.among
+
+pub make-requires-clause-flow_in_order : goal.make-requires-clause-flow_in_order
+make-requires-clause-flow_in_order c = c.requires.kept.flow_in_order
+
+pub make-requires-clause-flow_low : goal.make-requires-clause-flow_low
+make-requires-clause-flow_low c = c.requires.kept.flow_low
+
+pub make-requires-clause-local_in_order : goal.make-requires-clause-local_in_order
+make-requires-clause-local_in_order c = c.requires.kept.local_in_order
+
+pub loop-packet-init : goal.loop-packet-init
+loop-packet-init c = c.in_ok-transmitter.ensures c.args.source.now.shape c.requires.suits
+
+pub packet-requires-clause-low : goal.packet-requires-clause-low
+packet-requires-clause-low c = (c.requires.kept.sized c.loop-packet.packet-index no_packet c.loop-packet-test.true).0
+
+pub packet-requires-clause-high : goal.packet-requires-clause-high
+packet-requires-clause-high c = (c.requires.kept.sized c.loop-packet.packet-index no_packet c.loop-packet-test.true).1

@@ -24,3 +24,48 @@ returns c =
           (c.len.ensures ∙ sym c.deref.ensures.len ∙ ap length c.deref.ensures.value)
           (c.in_ok-lines.ensures ∙ ap (λ (cs : List SentCount). counted_lines cs c.len.result) c.deref-2.ensures.value);
     }
+
+pub words_of-requires-clause-channels_low : goal.words_of-requires-clause-channels_low
+words_of-requires-clause-channels_low c = c.requires.channels_low
+
+pub words_of-requires-clause-channels_high : goal.words_of-requires-clause-channels_high
+words_of-requires-clause-channels_high c = c.requires.channels_high
+
+pub words_of-requires-clause-entries_low : goal.words_of-requires-clause-entries_low
+words_of-requires-clause-entries_low c = c.requires.entries_low
+
+pub words_of-requires-clause-entries_high : goal.words_of-requires-clause-entries_high
+words_of-requires-clause-entries_high c = c.requires.entries_high
+
+pub words_of-requires-clause-distinct : goal.words_of-requires-clause-distinct
+words_of-requires-clause-distinct c = c.requires.distinct
+
+pub words_of-requires-clause-narrow : goal.words_of-requires-clause-narrow
+words_of-requires-clause-narrow c = c.requires.narrow
+
+pub words_of-requires-clause-among : goal.words_of-requires-clause-among
+words_of-requires-clause-among c = c.requires.among
+
+pub words_of-requires-clause-listed : goal.words_of-requires-clause-listed
+words_of-requires-clause-listed c = c.requires.listed
+
+pub words_of-requires-clause-sized : goal.words_of-requires-clause-sized
+words_of-requires-clause-sized c = c.requires.sized
+
+pub words_of-requires-clause-flow_in_order : goal.words_of-requires-clause-flow_in_order
+words_of-requires-clause-flow_in_order c = c.requires.flow_in_order
+
+pub words_of-requires-clause-flow_low : goal.words_of-requires-clause-flow_low
+words_of-requires-clause-flow_low c = c.requires.flow_low
+
+pub words_of-requires-clause-local_in_order : goal.words_of-requires-clause-local_in_order
+words_of-requires-clause-local_in_order c = c.requires.local_in_order
+
+pub count_sent-requires-clause-narrow : goal.count_sent-requires-clause-narrow
+count_sent-requires-clause-narrow c = c.requires.narrow
+
+pub count_sent-requires-clause-listed : goal.count_sent-requires-clause-listed
+count_sent-requires-clause-listed c = c.requires.listed
+
+pub count_sent-requires-clause-sized : goal.count_sent-requires-clause-sized
+count_sent-requires-clause-sized c = c.requires.sized

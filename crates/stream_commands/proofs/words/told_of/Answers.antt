@@ -18,3 +18,21 @@ returns c = λ made k stream.
           (c.slots-slots.ensures source made k)
           (c.in_ok-lines.ensures ∙ ap (λ (cs : List SentCount). counted_lines cs c.slots-slots.result) c.deref.ensures.value);
     }
+
+pub held-held-requires : goal.held-held-requires
+held-held-requires c = let (made, k, stream) = c.requires.whole in (source_of c.args.source.now, made, k)
+
+pub slots-slots-requires : goal.slots-slots-requires
+slots-slots-requires c = let (made, k, stream) = c.requires.whole in (source_of c.args.source.now, made, k)
+
+pub counts-requires-clause-streams : goal.counts-requires-clause-streams
+counts-requires-clause-streams c = let (made, k, stream) = c.requires.whole in (source_of c.args.source.now, made, k)
+
+pub counts-requires-clause-narrow : goal.counts-requires-clause-narrow
+counts-requires-clause-narrow c = c.requires.kept.narrow
+
+pub counts-requires-clause-listed : goal.counts-requires-clause-listed
+counts-requires-clause-listed c = c.requires.kept.listed
+
+pub counts-requires-clause-sized : goal.counts-requires-clause-sized
+counts-requires-clause-sized c = c.requires.kept.sized
