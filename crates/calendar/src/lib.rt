@@ -8,6 +8,3 @@ mod worded;
 pub use incoming::CalendarIn;
 pub use outgoing::CalendarOut;
 pub use worded::flow_word;
-
-#[cfg(test)]
-mod tests;

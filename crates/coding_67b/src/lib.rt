@@ -10,6 +10,3 @@ pub use codes::decode;
 pub use encoder::Encoder;
 pub use reader::BitReader;
 pub use writer::BitWriter;
-
-#[cfg(test)]
-mod tests;

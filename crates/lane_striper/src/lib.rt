@@ -6,6 +6,3 @@ mod places;
 
 pub use lists::{gather, gathered_is_striped, stripe};
 pub use places::{lane_of, number_of, place_of};
-
-#[cfg(test)]
-mod tests;
