@@ -1,5 +1,5 @@
 //! The calls of `tx_end` on lanes.
-ghost use Rattle.std.specs.Prelude.{◌≡◌, ℕ, List, [], length, IfOk, OnOk};
+ghost use Rattle.std.specs.Prelude.{◌≡◌, List, [], length, IfOk, OnOk};
 ghost use Rattle.lk_base.specs.Link.{Settings};
 ghost use Rattle.lk_base.specs.declared.word.Word.{Word};
 ghost use Rattle.stream_model.specs.BurstStream.{Source};

@@ -1,5 +1,5 @@
 //! The calls of `burst_scheduler`.
-ghost use Rattle.std.specs.Prelude.{◌≡◌, ℕ, ◌<◌, List, [], length, false, IfOk, OnOk};
+ghost use Rattle.std.specs.Prelude.{◌≡◌, ◌<◌, [], length, false, IfOk, OnOk};
 ghost use Rattle.burst_scheduler.specs.Asked.{Asked};
 ghost use Rattle.burst_scheduler.specs.Gives.{Gives};
 
