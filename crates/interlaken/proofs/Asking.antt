@@ -1,5 +1,5 @@
 -- From a request to the words that ask for it.
-use Rattle.std.proofs.Common.{◌≡◌, ℕ, List, refl, sym, subst, Option, Some, None, IsSome, IsNone}
+use Rattle.std.proofs.Common.{◌≡◌, ℕ, refl, subst, Option, Some, None, IsSome, IsNone}
 use Rattle.lk_outside.specs.Files.{Files}
 use Rattle.run_shell.specs.Ended.{Ended}
 use Rattle.run_shell.specs.Ending.{IsEnding, IsMisused}

@@ -1,5 +1,5 @@
 -- A run of `generate` delivers.
-use Rattle.std.proofs.Common.{◌≡◌, ℕ, List, subst, Option, Some, None, IfSome}
+use Rattle.std.proofs.Common.{ℕ, List, subst, Option, Some, None, IfSome}
 use Rattle.lk_base.specs.declared.word.Word.{Word}
 use Rattle.lk_outside.specs.Files.{Files}
 use Rattle.run_shell.specs.declared.status.Status.{Status}

@@ -1,5 +1,5 @@
 -- Whatever words ask for, it has one outcome.
-use Rattle.std.proofs.Common.{◌≡◌, ℕ, List, refl, Option, Some, None, IsSome}
+use Rattle.std.proofs.Common.{ℕ, List, refl, Option, Some, None, IsSome}
 use Rattle.run_shell.specs.Meaning.{IsLawful, IsMeaning}
 use Rattle.run_shell.proofs.Endings.{misused_lawful, asked_lawful}
 use Rattle.stream_commands.proofs.CaptureWork.{capture_means}

@@ -20,8 +20,7 @@ use Rattle.csv_rows.proofs.Digits.{digit-byte}
 use Rattle.interlaken.specs.declared.table.Row.{Row as TableRow}
 use Rattle.interlaken.specs.declared.table.Rule.TheVariants.{File, NumberAndPrefix}
 use Rattle.interlaken.specs.Table.{Kind, shown, rows, row_in}
-use Rattle.interlaken.specs.Given.{Given}
-use Rattle.interlaken.specs.Arguments.{arguments_of, file_in, is_name, is_number, number_of_word, number_and_prefix_in}
+use Rattle.interlaken.specs.Arguments.{arguments_of, is_name, is_number, number_of_word, number_and_prefix_in}
 use Rattle.interlaken.specs.Request.{request_of, request_by}
 use Rattle.interlaken.specs.CommandLine.{before}
 use Rattle.interlaken.specs.Parser.{IsReadAs, bare_app, program_app, row_app, words_in}

@@ -1,13 +1,13 @@
 -- What the arguments of a command keep by its rule.
-use Rattle.std.proofs.Common.{◌≡◌, ℕ, ◌≤◌, length, Bool, true, false, List, [], ◌∷◌, Option, Some, None, refl, sym, ap, ◌∙◌, subst, arith, nat_lt, nat_le}
+use Rattle.std.proofs.Common.{◌≡◌, ℕ, ◌≤◌, length, Bool, true, false, List, [], ◌∷◌, Option, Some, None, refl, subst, arith, nat_lt, nat_le}
 use Rattle.std.proofs.lemmas.Bool.Decides.{nat_tests}
-use Rattle.std.specs.Prelude.{if◌then◌else◌, option_map}
+use Rattle.std.specs.Prelude.{if◌then◌else◌}
 use Rattle.std.specs.Str.{bytes_eq}
 use Rattle.clap.proofs.WalkLemmas.{both}
-use Rattle.interlaken.specs.declared.table.Rule.TheVariants.{File, NumberAndPrefix}
+use Rattle.interlaken.specs.declared.table.Rule.TheVariants.{NumberAndPrefix}
 use Rattle.interlaken.specs.Table.{Kind, rows, row_in}
 use Rattle.interlaken.specs.Given.{Given}
-use Rattle.interlaken.specs.Arguments.{arguments_of, is_name, number_and_prefix_in, number_of_word, prefix_in}
+use Rattle.interlaken.specs.Arguments.{arguments_of, is_name, number_and_prefix_in, number_of_word}
 use Rattle.interlaken.specs.Request.{IsGivenTo}
 
 abbrev IsShort : List ℕ → Type 0

@@ -1,6 +1,5 @@
 -- Numbers of at most 20 digits.
-use Rattle.std.proofs.Common.{◌≡◌, ℕ, ◌<◌, ◌≤◌, ◌^◌, arith, lit≤}
-use Rattle.csv_rows.proofs.Digits.{small-fits}
+use Rattle.std.proofs.Common.{ℕ, ◌<◌, ◌≤◌, ◌^◌, arith, lit≤}
 use Rattle.std.proofs.Math.Nat.{pow-le-pow_right}
 
 ten : 10 ^ 19 ≤ 10000000000000000000

@@ -1,19 +1,16 @@
 -- What is sent is sent while its channel is on.
-use Rattle.std.proofs.Common.{◌≡◌, ℕ, List, subst, Option, Some, None, IfSome, Ok}
+use Rattle.std.proofs.Common.{◌≡◌, ℕ, List, subst, Option, Some, None, IfSome}
 use Rattle.lk_base.specs.declared.word.Word.{Word}
 use Rattle.lk_outside.specs.Files.{Files}
 use Rattle.run_shell.specs.declared.status.Status.{Status}
 use Rattle.run_shell.specs.Outcome.{Output, Outcome, IsAnswer}
-use Rattle.run_shell.specs.Meaning.{Meaning}
 use Rattle.run_shell.specs.Run.{Found, Settles}
-use Rattle.run_shell.specs.Reading.{Work, meaning_by}
 use Rattle.run_shell.proofs.Works.{made_of}
 use Rattle.plan_inputs.specs.Inputs.{Reading}
 use Rattle.stream_commands.specs.Plan.{IsOfPlan, burst_plan_work, send_plan_work}
 use Rattle.stream_commands.specs.Off.{NoBurstWhenOff}
 use Rattle.stream_commands.proofs.NoBurstWhenOff.{burst_never, send_never}
 use Rattle.interlaken.specs.declared.request.Request.{Request}
-use Rattle.interlaken.specs.Request.{request_of}
 use Rattle.interlaken.specs.Meanings.{meaning_by as meaning_for}
 use Rattle.interlaken.specs.Run.{OutcomeOf}
 use Rattle.interlaken.specs.Off.{SendsWhenOn, BurstsWhenOn, LanesWhenOn}

@@ -1,5 +1,5 @@
 -- What a command is given: a number, where its rule asks for one, and a file or a prefix of files.
-use Rattle.std.specs.Prelude.{ℕ, ◌^◌, Bool, not, ◌&&◌, List, [], ◌∷◌, length, nat_le, nat_lt, nat_eq, slice_index, Option, Some, None, option_map, if◌then◌else◌}
+use Rattle.std.specs.Prelude.{ℕ, ◌^◌, Bool, not, ◌&&◌, List, [], ◌∷◌, length, nat_le, nat_lt, nat_eq, slice_index, Option, Some, None, if◌then◌else◌}
 use Rattle.std.specs.List.{list_all}
 use Rattle.std.specs.Char.{is_ascii_digit}
 use Rattle.csv_rows.specs.Fields.{decimal_from}

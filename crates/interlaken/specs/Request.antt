@@ -1,5 +1,5 @@
 -- What words ask for.
-use Rattle.std.specs.Prelude.{ℕ, ◌≤◌, length, Bool, nat_eq, List, [], ◌∷◌, Option, Some, None, option_map, option_and_then, if◌then◌else◌}
+use Rattle.std.specs.Prelude.{ℕ, ◌≤◌, length, Bool, nat_eq, List, [], ◌∷◌, Option, None, option_map, option_and_then, if◌then◌else◌}
 use Rattle.std.specs.List.{ends_with}
 use lib.Chars.{codes}
 use Rattle.case_commands.specs.Asked.{asked}

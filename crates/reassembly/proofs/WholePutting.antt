@@ -11,7 +11,7 @@ use Rattle.lk_base.specs.declared.word.Aligned.TheVariants.{Group, Word, Break}
 use Rattle.lk_base.specs.Positions.{is_before}
 use Rattle.receive_model.specs.Lists.{last_of}
 use Rattle.receive_model.specs.Positions.{Placed}
-use Rattle.receive_model.specs.Stretches.{Headed, Item, OfStretch, Verified, any_bad, between, data_among, data_number, fault_from, fault_of, headed, is_bad, is_control, item_fault, item_place, last_word, passes, passing_word, verified}
+use Rattle.receive_model.specs.Stretches.{Headed, Item, OfStretch, Verified, any_bad, between, data_among, data_number, fault_from, fault_of, headed, is_bad, is_control, item_place, last_word, passes, passing_word, verified}
 use Rattle.receive_model.specs.Stretches as items
 use Rattle.receive_model.specs.Spans.{last_span}
 use Rattle.receive_model.specs.Events.{Event, FaultSpan, Setting, no_word_span, outputs_at, outputs_from}

@@ -1,7 +1,7 @@
 //! The calls of `plan_inputs`: plans and their inputs, read from a store in memory.
 ghost use Rattle.std.specs.Prelude.{◌≡◌, ◌<◌, ◌≤◌, ◌^◌, IfOk, length};
 
-use crate::telling::{made, tell};
+use crate::telling::tell;
 use link_plan::{LocalRow, Plan, Schedule};
 use lk_base::OutOfMemory;
 use lk_outside::MemStore;
@@ -79,12 +79,12 @@ fn packets_text(alloc: Global, captures: &[CapturePackets]) -> Result<String, Ou
 
 fn inputs_text(alloc: Global, plan: &Plan, inputs: &PlanInputs) -> Result<String, OutOfMemory> {
     let packets = packets_text(alloc, &inputs.packets)?;
-    made(format!(in alloc;
+    Ok(format!(in alloc;
         "channels {}, packets{packets}, flow rows {}, local rows {}",
         plan.channels.len(),
         inputs.flow.len(),
         inputs.local.len()
-    ))
+    )?)
 }
 
 fn local_text(alloc: Global, rows: &[LocalRow]) -> Result<String, OutOfMemory> {
@@ -112,15 +112,15 @@ fn reading_text(
 ) -> Result<String, OutOfMemory> {
     let slots = slots_text(alloc, &reading.inputs)?;
     let local = local_text(alloc, &reading.inputs.local)?;
-    made(format!(in alloc;
+    Ok(format!(in alloc;
         "packets {}, slots of flow rows{slots}, local rows{local}, skews {:?}",
         reading.inputs.packets.len(),
         schedule.skews.as_slice()
-    ))
+    )?)
 }
 
 fn stop_text(alloc: Global, stop: &Stop) -> Result<String, OutOfMemory> {
-    made(format!(in alloc; "{stop:?}"))
+    Ok(format!(in alloc; "{stop:?}")?)
 }
 
 // Reads the inputs of a plan.

@@ -2,7 +2,7 @@
 ghost use Rattle.std.specs.Prelude.{◌≡◌, IsSome};
 ghost use Rattle.lk_outside.specs.Files.{file};
 
-use crate::telling::{made, tell, text_in};
+use crate::telling::{tell, text_in};
 use lk_base::OutOfMemory;
 use lk_outside::{MemSink, MemStore, Sink, Store, read_whole};
 use std::alloc::Global;
@@ -23,7 +23,7 @@ fn grow(alloc: Global, store: &mut MemStore, name: &str) -> Result<String, OutOf
     let read = store.read_at(name, 1, &mut buf);
     let again = store.read_at(name, 1, &mut [0; 8]);
     let text = text_in(&buf[..2]);
-    made(format!(in alloc; "append {appended:?}, read {read:?} {text}, read {again:?}"))
+    Ok(format!(in alloc; "append {appended:?}, read {read:?} {text}, read {again:?}")?)
 }
 
 fn create(alloc: Global, store: &mut MemStore, name: &str) -> Result<String, OutOfMemory>
@@ -31,10 +31,10 @@ fn create(alloc: Global, store: &mut MemStore, name: &str) -> Result<String, Out
 {
     let created = store.create(name);
     if created.is_err() {
-        return made(format!(in alloc; "create {created:?}"));
+        return Ok(format!(in alloc; "create {created:?}")?);
     }
     let grown = grow(alloc, store, name)?;
-    made(format!(in alloc; "create {created:?}, {grown}"))
+    Ok(format!(in alloc; "create {created:?}, {grown}")?)
 }
 
 // The second read is to fail.
@@ -45,7 +45,7 @@ fn make_calls(alloc: Global, store: &mut MemStore) -> Result<String, OutOfMemory
     store.put("a", b"old")?;
     let old = String::from_str(alloc, held(store, "a"))?;
     let created = create(alloc, store, "a")?;
-    made(format!(in alloc; "put {old}, {created}"))
+    Ok(format!(in alloc; "put {old}, {created}")?)
 }
 
 fn each_call(alloc: Global) -> Result<String, OutOfMemory> {
@@ -60,10 +60,10 @@ fn append_half(alloc: Global, store: &mut MemStore) -> Result<String, OutOfMemor
     store.fail(&[], &[], &[0])?;
     let created = store.create("a");
     if created.is_err() {
-        return made(format!(in alloc; "create {created:?}"));
+        return Ok(format!(in alloc; "create {created:?}")?);
     }
     let appended = store.append("a", b"abcde");
-    made(format!(in alloc; "{appended:?}, a holds {}", held(store, "a")))
+    Ok(format!(in alloc; "{appended:?}, a holds {}", held(store, "a"))?)
 }
 
 fn a_half(alloc: Global) -> Result<String, OutOfMemory> {
@@ -79,10 +79,10 @@ fn write_thrice(alloc: Global, sink: &mut MemSink) -> Result<String, OutOfMemory
     let first = sink.write(b"ab");
     let second = sink.write(b"cd");
     let third = sink.write(b"ef");
-    made(format!(in alloc;
+    Ok(format!(in alloc;
         "{first:?}, {second:?}, {third:?}, written {}",
         text_in(sink.written())
-    ))
+    )?)
 }
 
 fn three_writes(alloc: Global) -> Result<String, OutOfMemory> {
@@ -91,7 +91,7 @@ fn three_writes(alloc: Global) -> Result<String, OutOfMemory> {
 }
 
 fn count_text(alloc: Global, bytes: &[u8]) -> Result<String, OutOfMemory> {
-    made(format!(in alloc; "{} bytes", bytes.len()))
+    Ok(format!(in alloc; "{} bytes", bytes.len())?)
 }
 
 fn read_file(alloc: Global, store: &mut MemStore) -> Result<String, OutOfMemory>
@@ -100,7 +100,7 @@ fn read_file(alloc: Global, store: &mut MemStore) -> Result<String, OutOfMemory>
     store.put("a", b"abc")?;
     match read_whole(alloc, store, "a", 3) {
         Ok(bytes) => count_text(alloc, &bytes),
-        Err(why) => made(format!(in alloc; "{why:?}")),
+        Err(why) => Ok(format!(in alloc; "{why:?}")?),
     }
 }
 

@@ -1,5 +1,4 @@
 use lk_base::OutOfMemory;
-use std::alloc::AllocError;
 use std::io;
 
 /// Prints what calls came to, in one line behind a name.
@@ -7,14 +6,6 @@ pub fn tell(rt: &impl Print, name: &str, text: Result<String, OutOfMemory>) -> i
     match text {
         Ok(text) => println!(rt; "{name}: {text}"),
         Err(_) => println!(rt; "{name}: no memory"),
-    }
-}
-
-/// A text that found its memory.
-pub fn made(text: Result<String, AllocError>) -> Result<String, OutOfMemory> {
-    match text {
-        Ok(text) => Ok(text),
-        Err(_) => Err(OutOfMemory),
     }
 }
 

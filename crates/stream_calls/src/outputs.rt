@@ -2,7 +2,7 @@
 ghost use Rattle.std.specs.Prelude.{OnOk};
 ghost use Rattle.reassembly.specs.States.{NothingWaits};
 
-use crate::telling::{made, tell};
+use crate::telling::tell;
 use lk_base::{Aligned, OutOfMemory, Pos, RxWord, Why};
 use reassembly::{Out, Reassembly};
 use std::alloc::{AllocError, Global};
@@ -96,14 +96,14 @@ fn output_text(alloc: Global, out: Option<&Out>) -> Result<String, AllocError> {
 fn output(alloc: Global, number: usize) -> Result<String, OutOfMemory> {
     let mut bytes = [0; 6];
     let outs = outputs(alloc, &mut bytes)?;
-    made(output_text(alloc, outs.as_slice().get(number)))
+    Ok(output_text(alloc, outs.as_slice().get(number))?)
 }
 
 // How many outputs the words have, and what was read last.
 fn all(alloc: Global) -> Result<String, OutOfMemory> {
     let mut bytes = [0; 6];
     let outs = outputs(alloc, &mut bytes)?;
-    made(format!(in alloc; "outputs {}, read {bytes:?}", outs.len()))
+    Ok(format!(in alloc; "outputs {}, read {bytes:?}", outs.len())?)
 }
 
 // The outputs of a reassembly that ends.
@@ -118,7 +118,7 @@ fn end_text(alloc: Global, reassembly: &mut Reassembly) -> Result<String, AllocE
 
 fn no_words(alloc: Global) -> Result<String, OutOfMemory> {
     let mut reassembly = Reassembly::make(alloc, &[0], 8)?;
-    made(end_text(alloc, &mut reassembly))
+    Ok(end_text(alloc, &mut reassembly)?)
 }
 
 /// Tells outputs of the words of two channels, one of them bad, and of no words.

@@ -2,7 +2,7 @@
 ghost use Rattle.std.specs.Prelude.{◌≤◌, map, All};
 ghost use Rattle.std.specs.List.Sorted.{IsNonDecreasing};
 
-use crate::telling::{made, tell};
+use crate::telling::tell;
 use lk_base::{OutOfMemory, Shape, Word};
 use std::alloc::Global;
 use std::io;
@@ -84,12 +84,12 @@ fn bursts(alloc: Global, words: &[Word]) -> Result<Vec<(usize, u64)>, OutOfMemor
 // The slots, the bursts and the channel that holds the stream.
 fn words_text(alloc: Global, stream: &Made) -> Result<String, OutOfMemory> {
     let found = bursts(alloc, &stream.words)?;
-    made(format!(in alloc;
+    Ok(format!(in alloc;
         "slots {}, bursts {:?}, held {:?}",
         stream.words.len(),
         found.as_slice(),
         stream.held
-    ))
+    )?)
 }
 
 fn words(alloc: Global, flow: &[FlowRow], local: &[LocalRow]) -> Result<String, OutOfMemory>
@@ -138,7 +138,7 @@ fn told_off(alloc: Global) -> Result<String, OutOfMemory> {
     let stream = two_channels(alloc, &[], &[off])?;
     let words = &stream.made.words;
     let on = words.iter().filter(|word| tells_one_on(**word)).count();
-    made(format!(in alloc; "slots {}, words that tell channel 1 on {on}", words.len()))
+    Ok(format!(in alloc; "slots {}, words that tell channel 1 on {on}", words.len())?)
 }
 
 fn tell_streams(rt: &HostRuntime) -> io::Result<()> {

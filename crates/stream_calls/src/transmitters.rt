@@ -1,12 +1,12 @@
 //! The calls of `tx_end` on lanes.
-ghost use Rattle.std.specs.Prelude.{◌≡◌, ℕ, List, [], length, IfOk, OnOk};
+ghost use Rattle.std.specs.Prelude.{◌≡◌, List, [], length, IfOk, OnOk};
 ghost use Rattle.lk_base.specs.Link.{Settings};
 ghost use Rattle.lk_base.specs.declared.word.Word.{Word};
 ghost use Rattle.stream_model.specs.BurstStream.{Source};
 ghost use Rattle.tx_end.specs.Sending.{Sends};
 ghost use Rattle.tx_end.specs.declared.tx_out.TxOut.{TxOut};
 
-use crate::telling::{hex_of, made, tell};
+use crate::telling::{hex_of, tell};
 use lk_base::{Link, OutOfMemory};
 use std::alloc::Global;
 use std::io;
@@ -69,7 +69,7 @@ fn digest(file: &[u8]) -> u32 {
 
 fn file_text(alloc: Global, file: &[u8]) -> Result<String, OutOfMemory> {
     let sum = digest(file);
-    made(format!(in alloc; "{} bytes, digest {sum:08X}", file.len()))
+    Ok(format!(in alloc; "{} bytes, digest {sum:08X}", file.len())?)
 }
 
 // Each packet with its channel, its number there, and the slots of its first and its last word.
@@ -90,7 +90,7 @@ fn sent_text(alloc: Global, sent: &[Sent]) -> Result<String, OutOfMemory> {
 fn start_text(alloc: Global, file: &[u8]) -> Result<String, OutOfMemory> {
     let whole = file_text(alloc, file)?;
     let start = hex_of(alloc, &file[..file.len().min(25)])?;
-    made(format!(in alloc; "{whole}, begins {start}"))
+    Ok(format!(in alloc; "{whole}, begins {start}")?)
 }
 
 fn lane_text(alloc: Global, transmitter: &mut Transmitter) -> Result<String, OutOfMemory>
@@ -101,7 +101,7 @@ fn lane_text(alloc: Global, transmitter: &mut Transmitter) -> Result<String, Out
     let sent = sent_text(alloc, transmitter.sent())?;
     let slots = transmitter.slots();
     let held = transmitter.held();
-    made(format!(in alloc; "{start}, slots {slots}, held {held:?}, sent{sent}"))
+    Ok(format!(in alloc; "{start}, slots {slots}, held {held:?}, sent{sent}")?)
 }
 
 fn one_lane(alloc: Global) -> Result<String, OutOfMemory> {
@@ -128,7 +128,7 @@ fn one_of_two(alloc: Global, lane: u32) -> Result<String, OutOfMemory> {
 
 fn no_words(alloc: Global) -> Result<String, OutOfMemory> {
     let lanes = lanes_of(alloc, &link_of(2, 33)?, &[])?;
-    made(format!(in alloc; "{} lanes", lanes.len()))
+    Ok(format!(in alloc; "{} lanes", lanes.len())?)
 }
 
 /// Tells the files of lanes that carry packets of two channels.

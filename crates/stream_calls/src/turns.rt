@@ -1,9 +1,9 @@
 //! The calls of `burst_scheduler`.
-ghost use Rattle.std.specs.Prelude.{◌≡◌, ℕ, ◌<◌, List, [], length, false, IfOk, OnOk};
+ghost use Rattle.std.specs.Prelude.{◌≡◌, ◌<◌, [], length, false, IfOk, OnOk};
 ghost use Rattle.burst_scheduler.specs.Asked.{Asked};
 ghost use Rattle.burst_scheduler.specs.Gives.{Gives};
 
-use crate::telling::{made, tell};
+use crate::telling::tell;
 use burst_scheduler::Scheduler;
 use lk_base::{OutOfMemory, Shape, Word};
 use std::alloc::Global;
@@ -76,12 +76,12 @@ fn show(alloc: Global, scheduler: &mut Scheduler) -> Result<Shown, OutOfMemory>
 }
 
 fn text_of(alloc: Global, shown: &Shown, held: Option<u16>) -> Result<String, OutOfMemory> {
-    made(format!(in alloc;
+    Ok(format!(in alloc;
         "slots {}, bursts {:?}, ends {:?}, held {held:?}",
         shown.slots,
         shown.bursts.as_slice(),
         shown.ends.as_slice()
-    ))
+    )?)
 }
 
 fn turns_text(alloc: Global, scheduler: &mut Scheduler) -> Result<String, OutOfMemory>

@@ -1,4 +1,4 @@
-ghost use Rattle.std.specs.Prelude.{◌≡◌, ◌<◌, ◌≤◌, ◌^◌, ◌==◌, length, map, OnOk, IfOk, MatchOption};
+ghost use Rattle.std.specs.Prelude.{◌≡◌, ◌<◌, ◌^◌, ◌==◌, length, map, OnOk, IfOk, MatchOption};
 ghost use Rattle.lk_base.specs.Checksum.{bits_of};
 ghost use Rattle.word_text.specs.CodeLines.{rest_line};
 ghost use Rattle.word_text.specs.Refusals.{IsRestLine};

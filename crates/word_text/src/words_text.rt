@@ -1,4 +1,4 @@
-ghost use Rattle.std.specs.Prelude.{◌≡◌, ◌++◌, length, take, OnOk, IfOk};
+ghost use Rattle.std.specs.Prelude.{◌≡◌, ◌++◌, OnOk, IfOk};
 ghost use Rattle.word_text.specs.Lines.{ended};
 ghost use Rattle.word_text.specs.WordLines.{tag_in, number_in, nine_bytes};
 ghost use Rattle.word_text.specs.Listings.{words_head};

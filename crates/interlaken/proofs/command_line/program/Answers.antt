@@ -1,7 +1,5 @@
-use Rattle.std.proofs.Common.{◌≡◌, ◌∙◌, sym, ap}
+use Rattle.std.proofs.Common.{◌∙◌, ap}
 use Rattle.clap.specs.Words.{App, app_of, with_subcommand}
-use Rattle.interlaken.specs.Table.{shown}
-use Rattle.interlaken.specs.Parser.{row_app}
 use Rattle.interlaken.proofs.Reading.{next_program}
 use Rattle.interlaken.proofs.command_line.program.Goals as goal
 

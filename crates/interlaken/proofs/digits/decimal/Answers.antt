@@ -1,4 +1,4 @@
-use Rattle.std.proofs.Common.{◌≡◌, ◌<◌, ◌^◌, ◌∙◌, ◌-◌, sym, arith, length, get_or}
+use Rattle.std.proofs.Common.{◌∙◌, ◌-◌, sym, arith, get_or}
 use Rattle.csv_rows.proofs.Digits.{decimal_from-drop, digits-rest, digit-byte, small-step, decimal_from-end}
 use Rattle.interlaken.proofs.TwentyDigits.{within}
 use Rattle.interlaken.proofs.digits.decimal.Goals as goal

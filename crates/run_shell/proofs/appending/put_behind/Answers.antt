@@ -25,7 +25,7 @@ returns-in_err-rest-clause-shortened g c =
     let items : List ℕ = c.args.rest.now.items in
     let all : c.args.bytes.now ≡ items ++ c.args.bytes.now = behind_none items c.args.bytes.now (ap (λ n. n == 0) (sym c.args.rest.now.ok.0) ∙ sym c.if-is_empty.ensures) in
     let p = err_from_is_err_and c.from_residual.result c.from_residual.ensures.1 in
-    rw p.1 (of_equal {T = Unit {0}} c.args.name.now _ _ (Err stop.OutOfMemory) items _ _ all c.in_err-rest.ensures.pieces)
+    rw p.1 (of_equal {T = Unit {0}} c.args.name.now _ _ (Err stop.OutOfMemory) (λ _. items) _ _ all c.in_err-rest.ensures.pieces)
 
 pub returns-then-is_empty-clause-cause : goal.returns-then-is_empty-clause-cause
 returns-then-is_empty-clause-cause g c = c.in_ok-rest.ensures.cause
@@ -37,7 +37,7 @@ pub returns-then-is_empty-clause-shortened : goal.returns-then-is_empty-clause-s
 returns-then-is_empty-clause-shortened g c =
     let items : List ℕ = c.args.rest.now.items in
     let all : c.args.bytes.now ≡ items ++ c.args.bytes.now = behind_none items c.args.bytes.now (ap (λ n. n == 0) (sym c.args.rest.now.ok.0) ∙ sym c.if-is_empty.ensures) in
-    of_equal {T = Unit {0}} c.args.name.now _ _ (Ok tt) _ _ _ all c.in_ok-rest.ensures.pieces
+    of_equal {T = Unit {0}} c.args.name.now _ _ (Ok tt) (λ _. c.in_ok-rest.field-0.items) _ _ all c.in_ok-rest.ensures.pieces
 
 pub returns-in_err-extend_from_slice-clause-cause : goal.returns-in_err-extend_from_slice-clause-cause
 returns-in_err-extend_from_slice-clause-cause g c =
@@ -71,4 +71,4 @@ returns-clause-stops g c = c.shorten_rest.ensures.stops
 
 pub returns-clause-shortened : goal.returns-clause-shortened
 returns-clause-shortened g c =
-    of_equal c.args.name.now _ _ c.shorten_rest.result _ _ _ c.in_ok-extend_from_slice.ensures.items c.shorten_rest.ensures.shortened
+    of_equal c.args.name.now _ _ c.shorten_rest.result (λ _. c.shorten_rest.new.rest.items) _ _ c.in_ok-extend_from_slice.ensures.items c.shorten_rest.ensures.shortened

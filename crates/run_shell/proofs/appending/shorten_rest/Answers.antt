@@ -26,7 +26,7 @@ returns-in_err-rest-clause-stops g c =
 pub returns-in_err-rest-clause-shortened : goal.returns-in_err-rest-clause-shortened
 returns-in_err-rest-clause-shortened g c =
     let p = err_from_is_err_and c.from_residual.result c.from_residual.ensures.1 in
-    rw p.1 (of_equal {T = Unit {0}} c.args.name.now _ _ (Err stop.OutOfMemory) [] _ _ c.deref.ensures.value c.in_err-rest.ensures.pieces)
+    rw p.1 (of_equal {T = Unit {0}} c.args.name.now _ _ (Err stop.OutOfMemory) (λ _. []) _ _ c.deref.ensures.value c.in_err-rest.ensures.pieces)
 
 pub returns-clause-cause : goal.returns-clause-cause
 returns-clause-cause g c = c.in_ok-rest.ensures.cause
@@ -36,4 +36,4 @@ returns-clause-stops g c = tt
 
 pub returns-clause-shortened : goal.returns-clause-shortened
 returns-clause-shortened g c =
-    of_equal {T = Unit {0}} c.args.name.now _ _ (Ok tt) _ _ _ c.deref.ensures.value c.in_ok-rest.ensures.pieces
+    of_equal {T = Unit {0}} c.args.name.now _ _ (Ok tt) (λ _. c.in_ok-rest.field-0.items) _ _ c.deref.ensures.value c.in_ok-rest.ensures.pieces
