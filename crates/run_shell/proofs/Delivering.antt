@@ -1,17 +1,17 @@
 -- Outputs that are filled one after another with contents that were made before.
-use Rattle.std.proofs.Common.{◌≡◌, ℕ, zero, suc, ◌<◌, ◌≤◌, ◌+◌, arith, List, [], ◌∷◌, ◌++◌, length, map, get_or, refl, rules, sym, ap, ◌∙◌, subst, Option, Result, Err, Ok, Contains}
-use Rattle.std.proofs.lemmas.List.{length-map}
+use Rattle.std.proofs.Common.{◌≡◌, ℕ, zero, suc, ◌<◌, ◌≤◌, ◌+◌, arith, List, [], ◌∷◌, ◌++◌, length, map, take, drop, get_or, refl, rules, sym, ap, ◌∙◌, subst, inl, inr, Option, Some, None, IfSome, IsSome, Result, Err, Ok, Contains}
+use Rattle.std.proofs.lemmas.List.{length-map, take-append-drop}
 use Rattle.run_shell.specs.declared.stop.Stop.{Stop}
 use Rattle.run_shell.specs.declared.stop.Finished.{Finished}
-use Rattle.lk_outside.specs.Files.{Files, Told}
+use Rattle.lk_outside.specs.Files.{Files, file, Told}
 use Rattle.run_shell.specs.Outcome.{Outcome, Holds, HoldsPart}
 use Rattle.run_shell.specs.Stops.{StoreStops}
 use Rattle.run_shell.specs.Open.{Open}
-use Rattle.run_shell.specs.Outputs.{outs, blank, Prefixes, more, open_names, Closed, FilledAll}
+use Rattle.run_shell.specs.Outputs.{Differ, Extends, AppendedBy, outs, blank, Prefixes, more, open_names, in_turn, FilledAll, FilledInTurn}
 use Rattle.run_shell.specs.Writing.{Writes, Begin, delivered}
 use Rattle.run_shell.proofs.Creating.{named}
-use Rattle.run_shell.proofs.Fills.{blank_prefixes, part_more}
-use Rattle.run_shell.proofs.Moves.{told_by}
+use Rattle.run_shell.proofs.Fills.{blank_prefixes, grows, part_more, prefix_part, stands_at}
+use Rattle.run_shell.proofs.Moves.{told_by, told_then}
 use Rattle.run_shell.proofs.Writing.{stop_writes, done_writes}
 
 -- so many of the outputs were given their contents
@@ -76,6 +76,13 @@ filled_begins (suc k) [] (c ∷ cs) e le = absurd (omega arith)
 filled_begins (suc k) (n ∷ ns) [] e le = absurd (omega arith)
 filled_begins (suc k) (n ∷ ns) (c ∷ cs) e le = (([], sym (nothing c)), filled_begins k ns cs (omega arith) (omega arith))
 
+-- there are as many names as contents
+pub below_names : {X Y : Type 0} (f : X → List ℕ) (h : Y → List ℕ) (ns : List Y) (xs : List X) (k : ℕ) → length (map f xs) ≡ length (map h ns) → k < length xs → k < length ns
+below_names f h ns xs k each lt =
+    let a : length (map f xs) ≡ length xs = length-map xs f in
+    let b : length (map h ns) ≡ length ns = length-map ns h in
+    omega arith
+
 -- at first nothing was given
 pub at_first : (ns cs : List (List ℕ)) → blank ns ≡ filled 0 ns cs
 unfolding filled
@@ -108,17 +115,91 @@ module _ (names contents : List (List ℕ)) (each : length contents ≡ length n
 
 -- ---- each to its end before the next
 
-module _ (names contents : List (List ℕ)) (each : length contents ≡ length names) where
-  -- so many of them were given their contents, and a part of that stands
-  pub part_filled : (k : ℕ) (ns : List (List ℕ)) → ns ≡ names → (x y : Option Files) → k ≤ length contents → Told x y (HoldsPart (outs ns (filled k names contents))) → Told x y (HoldsPart (outs names contents))
-  part_filled k ns is x y le h =
-      told_by x y (λ u v p. part_more names (filled k names contents) contents u v (filled_begins k names contents each le) p)
-      (subst (λ ms. Told x y (HoldsPart (outs ms (filled k names contents)))) is h)
+filled_length : (k : ℕ) (ns cs : List (List ℕ)) → k ≤ length cs → length cs ≡ length ns → length (filled k ns cs) ≡ length ns
+unfolding filled
+filled_length zero ns cs le e = length-map ns (λ (n : List ℕ). [])
+filled_length (suc k) [] [] le e = absurd (omega arith)
+filled_length (suc k) [] (c ∷ cs) le e = absurd (omega arith)
+filled_length (suc k) (n ∷ ns) [] le e = absurd (omega arith)
+filled_length (suc k) (n ∷ ns) (c ∷ cs) le e = ap suc (filled_length k ns cs (omega arith) (omega arith))
 
-  pub none_filled : (x y : Option Files) → Told x y (HoldsPart (outs names (blank names))) → Told x y (HoldsPart (outs names contents))
-  none_filled x y h = part_filled 0 names refl x y (omega arith) (subst (λ gs. Told x y (HoldsPart (outs names gs))) (at_first names contents) h)
+blank_same : (ns cs : List (List ℕ)) → length cs ≡ length ns → blank ns ≡ blank cs
+blank_same [] [] e = refl
+blank_same [] (c ∷ cs) e = absurd (omega arith)
+blank_same (n ∷ ns) [] e = absurd (omega arith)
+blank_same (n ∷ ns) (c ∷ cs) e = ap (λ (r : List (List ℕ)). [] ∷ r) (blank_same ns cs (omega arith))
 
-  -- all of them were, and the rests were appended
-  pub closed_fills : (opens : List Open) (given : List (List ℕ)) (r : Result (Unit {0}) Stop) (x y : Option Files) → open_names opens ≡ names → given ≡ contents → Closed opens given r x y → Told x y (FilledAll names contents r)
-  closed_fills opens given (Ok t) x y is all h = subst (λ cs. Told x y (Holds (outs names cs))) all (subst (λ ns. Told x y (Holds (outs ns given))) is h)
-  closed_fills opens given (Err s) x y is all h = subst (λ cs. Told x y (HoldsPart (outs names cs))) all (subst (λ ns. Told x y (HoldsPart (outs ns given))) is h)
+-- behind so many whole contents stand the first bytes of the next
+filled_part : (k m : ℕ) (ns cs : List (List ℕ)) → k < length cs → length cs ≡ length ns → more (filled k ns cs) k (take m (get_or cs k [])) ≡ in_turn k m cs
+unfolding filled
+filled_part zero m [] [] lt e = absurd (omega arith)
+filled_part zero m [] (c ∷ cs) lt e = absurd (omega arith)
+filled_part zero m (n ∷ ns) [] lt e = absurd (omega arith)
+filled_part zero m (n ∷ ns) (c ∷ cs) lt e = ap (λ (r : List (List ℕ)). take m c ∷ r) (blank_same ns cs (omega arith))
+filled_part (suc k) m [] [] lt e = absurd (omega arith)
+filled_part (suc k) m [] (c ∷ cs) lt e = absurd (omega arith)
+filled_part (suc k) m (n ∷ ns) [] lt e = absurd (omega arith)
+filled_part (suc k) m (n ∷ ns) (c ∷ cs) lt e = ap (λ (r : List (List ℕ)). c ∷ r) (filled_part k m ns cs (omega arith) (omega arith))
+
+in_turn_begins : (k m : ℕ) (cs : List (List ℕ)) → Prefixes (in_turn k m cs) cs
+in_turn_begins k m [] = tt
+in_turn_begins zero m (c ∷ cs) = ((drop m c, sym (take-append-drop m c)), blank_prefixes cs cs refl)
+in_turn_begins (suc k) m (c ∷ cs) = (([], sym (nothing c)), in_turn_begins k m cs)
+
+module _ (names contents : List (List ℕ)) (each : length contents ≡ length names) (differ : Differ names) where
+  module _ (k : ℕ) (name : List ℕ) (lt : k < length contents) (at : name ≡ get_or names k []) (x y : Option Files) (stand : Told x y (Holds (outs names (filled k names contents)))) where
+    below : k < length names
+    below = omega arith
+
+    len : length (filled k names contents) ≡ length names
+    len = filled_length k names contents (omega arith) each
+
+    -- the next output is there
+    pub turn_there : IfSome y (λ files. IsSome (file files name))
+    turn_there = by x y stand
+      where
+        by : (a b : Option Files) → Told a b (Holds (outs names (filled k names contents))) → IfSome b (λ files. IsSome (file files name))
+        by None None p = tt
+        by None (Some v) p = absurd p
+        by (Some u) None p = tt
+        by (Some u) (Some v) p =
+            let here : file v (get_or names k []) ≡ Some (get_or (filled k names contents) k []) = stands_at names (filled k names contents) k u v differ below len p in
+            subst (λ n. IsSome (file v n)) (sym at) (subst (λ c. IsSome c) (sym here) refl)
+
+    module _ (content : List ℕ) (is : content ≡ get_or contents k []) (z : Option Files) where
+      -- it was filled to its end
+      pub turn_on : Told y z (Extends name content) → Told x z (Holds (outs names (filled (k + 1) names contents)))
+      turn_on h =
+          let whole : more (filled k names contents) k content ≡ filled (k + 1) names contents = ap (more (filled k names contents) k) is ∙ filled_more k names contents lt each in
+          subst (λ cs. Told x z (Holds (outs names cs))) whole
+          (told_then x y z (λ u v w p q. grows names (filled k names contents) k content u v w differ below len p (subst (λ n. Extends n content v w) at q)) stand h)
+
+      -- it was filled in part
+      pub turn_stops : (s : Stop) → Told y z (AppendedBy {T = Unit {0}} name content (Err s)) → Told x z (FilledInTurn {T = Unit {0}} names contents (Err s))
+      turn_stops s h =
+          told_then x y z (λ u v w p (m, le, q).
+          let part : more (filled k names contents) k (take m content) ≡ in_turn k m contents = ap (λ c. more (filled k names contents) k (take m c)) is ∙ filled_part k m names contents lt each in
+          inr (k, m, subst (λ cs. Holds (outs names cs) u w) part (grows names (filled k names contents) k (take m content) u v w differ below len p (subst (λ n. Extends n (take m content) v w) at q)))) stand h
+
+  -- at first each is there and empty
+  pub turns_begin : (x y : Option Files) → Told x y (Holds (outs names (blank names))) → Told x y (Holds (outs names (filled 0 names contents)))
+  turns_begin x y h = subst (λ cs. Told x y (Holds (outs names cs))) (at_first names contents) h
+
+  -- at last each is filled
+  pub turns_end : (k : ℕ) (x y : Option Files) → length contents ≤ k → k ≤ length contents → Told x y (Holds (outs names (filled k names contents))) → Told x y (Holds (outs names contents))
+  turns_end k x y ge le h =
+      let all : k ≡ length contents = omega arith in
+      subst (λ cs. Told x y (Holds (outs names cs))) (ap (λ n. filled n names contents) all ∙ filled_all names contents each) h
+
+-- none was filled yet
+pub none_filled : (names contents : List (List ℕ)) (s : Stop) (x y : Option Files) → Told x y (HoldsPart (outs names (blank names))) → Told x y (FilledInTurn {T = Unit {0}} names contents (Err s))
+none_filled names contents s x y h = told_by x y (λ u v p. inl p) h
+
+-- what is filled in turn is filled
+pub in_turn_fills : (names contents : List (List ℕ)) (r : Result (Unit {0}) Stop) (x y : Option Files) → length contents ≡ length names → Told x y (FilledInTurn names contents r) → Told x y (FilledAll names contents r)
+in_turn_fills names contents (Ok t) x y each h = h
+in_turn_fills names contents (Err s) x y each h = told_by x y by h
+  where
+    by : (u v : Files) → FilledInTurn {T = Unit {0}} names contents (Err s) u v → HoldsPart (outs names contents) u v
+    by u v (inl p) = part_more names (blank names) contents u v (blank_prefixes names contents each) p
+    by u v (inr (k, m, p)) = prefix_part names (in_turn k m contents) contents u v (in_turn_begins k m contents) p

@@ -3,10 +3,11 @@ ghost use Rattle.std.specs.Prelude.{◌≡◌, ◌<◌, ◌^◌, map, length, Co
 ghost use Rattle.lk_outside.specs.Files.{Told};
 ghost use Rattle.run_shell.specs.Stops.{StopCount, StoreStops};
 ghost use Rattle.run_shell.specs.Reading.{vec_items};
-ghost use Rattle.run_shell.specs.Outputs.{Differ, FilledAll};
+ghost use Rattle.run_shell.specs.Outputs.{Differ, FilledAll, FilledInTurn};
 ghost use Rattle.run_shell.specs.Writing.{Writes, delivered};
 
-use crate::outputs::Outputs;
+use crate::appending::append_all;
+use crate::outputs::{Outputs, create_all};
 use crate::stop::{Finished, Stop};
 use lk_outside::Store;
 use std::alloc::Global;
@@ -34,8 +35,8 @@ pub fn deliver<S: Store>(
 }
 
 /// Creates the files of these names, which differ, and then appends these contents to them, one for each: each to its end, in
-/// pieces of 65,536 bytes and a rest, before the next. After an error some first of the files are there, each with a prefix of
-/// its content.
+/// pieces of 65,536 bytes and a rest, before the next. After an error some first of the files are there and empty, or all are
+/// there: the first of them whole, of the next a prefix, and the others empty.
 pub fn deliver_in_turn<S: Store>(
     alloc: Global,
     store: &mut S,
@@ -48,11 +49,11 @@ pub fn deliver_in_turn<S: Store>(
     ensures cause { StopCount result (S.faults store.old) (S.faults store.new) }
     ensures stops { StoreStops (Contains (map string_bytes names.items)) result }
     ensures delivered { Told (S.files store.old) (S.files store.new) (FilledAll (map string_bytes names.items) (map vec_items contents.now) result) }
+    ensures in_turn { Told (S.files store.old) (S.files store.new) (FilledInTurn (map string_bytes names.items) (map vec_items contents.now) result) }
 {
-    let mut outputs = Outputs::create(alloc, store, names)?;
-    for place in 0..contents.len() {
-        outputs.put(alloc, store, place, &contents[place])?;
-        outputs.settle(alloc, store, place)?;
+    create_all(alloc, store, &names)?;
+    for turn in 0..contents.len() {
+        append_all(alloc, store, names[turn].as_str(), &contents[turn])?;
     }
-    outputs.finish(alloc, store)
+    Ok(())
 }
