@@ -6,7 +6,6 @@ mod trial;
 
 use interlaken::number;
 use lk_outside::MemStore;
-use std::alloc::Global;
 use std::io;
 use trial::{Call, Ended, INPUTS, run_failing, run_whole};
 
@@ -79,6 +78,41 @@ fn print_ended(rt: &HostRuntime, ended: &Ended, outputs: &[&'static str]) -> io:
     }
 }
 
+// Tells what came of a run one of whose calls was to fail, and whether that call was made.
+fn print_failed(
+    rt: &HostRuntime,
+    call: (Call, u64),
+    ended: &Ended,
+    whole: &Ended,
+    outputs: &[&'static str],
+) -> io::Result<bool> {
+    if ended.status == whole.status {
+        println!(rt; "{:?}: calls {}", call.0, call.1)?;
+        return Ok(false);
+    }
+    print!(rt; "{:?} {}: ", call.0, call.1)?;
+    print_ended(rt, ended, outputs)?;
+    if let Some(name) = wrong_file(&ended.store, &whole.store, outputs) {
+        println!(rt; "not as it has to be: {name}")?;
+    }
+    Ok(true)
+}
+
+// Fails one call, and answers whether it was made.
+fn fail_one(
+    rt: &HostRuntime,
+    words: [&str; 2],
+    call: (Call, u64),
+    whole: &Ended,
+    outputs: &[&'static str],
+) -> io::Result<bool> {
+    let Ok(ended) = run_failing(rt.alloc(), words, call.0, call.1) else {
+        println!(rt; "no memory")?;
+        return Ok(false);
+    };
+    print_failed(rt, call, &ended, whole, outputs)
+}
+
 // Fails the calls of a kind in turn, until one is not made.
 fn fail_each(
     rt: &HostRuntime,
@@ -88,19 +122,26 @@ fn fail_each(
     outputs: &[&'static str],
 ) -> io::Result<()> {
     for at in 0..MOST {
-        let Ok(ended) = run_failing(rt.alloc(), words, call, at) else {
-            return println!(rt; "no memory");
-        };
-        if ended.status == whole.status {
-            return println!(rt; "{call:?}: calls {at}");
-        }
-        print!(rt; "{call:?} {at}: ")?;
-        print_ended(rt, &ended, outputs)?;
-        if let Some(name) = wrong_file(&ended.store, &whole.store, outputs) {
-            println!(rt; "not as it has to be: {name}")?;
+        if !fail_one(rt, words, (call, at), whole, outputs)? {
+            return Ok(());
         }
     }
     println!(rt; "{call:?}: no end")
+}
+
+// Tells how a command ended, and then how it ends where one of its calls fails.
+fn print_trials(
+    rt: &HostRuntime,
+    words: [&str; 2],
+    whole: &Ended,
+    outputs: &[&'static str],
+) -> io::Result<()> {
+    println!(rt; "{} {}", words[0], words[1])?;
+    print_ended(rt, whole, outputs)?;
+    for call in [Call::Read, Call::Create, Call::Append, Call::Write] {
+        fail_each(rt, words, call, whole, outputs)?;
+    }
+    Ok(())
 }
 
 // Runs a command, and then again for each of its calls, which fails.
@@ -108,12 +149,7 @@ fn try_command(rt: &HostRuntime, words: [&str; 2], outputs: &[&'static str]) -> 
     let Ok(whole) = run_whole(rt.alloc(), words) else {
         return println!(rt; "no memory");
     };
-    println!(rt; "{} {}", words[0], words[1])?;
-    print_ended(rt, &whole, outputs)?;
-    fail_each(rt, words, Call::Read, &whole, outputs)?;
-    fail_each(rt, words, Call::Create, &whole, outputs)?;
-    fail_each(rt, words, Call::Append, &whole, outputs)?;
-    fail_each(rt, words, Call::Write, &whole, outputs)
+    print_trials(rt, words, &whole, outputs)
 }
 
 fn main(rt: HostRuntime) -> io::Result<()> {

@@ -47,34 +47,48 @@ fn capture(alloc: Global) -> Result<Vec<u8>, OutOfMemory> {
     Ok(capture)
 }
 
-// The plan with its two captures and its rows, and a words file.
+// Puts the plan with its two captures and its rows, and a words file.
+fn fill(store: &mut MemStore, capture: &[u8]) -> Result<(), OutOfMemory>
+    ensures { store.new.faults ≡ store.old.faults }
+{
+    store.put("p.plan", PLAN)?;
+    store.put("a.pcap", capture)?;
+    store.put("b.pcap", capture)?;
+    store.put("f", FLOW)?;
+    store.put("l", LOCAL)?;
+    store.put("s", SCHEDULE)?;
+    store.put("w.words", &WORDS)
+}
+
+// The store before a run.
 fn store_of(alloc: Global) -> Result<MemStore, OutOfMemory>
     ensures { IfOk result (λ store. store.faults ≡ 0) }
 {
     let capture = capture(alloc)?;
     let mut store = MemStore::make(alloc);
-    store.put("p.plan", PLAN)?;
-    store.put("a.pcap", &capture)?;
-    store.put("b.pcap", &capture)?;
-    store.put("f", FLOW)?;
-    store.put("l", LOCAL)?;
-    store.put("s", SCHEDULE)?;
-    store.put("w.words", &WORDS)?;
+    fill(&mut store, &capture)?;
     Ok(store)
 }
 
-// The same, where the call of this kind and number is to fail.
+// Has the call of this kind and number fail, if it is one of the store.
+fn fail_call(store: &mut MemStore, call: Call, number: u64) -> Result<(), OutOfMemory>
+    ensures { store.new.faults ≡ store.old.faults }
+{
+    let failing = [number];
+    match call {
+        Call::Read => store.fail(&failing, &[], &[]),
+        Call::Create => store.fail(&[], &failing, &[]),
+        Call::Append => store.fail(&[], &[], &failing),
+        Call::Write => Ok(()),
+    }
+}
+
+// The store before a run, where the call of this kind and number is to fail.
 fn failing_store(alloc: Global, call: Call, number: u64) -> Result<MemStore, OutOfMemory>
     ensures { IfOk result (λ store. store.faults ≡ 0) }
 {
     let mut store = store_of(alloc)?;
-    let failing = [number];
-    match call {
-        Call::Read => store.fail(&failing, &[], &[])?,
-        Call::Create => store.fail(&[], &failing, &[])?,
-        Call::Append => store.fail(&[], &[], &failing)?,
-        Call::Write => {}
-    }
+    fail_call(&mut store, call, number)?;
     Ok(store)
 }
 
@@ -97,13 +111,20 @@ fn words_of(alloc: Global, texts: [&str; 2]) -> Result<Vec<String>, AllocError> 
     Ok(words)
 }
 
+// Runs the command of these words.
+fn run_over(alloc: Global, words: &[String], mut store: MemStore, mut out: MemSink) -> Ended
+    requires store { store.faults ≡ 0 }
+    requires out { out.faults ≡ 0 }
+{
+    let status = run(alloc, words, &mut store, &mut out);
+    Ended { status, store, out }
+}
+
 /// The command of these words, where no call fails.
 pub fn run_whole(alloc: Global, texts: [&str; 2]) -> Result<Ended, OutOfMemory> {
     let words = words_of(alloc, texts)?;
-    let mut store = store_of(alloc)?;
-    let mut out = MemSink::make(alloc);
-    let status = run(alloc, &words, &mut store, &mut out);
-    Ok(Ended { status, store, out })
+    let store = store_of(alloc)?;
+    Ok(run_over(alloc, &words, store, MemSink::make(alloc)))
 }
 
 /// The command of these words, where the call of this kind and number fails.
@@ -114,8 +135,7 @@ pub fn run_failing(
     number: u64,
 ) -> Result<Ended, OutOfMemory> {
     let words = words_of(alloc, texts)?;
-    let mut store = failing_store(alloc, call, number)?;
-    let mut out = failing_sink(alloc, call, number)?;
-    let status = run(alloc, &words, &mut store, &mut out);
-    Ok(Ended { status, store, out })
+    let store = failing_store(alloc, call, number)?;
+    let out = failing_sink(alloc, call, number)?;
+    Ok(run_over(alloc, &words, store, out))
 }
