@@ -14,7 +14,7 @@ use Rattle.csv_rows.specs.declared.table.Times.TheVariants.{Distinct}
 use Rattle.link_plan.specs.Keys.{keys}
 use Rattle.link_cases.specs.Texts.{number_row, text_row, channel_row, capture_name}
 use Rattle.link_cases.specs.Accepted.{IsPrefix}
-use Rattle.link_cases.proofs.Decimals.{IsShort, decimal-read, decimal-text, decimal-short}
+use Rattle.csv_rows.proofs.Decimals.{IsShort, decimal-read, decimal-text, decimal-short}
 
 -- ---- names are text
 
@@ -93,4 +93,4 @@ unfolding keys place_in
 channel-item prefix n h k =
     let short : IsShort n = omega arith in
     let long = capture-long prefix n h short in
-    item-by (codes "channel") (capture_name prefix n) n 0 255 255 (Distinct 1024) None channel-key short (capture-text prefix n h.text short) refl (omega arith) k long.0 long.1
+    item-by (codes "channel") (capture_name prefix n) n 0 65535 255 (Distinct 1024) None channel-key short (capture-text prefix n h.text short) refl (omega arith) (omega arith) long.0 long.1
