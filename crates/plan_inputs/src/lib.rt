@@ -11,9 +11,12 @@ mod plan_file;
 mod reading;
 mod row_files;
 
+pub use captures::{ReadCaptures, read_captures_within};
 pub use channel_packets::CapturePackets;
 pub use inputs::{PlanInputs, PlanReading};
-pub use law::{capture_packets, one_source, plan_packets, some_plan_stream, some_source};
-pub use plan_file::read_plan_file;
+pub use law::{
+    capture_packets, narrow_sources, one_source, plan_packets, some_plan_stream, some_source,
+};
+pub use plan_file::{plan_stop, read_plan_file};
 pub use reading::{read_inputs, read_plan_inputs};
-pub use row_files::read_schedule_file;
+pub use row_files::{read_local_file, read_schedule_file, rows_stop};
