@@ -1,13 +1,14 @@
 -- The one line of a run that was stopped.
 use Rattle.std.specs.Prelude.{ℕ, List, ◌++◌, string_bytes}
 use lib.Chars.{codes}
+use Rattle.std.specs.Fmt.{decimal}
 use Rattle.pcap_files.specs.Texts.{refusal_text}
 use Rattle.words_files.specs.Texts.{words_refusal_text}
 use Rattle.word_text.specs.Texts.{text_refusal_text}
 use Rattle.link_plan.specs.Texts.{refusal_text as rows_text}
 use Rattle.link_plan.specs.declared.error.PlanError.{PlanError}
 use Rattle.link_reports.specs.declared.faults.InputError.{InputError}
-use Rattle.link_reports.specs.declared.faults.InputError.TheVariants.{NoFile, TooLarge, Pcap, Words, Rows, Text}
+use Rattle.link_reports.specs.declared.faults.InputError.TheVariants.{NoFile, TooLarge, Pcap, Words, Rows, Text, Samples}
 use Rattle.link_reports.specs.declared.faults.Fault.{Fault}
 use Rattle.link_reports.specs.declared.faults.Fault.TheVariants as fault
 use Rattle.link_reports.specs.Lines.{line_end}
@@ -20,9 +21,10 @@ why_text (Pcap refusal) = refusal_text refusal
 why_text (Words refusal) = words_refusal_text refusal
 why_text (Rows refusal) = rows_text refusal
 why_text (Text refusal) = text_refusal_text refusal
+why_text (Samples offset) = codes "sample at " ++ decimal offset
 
 abbrev pub usage_line : List ℕ
-usage_line = codes "usage: interlaken burst|join|send|receive|link FILE, or interlaken generate NUMBER PREFIX" ++ line_end
+usage_line = codes "usage: interlaken COMMAND FILE, or interlaken generate NUMBER PREFIX" ++ line_end
 
 abbrev pub refused_line : List ℕ → List ℕ → List ℕ
 refused_line name why = codes "input refused: " ++ (name ++ (codes ": " ++ (why ++ line_end)))

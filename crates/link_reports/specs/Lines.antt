@@ -106,3 +106,22 @@ missing_line missing =
     (told (codes " first=") missing.first
     (told (codes " last=") missing.last
     (told (codes " span=") missing.span line_end))))
+
+-- what came at an end of a run on a channel: its packets, their bytes together, and the most words that were queued. The end is
+-- told by its letter
+abbrev pub end_line : ℕ → ℕ → ℕ → ℕ → ℕ → List ℕ
+end_line letter channel packets bytes peak =
+    (codes "end " ++ letter ∷ []) ++
+    told (codes " channel=") channel
+    (told (codes " packets=") packets
+    (told (codes " bytes=") bytes
+    (told (codes " peak=") peak line_end)))
+
+-- what a retransmission came to: its pieces, those that were accepted, those that are acknowledged, and how many times one was
+-- sent
+abbrev pub resend_line : ℕ → ℕ → ℕ → ℕ → List ℕ
+resend_line pieces accepted acknowledged sent =
+    told (codes "resend pieces=") pieces
+    (told (codes " accepted=") accepted
+    (told (codes " acknowledged=") acknowledged
+    (told (codes " sent=") sent line_end)))

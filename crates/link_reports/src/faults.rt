@@ -25,6 +25,8 @@ pub enum InputError {
     Rows(PlanError),
     /// The file is no listing, with why its text is refused.
     Text(TextError),
+    /// The file has a byte that is no sample, the least at this offset.
+    Samples(u64),
 }
 
 /// What stops a run, and is told in one line alone.
@@ -56,6 +58,7 @@ impl fmt::Display for InputError {
             InputError::Words(refusal) => write!(f, "{refusal}"),
             InputError::Rows(refusal) => write!(f, "{refusal}"),
             InputError::Text(refusal) => write!(f, "{refusal}"),
+            InputError::Samples(offset) => write!(f, "sample at {offset}"),
         }
     }
 }
@@ -92,7 +95,7 @@ pub fn usage_line(out: &mut Vec<u8>) -> Result<(), OutOfMemory>
 {
     put(
         out,
-        b"usage: interlaken burst|join|send|receive|link FILE, or interlaken generate NUMBER PREFIX\n",
+        b"usage: interlaken COMMAND FILE, or interlaken generate NUMBER PREFIX\n",
     )
 }
 
