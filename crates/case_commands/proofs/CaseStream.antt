@@ -1,16 +1,22 @@
 -- The stream of a generated case: there is one, it is not held, and its packets are within the longest.
-use Rattle.std.proofs.Common.{ℕ, zero, suc, ◌+◌, ◌<◌, List, [], ◌∷◌, refl, arith, All}
-use Rattle.std.specs.List.{AllByRecursion}
+use Rattle.std.proofs.Common.{ℕ, ◌≡◌, zero, suc, ◌+◌, ◌<◌, ◌≤◌, true, false, length, map, List, [], ◌∷◌, refl, arith, All}
+use Rattle.std.specs.Prelude.{nat_le}
+use Rattle.std.specs.List.{AllByRecursion, range_with_len}
+use Rattle.std.proofs.lemmas.Bool.{and_from, le-leb}
+use Rattle.std.proofs.lemmas.List.{length-map}
 use Rattle.std.proofs.lemmas.List.Elements.{All-append, All-map}
+use Rattle.std.proofs.lemmas.List.FromFn.{length-range_with_len, length-map-range_with_len}
 use Rattle.lk_base.specs.Limits.{longest_packet}
 use Rattle.lk_base.specs.Link.{IsLink}
 use Rattle.stream_model.specs.BurstStream.{Source, IsPacket}
 use Rattle.stream_model.proofs.SomeStream.{of_fitting}
-use Rattle.link_plan.specs.Listing.{channels_in_order}
-use Rattle.link_plan.proofs.InOrder.{narrow_in_order}
+use Rattle.link_plan.specs.Listing.{are_listed, channels_in_order, fit_width}
+use Rattle.link_plan.specs.Plan.{Listed}
+use Rattle.link_plan.proofs.InOrder.{width_in_order}
+use Rattle.link_plan.proofs.Whole.{KeepsValue}
 use Rattle.link_cases.specs.Draws.{draw}
 use Rattle.link_cases.specs.Case.{Case, case_of, channel_drawn, numbers_drawn, packet_drawn}
-use Rattle.link_cases.specs.Accepted.{settings_of}
+use Rattle.link_cases.specs.Accepted.{channel_of, settings_of}
 use Rattle.link_cases.specs.declared.numbers.LinkNumbers.{LinkNumbers}
 use Rattle.link_cases.proofs.Drawn as drawn
 use Rattle.plan_inputs.specs.Inputs.{on_channel, numbers_in}
@@ -93,8 +99,44 @@ case_packets number = packets_fit 0 (case_of number).channels (channels_fit numb
 
 -- ---- its stream
 
-in_order_low : (numbers : List ℕ) → All (λ channel. channel < 256) (channels_in_order numbers)
-in_order_low numbers k d lt = let h = narrow_in_order numbers k d lt in omega arith
+-- a few numbers from one on are narrow
+narrow_from : (prefix : List ℕ) (from n : ℕ) → from + n ≤ 256 → fit_width false (map (λ (c : Listed). c.number) (map (channel_of prefix) (range_with_len from n))) ≡ true
+narrow_from prefix from zero few = refl
+narrow_from prefix from (suc n) few = and_from (nat_le from 255) (fit_width false (map (λ (c : Listed). c.number) (map (channel_of prefix) (range_with_len (from + 1) n)))) (le-leb from 255 (omega arith)) (narrow_from prefix (from + 1) n (omega arith))
+
+case_width : (prefix : List ℕ) (number : ℕ) → fit_width false (numbers_in (case_reading prefix (case_of number)).reading.plan) ≡ true
+case_width prefix number = let few = (drawn.case-fits number).channels.few in narrow_from prefix 0 (length (case_of number).channels) (omega arith)
+
+-- the channels of a case are below 256
+pub case_numbers : (prefix : List ℕ) (number : ℕ) → All (λ channel. channel < 256) (channels_in_order (numbers_in (case_reading prefix (case_of number)).reading.plan))
+case_numbers prefix number k d lt = let h = width_in_order false (numbers_in (case_reading prefix (case_of number)).reading.plan) (case_width prefix number) k d lt in omega arith
+
+all_wide : (cs : List ℕ) → All (λ channel. channel < 256) cs → All (λ channel. channel < 65536) cs
+all_wide cs h k d lt = let low = h k d lt in omega arith
+
+-- what its calendar keeps: each of the one to four channels has an entry
+listed_few : (prefix : List ℕ) (n : ℕ) → n ≤ 4 → are_listed (map (λ (c : Listed). c.number) (map (channel_of prefix) (range_with_len 0 n))) (range_with_len 0 n) ≡ true
+listed_few prefix zero few = refl
+listed_few prefix (suc zero) few = refl
+listed_few prefix (suc (suc zero)) few = refl
+listed_few prefix (suc (suc (suc zero))) few = refl
+listed_few prefix (suc (suc (suc (suc zero)))) few = refl
+listed_few prefix (suc (suc (suc (suc (suc n))))) few = absurd (omega arith)
+
+case_calendar : (prefix : List ℕ) (number : ℕ) → KeepsValue (case_reading prefix (case_of number)).reading.plan
+case_calendar prefix number =
+    let n : ℕ = length (case_of number).channels in
+    let some : 1 ≤ n = (drawn.case-fits number).channels.some in
+    let few : n ≤ 4 = (drawn.case-fits number).channels.few in
+    let entries = length-range_with_len 0 n in
+    let listed = length-map-range_with_len (channel_of prefix) 0 n in
+    let numbers = length-map (map (channel_of prefix) (range_with_len 0 n)) (λ (c : Listed). c.number) in
+    record {
+      some_channels = omega (arith, some, listed, numbers);
+      some_entries = omega (arith, some, entries);
+      few_entries = omega (arith, few, entries);
+      listed = listed_few prefix n few;
+    }
 
 -- what a case comes to on its link
 pub some_case_linked : (number : ℕ) (prefix : List ℕ) → (o : Outcome) × IsLinked (case_reading prefix (case_of number)) o
@@ -102,8 +144,8 @@ some_case_linked number prefix =
     let c : Case = case_of number in
     let i = case_reading prefix c in
     let link = case_link number in
-    let (shape, is) = shape_of (settings_of c.numbers) link in
+    let (shape, is) = shape_of i.reading.plan (record { link = link; least_whole = refl; least_high = omega arith; in_width = case_width prefix number; calendar = case_calendar prefix number; window = (omega arith, omega arith) }) in
     let source : Source = record { shape = shape; channels = channels_in_order (numbers_in i.reading.plan); entries = i.reading.plan.entries; packets = i.reading.inputs.packets; flow = []; local = [] } in
     let of : IsSourceOf i.reading.plan i.reading.inputs source = record { shape = is; channels = refl; entries = refl; packets = refl; flow = refl; local = refl } in
-    let (w, stream) = of_fitting source (in_order_low (numbers_in i.reading.plan)) (λ k d lt. (case_packets number k d lt).bytes) in
+    let (w, stream) = of_fitting source (all_wide (channels_in_order (numbers_in i.reading.plan)) (case_numbers prefix number)) (λ k d lt. (case_packets number k d lt).bytes) in
     some_linked i link (drawn.case-fits number).marks.each_lane source of w stream

@@ -3,8 +3,10 @@ use Rattle.std.proofs.Common.{◌≡◌, ◌⊎◌, ℕ, List, refl, sym, ◌∙
 use Rattle.lk_base.specs.declared.word.Word.{Word}
 use Rattle.lk_base.specs.Link.{Settings}
 use Rattle.tx_end.specs.Whole.{IsShapeOf}
+use Rattle.link_plan.specs.Plan.{PlanValue}
 use Rattle.plan_inputs.specs.Sources as Planned
 use Rattle.stream_model.specs.BurstStream.{Source, IsBurstStream, IsHeld}
+use Rattle.link_plan.specs.Plan.{PlanValue}
 use Rattle.lk_outside.specs.Files.{Files, AreBytes}
 use Rattle.run_shell.specs.declared.status.Status.TheVariants.{Done, Held}
 use Rattle.run_shell.specs.declared.stop.Stop.{Stop}
@@ -14,6 +16,7 @@ use Rattle.run_shell.specs.Outcome.{Output, Outcome}
 use Rattle.run_shell.specs.Reading.{IsWork}
 use Rattle.run_shell.specs.Writing.{Fills, Writes}
 use Rattle.run_shell.proofs.Works.{is_meaning}
+use Rattle.run_shell.proofs.Writing.{writes_alike}
 use Rattle.plan_inputs.specs.Inputs.{Reading, planned_in}
 use Rattle.plan_inputs.specs.Sources.{IsSourceOf}
 use Rattle.plan_inputs.proofs.SameSource.{same_source}
@@ -79,17 +82,9 @@ send_means name = is_meaning (send_plan_work name) (send_is_work name)
 
 -- ---- what is written
 
--- outcomes that are the same are written alike
-pub writes_alike : (P Q : Outcome → Type 0) (names : List (List ℕ)) (r : Result Finished Stop) (x y : Option Files) → ((o : Outcome) → P o → Q o) → ((o : Outcome) → Q o → P o) → Writes P names r x y → Writes Q names r x y
-writes_alike P Q names r x y to back h = record { fills = by r h.fills; others = h.others }
-  where
-    by : (s : Result Finished Stop) → Fills P names s x y → Fills Q names s x y
-    by (Ok f) k = record { outcome = k.outcome; is_outcome = to k.outcome k.is_outcome; status = k.status; text = k.text; files = k.files }
-    by (Err s) k = record { by_store = k.by_store; part = λ o q. k.part o (back o q) }
-
-pub suits_by : (settings : Settings) (f : StreamForm) (source : Source) → IsFormOf settings f → Planned.IsShapeOf settings source.shape → Suits f source
-suits_by settings form.Words source is shape = tt
-suits_by settings (form.Lanes link) source is shape =
+pub suits_by : (plan : PlanValue) (f : StreamForm) (source : Source) → IsFormOf plan.settings f → Planned.IsShapeOf plan source.shape → Suits f source
+suits_by plan form.Words source is shape = tt
+suits_by plan (form.Lanes link) source is shape =
     subst (λ (s : Settings). IsShapeOf s source.shape) (sym is) (record { burst_max = shape.burst_max; burst_short = shape.burst_short; group = shape.group; warmup = shape.warmup })
 
 -- what is written of the source of a plan and its inputs
