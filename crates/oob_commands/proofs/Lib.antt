@@ -1,0 +1,12 @@
+pub mod OneOutput
+pub mod Hexes
+pub mod FlowRead
+pub mod Worked
+pub mod Readings
+pub mod Frames
+pub mod RowTexts
+pub mod Works
+pub mod FlowLength
+pub mod StatusBack
+pub mod Undone
+pub mod HandedOver

@@ -1,0 +1,98 @@
+//! The text of a flow file's rows.
+ghost use Rattle.std.specs.Prelude.{◌≡◌, ◌<◌, ◌≤◌, ◌++◌, [], ◌∷◌, true, Some, OnOk, OnErr, IfOk, map, string_bytes};
+ghost use Rattle.std.specs.Fmt.{decimal, digit_glyph};
+ghost use Rattle.std.specs.Io.KnownBytes.{Appends};
+ghost use Rattle.csv.specs.Writing.{text_written, row_text};
+ghost use Rattle.link_reports.specs.TableWriter.{IsBetweenRows};
+ghost use Rattle.oob_flow.specs.Reading.{rows_at};
+ghost use Rattle.csv_rows.specs.Written.{rows_writer};
+ghost use Rattle.oob_commands.specs.FlowFile.{hex, flow_file};
+
+use csv::{Writer, WriterBuilder};
+use lk_base::OutOfMemory;
+use std::alloc::{AllocError, Global};
+
+// The character of a hexadecimal digit.
+fn glyph(digit: u8) -> u8
+    requires { digit < 16 }
+    ensures { result ≡ digit_glyph true digit }
+{
+    if digit < 10 { 48 + digit } else { 55 + digit }
+}
+
+// Appends the last `count` hexadecimal digits of a number.
+#[tactic(auto, unfolding(crate::specs::FlowFile::hex))]
+fn put_hex(text: &mut Vec<u8>, count: u32, x: u64) -> Result<(), OutOfMemory>
+    requires { count ≤ 16 }
+    ensures { OnOk result (text.new.items ≡ text.old.items ++ hex count x) }
+{
+    if count == 0 {
+        return Ok(());
+    }
+    put_hex(text, count - 1, x / 16)?;
+    text.push(glyph((x % 16) as u8))?;
+    Ok(())
+}
+
+// A word in 16 digits.
+fn word_text(alloc: Global, word: u64) -> Result<Vec<u8>, OutOfMemory>
+    ensures { IfOk result (λ text. text.items ≡ hex 16 word) }
+{
+    let mut text = Vec::new(alloc);
+    put_hex(&mut text, 16, word)?;
+    Ok(text)
+}
+
+// A slot in decimal digits.
+fn slot_text(alloc: Global, slot: u64) -> Result<String, AllocError>
+    ensures { IfOk result (λ text. string_bytes text ≡ decimal slot) }
+{
+    format!(in alloc; "{slot}")
+}
+
+// Writes a row of these fields.
+fn write_fields(writer: &mut Writer<Vec<u8>>, fields: &[&[u8]]) -> Result<(), OutOfMemory>
+    requires { IsBetweenRows writer.old }
+    ensures between { OnOk result (IsBetweenRows writer.new) }
+    ensures text { OnOk result (Appends (text_written (λ v. Some v.items) writer.old) (text_written (λ v. Some v.items) writer.new)
+        (row_text rows_writer (map (λ f. f.now) fields.now))) }
+{
+    match writer.write_fields(fields) {
+        Ok(()) => Ok(()),
+        Err(_) => Err(OutOfMemory),
+    }
+}
+
+// Writes the row of a word.
+fn write_word(
+    alloc: Global,
+    writer: &mut Writer<Vec<u8>>,
+    slot: u64,
+    word: u64,
+) -> Result<(), OutOfMemory>
+    requires { IsBetweenRows writer.old }
+    ensures between { OnOk result (IsBetweenRows writer.new) }
+    ensures text { OnOk result (Appends (text_written (λ v. Some v.items) writer.old) (text_written (λ v. Some v.items) writer.new)
+        (row_text rows_writer (decimal slot ∷ hex 16 word ∷ []))) }
+{
+    let slot = slot_text(alloc, slot)?;
+    let word = word_text(alloc, word)?;
+    let fields = [slot.as_bytes(), word.as_slice()];
+    write_fields(writer, &fields)
+}
+
+/// The text of a row of this slot for each word.
+pub fn rows_text(alloc: Global, slot: u64, words: &[u64]) -> Result<Vec<u8>, OutOfMemory>
+    ensures { IfOk result (λ text. text.items ≡ flow_file (rows_at slot words.now)) }
+{
+    let mut writer = WriterBuilder::new()
+        .flexible(true)
+        .from_writer(Vec::new(alloc));
+    for word in words {
+        write_word(alloc, &mut writer, slot, *word)?;
+    }
+    match writer.into_inner() {
+        Ok(text) => Ok(text),
+        Err(_) => Err(OutOfMemory),
+    }
+}

@@ -1,0 +1,22 @@
+//! The commands of out-of-band status: `oobwrite` makes the samples of a plan's calendar, and `oobread` the flow file that
+//! samples give.
+#![tactic(auto)]
+
+mod content;
+mod flow_text;
+mod law;
+mod limits;
+mod oob_read;
+mod oob_write;
+mod reading;
+mod rows;
+mod samples;
+mod write;
+
+pub use law::{
+    flow_files_are_accepted, handing_over_is_met, oobread_undoes_oobwrite, status_is_read_back,
+    status_is_work, worked_files,
+};
+pub use limits::SAMPLES_LIMIT;
+pub use oob_read::OobRead;
+pub use oob_write::OobWrite;
