@@ -1,0 +1,9 @@
+use Rattle.plan_inputs.specs.Values.{reading_value}
+use Rattle.resend_commands.proofs.PlanResent.{stream_begun, sealed_plan}
+use Rattle.resend_commands.proofs.plan.begin.Goals as goal
+
+pub make-requires-clause-sealed : goal.make-requires-clause-sealed
+make-requires-clause-sealed c = sealed_plan c.args.reading.now c.in_ok-stream.stream c.deref.result.now c.requires.narrow c.deref.ensures.value c.in_ok-stream.ensures
+
+pub returns : goal.returns
+returns c = stream_begun (reading_value c.args.reading.now) c.args.window c.in_ok-stream.stream c.deref.result.now c.deref.ensures.value c.in_ok-stream.ensures c.make.result c.make.ensures

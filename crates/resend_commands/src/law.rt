@@ -1,0 +1,13 @@
+//! Laws on what `resend` makes.
+ghost use Rattle.resend_commands.specs.Accepted.{ResendIsWork, ResentInOrder};
+
+/// What is read for `resend` comes to one outcome; where the files hold bytes it comes to one; and no stream is held.
+pub fn resend_is_work()
+    ensures { ResendIsWork }
+{}
+
+/// Whatever the events lose, repeat and delay, the words file holds the words of the first pieces of the plan's stream, each
+/// accepted once, in order; what is acknowledged was accepted, and what was accepted was sent.
+pub fn resent_in_order()
+    ensures { ResentInOrder }
+{}

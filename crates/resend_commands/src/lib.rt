@@ -1,0 +1,15 @@
+//! The command `resend`, which carries the stream of a plan over a link that loses, repeats and delays.
+#![tactic(auto)]
+
+mod carrying;
+mod command;
+mod law;
+mod plan;
+mod reading;
+mod words;
+mod write;
+
+pub use command::ResendPlan;
+pub use law::{resend_is_work, resent_in_order};
+pub use reading::{ResendInputs, read_resend};
+pub use write::write_plan;
