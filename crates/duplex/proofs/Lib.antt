@@ -1,0 +1,11 @@
+pub mod OwnRows
+pub mod Told
+pub mod Filled
+pub mod Hearings
+pub mod Slots
+pub mod Starts
+pub mod Runs
+pub mod Opens
+pub mod Listed
+pub mod Packets
+pub mod Given

@@ -1,0 +1,15 @@
+pub mod Parts
+pub mod Works
+pub mod CapturesSent
+pub mod PeaksWithin
+pub mod ReadParts
+pub mod Backs
+pub mod HeldBack
+pub mod Begins
+pub mod Came
+pub mod Ends
+pub mod Kept
+pub mod Lends
+pub mod Steps
+pub mod Writes
+pub mod Loads

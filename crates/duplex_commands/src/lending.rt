@@ -1,0 +1,86 @@
+//! The packets of both ends, lent to a run.
+ghost use Rattle.std.specs.Prelude.{◌≡◌, ◌+◌, ◌<◌, ◌^◌, IfOk, OnOk};
+ghost use Rattle.link_plan.specs.Listing.{numbers_of, channels_in_order};
+ghost use Rattle.duplex_model.specs.DuplexRun.{Ends, Settings as RunSettings};
+ghost use Rattle.duplex.specs.Duplexes.{Waits, KeepsInboxes, packets_of as sent_by};
+ghost use Rattle.plan_inputs.specs.Inputs.{on_channel};
+ghost use Rattle.plan_inputs.specs.Values.{packets_of, packet_values, size_of, AreOn};
+ghost use Rattle.duplex_commands.specs.Values.{duplex_reading};
+ghost use Rattle.duplex_commands.specs.Loaded.{FitEnds, IsLoaded, all_added};
+
+use crate::reading::DuplexInputs;
+use duplex::{Duplex, End, Settings};
+use duplex_plan::DuplexPlan;
+use lk_base::OutOfMemory;
+use plan_inputs::CapturePackets;
+use std::alloc::Global;
+
+// Lends the packets of a capture, which an end sends behind those that it has.
+fn lend<'a>(
+    duplex: &mut Duplex<'a>,
+    end: End,
+    capture: &'a CapturePackets,
+) -> Result<(), OutOfMemory>
+    requires { (settings : RunSettings) × (ends : Ends) × Waits duplex.old settings ends × AreOn ends.channels (on_channel capture.now.channel (packets_of capture.now)) × (size_of (sent_by ends end) + size_of (on_channel capture.now.channel (packets_of capture.now)) < 2 ^ 40) }
+    ensures waits { OnOk result ((settings : RunSettings) (ends : Ends) → Waits duplex.old settings ends → Waits duplex.new settings (all_added ends end (on_channel capture.now.channel (packets_of capture.now)))) }
+    ensures inboxes { KeepsInboxes duplex.old duplex.new }
+{
+    for number in 0..capture.count() {
+        duplex.packet(end, capture.channel, capture.packet(number))?;
+    }
+    Ok(())
+}
+
+// Lends the packets of captures, which an end sends.
+fn lend_all<'a>(
+    duplex: &mut Duplex<'a>,
+    end: End,
+    captures: &'a [CapturePackets],
+) -> Result<(), OutOfMemory>
+    requires { (settings : RunSettings) × (ends : Ends) × Waits duplex.old settings ends × AreOn ends.channels (packet_values captures.now) × (size_of (sent_by ends end) + size_of (packet_values captures.now) < 2 ^ 40) }
+    ensures waits { OnOk result ((settings : RunSettings) (ends : Ends) → Waits duplex.old settings ends → Waits duplex.new settings (all_added ends end (packet_values captures.now))) }
+    ensures inboxes { KeepsInboxes duplex.old duplex.new }
+{
+    for capture in captures {
+        lend(duplex, end, capture)?;
+    }
+    Ok(())
+}
+
+// The settings of a run, without its slots.
+fn settings_of(settings: &DuplexPlan) -> Settings
+    ensures delay { result.delay ≡ settings.now.delay }
+    ensures mark { result.mark ≡ settings.now.mark }
+    ensures drain { result.drain ≡ settings.now.drain }
+{
+    Settings {
+        delay: settings.delay,
+        mark: settings.mark,
+        drain: settings.drain,
+    }
+}
+
+/// The run of what was read, before its first slot, with the packets of both ends. The channels are those of the plan in order of
+/// number.
+pub fn loaded<'a>(
+    alloc: Global,
+    inputs: &'a DuplexInputs,
+    channels: &[u16],
+) -> Result<Duplex<'a>, OutOfMemory>
+    requires channels { channels.now ≡ channels_in_order (numbers_of inputs.now.plan.channels.items) }
+    requires fit { FitEnds (numbers_of inputs.now.plan.channels.items) (packet_values inputs.now.packets_of_a.items) (packet_values inputs.now.packets_of_b.items) }
+    ensures { IfOk result (IsLoaded (duplex_reading inputs.now)) }
+{
+    let mut duplex = Duplex::make(
+        alloc,
+        inputs.plan.shape(),
+        channels,
+        &inputs.plan.entries,
+        inputs.plan.link.max_packet(),
+        inputs.plan.wide,
+        settings_of(&inputs.settings),
+    )?;
+    lend_all(&mut duplex, End::A, &inputs.packets_of_a)?;
+    lend_all(&mut duplex, End::B, &inputs.packets_of_b)?;
+    Ok(duplex)
+}
