@@ -8,9 +8,12 @@ use Rattle.join_commands.proofs.Joins.{join_words_means, join_plan_means}
 use Rattle.receive_commands.proofs.Receives.{receive_means}
 use Rattle.link_commands.proofs.LinkWork.{link_means}
 use Rattle.case_commands.proofs.GenerateWork.{generate_means}
+use Rattle.duplex_commands.proofs.Works.{duplex_means}
+use Rattle.oob_commands.proofs.Works.{write_means, read_means}
+use Rattle.resend_commands.proofs.Work.{resend_means}
 use Rattle.listing_commands.proofs.Conversions.{list_means, assemble_means}
 use Rattle.interlaken.specs.declared.request.Request.{Request}
-use Rattle.interlaken.specs.declared.request.Request.TheVariants.{BurstCapture, BurstPlan, JoinWords, JoinPlan, SendPlan, Receive, Link, Generate, ListFile, AssembleText}
+use Rattle.interlaken.specs.declared.request.Request.TheVariants.{BurstCapture, BurstPlan, JoinWords, JoinPlan, SendPlan, Receive, Link, Generate, Duplex, OobWrite, OobRead, Resend, ListFile, AssembleText}
 use Rattle.interlaken.specs.Request.{request_of}
 use Rattle.interlaken.specs.Meanings.{meaning_of, meaning_by}
 use Rattle.interlaken.specs.Run.{meaning_of_words, IsAccepted}
@@ -26,6 +29,10 @@ request_lawful (SendPlan name) = send_means name
 request_lawful (Receive name) = receive_means name
 request_lawful (Link name) = link_means name
 request_lawful (Generate a) = generate_means a
+request_lawful (Duplex name) = duplex_means name
+request_lawful (OobWrite name) = write_means name
+request_lawful (OobRead name) = read_means name
+request_lawful (Resend name) = resend_means name
 request_lawful (ListFile name) = list_means name
 request_lawful (AssembleText name) = assemble_means name
 

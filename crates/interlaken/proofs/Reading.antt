@@ -53,6 +53,22 @@ module _ (x : ℕ) (xs : Text) (e : nat_eq x 45 ≡ false) where
   unfolding clap_on_literals rows
   link_read = record { simple = refl; taken = simp e; found = simp e }
 
+  duplex_read : AreRead (codes "duplex" ∷ (x ∷ xs) ∷ [])
+  unfolding clap_on_literals rows
+  duplex_read = record { simple = refl; taken = simp e; found = simp e }
+
+  oobwrite_read : AreRead (codes "oobwrite" ∷ (x ∷ xs) ∷ [])
+  unfolding clap_on_literals rows
+  oobwrite_read = record { simple = refl; taken = simp e; found = simp e }
+
+  oobread_read : AreRead (codes "oobread" ∷ (x ∷ xs) ∷ [])
+  unfolding clap_on_literals rows
+  oobread_read = record { simple = refl; taken = simp e; found = simp e }
+
+  resend_read : AreRead (codes "resend" ∷ (x ∷ xs) ∷ [])
+  unfolding clap_on_literals rows
+  resend_read = record { simple = refl; taken = simp e; found = simp e }
+
   list_read : AreRead (codes "list" ∷ (x ∷ xs) ∷ [])
   unfolding clap_on_literals rows
   list_read = record { simple = refl; taken = simp e; found = simp e }
@@ -114,7 +130,7 @@ AllRead (row ∷ more) = Reads row × AllRead more
 
 all_read : AllRead rows
 unfolding rows
-all_read = (file_reads (codes "burst") burst_read, (file_reads (codes "join") join_read, (file_reads (codes "send") send_read, (file_reads (codes "receive") receive_read, (file_reads (codes "link") link_read, (number_reads (codes "generate") generate_read, (file_reads (codes "list") list_read, (file_reads (codes "assemble") assemble_read, tt))))))))
+all_read = (file_reads (codes "burst") burst_read, (file_reads (codes "join") join_read, (file_reads (codes "send") send_read, (file_reads (codes "receive") receive_read, (file_reads (codes "link") link_read, (number_reads (codes "generate") generate_read, (file_reads (codes "duplex") duplex_read, (file_reads (codes "oobwrite") oobwrite_read, (file_reads (codes "oobread") oobread_read, (file_reads (codes "resend") resend_read, (file_reads (codes "list") list_read, (file_reads (codes "assemble") assemble_read, tt))))))))))))
 
 some_mapped : {A B : Type 0} (f : A → B) (o : Option A) → is_some (option_map f o) ≡ true → is_some o ≡ true
 some_mapped f None e = e

@@ -9,10 +9,14 @@ use Rattle.join_commands.specs.JoinWords.{join_words_meaning}
 use Rattle.receive_commands.specs.Receive.{receive_meaning}
 use Rattle.link_commands.specs.Link.{link_meaning}
 use Rattle.case_commands.specs.Generate.{generate_meaning}
+use Rattle.duplex_commands.specs.Run.{duplex_meaning}
+use Rattle.oob_commands.specs.WriteSamples.{oob_write_meaning}
+use Rattle.oob_commands.specs.ReadRows.{oob_read_meaning}
+use Rattle.resend_commands.specs.Command.{resend_meaning}
 use Rattle.listing_commands.specs.Listing.{list_meaning}
 use Rattle.listing_commands.specs.Assembling.{assemble_meaning}
 use Rattle.interlaken.specs.declared.request.Request.{Request}
-use Rattle.interlaken.specs.declared.request.Request.TheVariants.{BurstCapture, BurstPlan, JoinWords, JoinPlan, SendPlan, Receive, Link, Generate, ListFile, AssembleText}
+use Rattle.interlaken.specs.declared.request.Request.TheVariants.{BurstCapture, BurstPlan, JoinWords, JoinPlan, SendPlan, Receive, Link, Generate, Duplex, OobWrite, OobRead, Resend, ListFile, AssembleText}
 
 -- one line for each command
 abbrev pub meaning_of : Request → Meaning
@@ -24,6 +28,10 @@ meaning_of (SendPlan name) = send_plan_meaning name
 meaning_of (Receive name) = receive_meaning name
 meaning_of (Link name) = link_meaning name
 meaning_of (Generate a) = generate_meaning a
+meaning_of (Duplex name) = duplex_meaning name
+meaning_of (OobWrite name) = oob_write_meaning name
+meaning_of (OobRead name) = oob_read_meaning name
+meaning_of (Resend name) = resend_meaning name
 meaning_of (ListFile name) = list_meaning name
 meaning_of (AssembleText name) = assemble_meaning name
 

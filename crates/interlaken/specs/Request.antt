@@ -6,7 +6,7 @@ use Rattle.case_commands.specs.Asked.{asked}
 use Rattle.interlaken.specs.declared.table.Name.{Name}
 use Rattle.interlaken.specs.declared.table.Name.TheVariants as names
 use Rattle.interlaken.specs.declared.request.Request.{Request}
-use Rattle.interlaken.specs.declared.request.Request.TheVariants.{BurstCapture, BurstPlan, JoinWords, JoinPlan, SendPlan, Receive, Link, Generate, ListFile, AssembleText}
+use Rattle.interlaken.specs.declared.request.Request.TheVariants.{BurstCapture, BurstPlan, JoinWords, JoinPlan, SendPlan, Receive, Link, Generate, Duplex, OobWrite, OobRead, Resend, ListFile, AssembleText}
 use Rattle.interlaken.specs.Given.{Given}
 use Rattle.interlaken.specs.Arguments.{arguments_of}
 use Rattle.interlaken.specs.Table.{Kind, rows, row_in}
@@ -31,6 +31,10 @@ request_for names.Send a = SendPlan a.file
 request_for names.Receive a = Receive a.file
 request_for names.Link a = Link a.file
 request_for names.Generate a = Generate (asked a.number a.file)
+request_for names.Duplex a = Duplex a.file
+request_for names.OobWrite a = OobWrite a.file
+request_for names.OobRead a = OobRead a.file
+request_for names.Resend a = Resend a.file
 request_for names.List a = ListFile a.file
 request_for names.Assemble a = AssembleText a.file
 
@@ -41,6 +45,10 @@ IsGivenTo names.Join a = Unit {0}
 IsGivenTo names.Send a = Unit {0}
 IsGivenTo names.Receive a = Unit {0}
 IsGivenTo names.Link a = Unit {0}
+IsGivenTo names.Duplex a = Unit {0}
+IsGivenTo names.OobWrite a = Unit {0}
+IsGivenTo names.OobRead a = Unit {0}
+IsGivenTo names.Resend a = Unit {0}
 IsGivenTo names.List a = Unit {0}
 IsGivenTo names.Assemble a = Unit {0}
 IsGivenTo names.Generate a = (1 ≤ length a.file) × (length a.file ≤ 180)

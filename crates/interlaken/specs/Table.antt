@@ -6,7 +6,7 @@ use Rattle.interlaken.specs.declared.table.Row.{Row}
 use Rattle.interlaken.specs.declared.table.Rule.{Rule}
 use Rattle.interlaken.specs.declared.table.Rule.TheVariants.{File, NumberAndPrefix}
 use Rattle.interlaken.specs.declared.table.Name.{Name}
-use Rattle.interlaken.specs.declared.table.Name.TheVariants.{Burst, Join, Send, Receive, Link, Generate, Assemble}
+use Rattle.interlaken.specs.declared.table.Name.TheVariants.{Burst, Join, Send, Receive, Link, Generate, Duplex, OobWrite, OobRead, Resend, Assemble}
 use Rattle.interlaken.specs.declared.table.Name.TheVariants as names
 
 pub record Kind : Type 0 where
@@ -26,6 +26,10 @@ rows =
     record { word = codes "receive"; command = Receive; rule = File } ∷
     record { word = codes "link"; command = Link; rule = File } ∷
     record { word = codes "generate"; command = Generate; rule = NumberAndPrefix } ∷
+    record { word = codes "duplex"; command = Duplex; rule = File } ∷
+    record { word = codes "oobwrite"; command = OobWrite; rule = File } ∷
+    record { word = codes "oobread"; command = OobRead; rule = File } ∷
+    record { word = codes "resend"; command = Resend; rule = File } ∷
     record { word = codes "list"; command = names.List; rule = File } ∷
     record { word = codes "assemble"; command = Assemble; rule = File } ∷
     []

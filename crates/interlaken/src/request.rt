@@ -7,12 +7,15 @@ use crate::arguments::{Arguments, arguments_of};
 use crate::command_line::{CommandLine, line_of, read_line};
 use crate::table::{Name, row_in, rows};
 use case_commands::GenerateCase;
+use duplex_commands::DuplexFile;
 use join_commands::{JoinPlan, JoinWords};
 use link_commands::LinkPlan;
 use listing_commands::{AssembleText, ListFile};
 use lk_base::OutOfMemory;
 use lk_outside::Store;
+use oob_commands::{OobRead, OobWrite};
 use receive_commands::Receive;
+use resend_commands::ResendPlan;
 use run_shell::{Command, Finished, Stop};
 use std::alloc::Global;
 use stream_commands::{BurstCapture, BurstPlan, SendPlan};
@@ -36,6 +39,14 @@ pub enum Request<'w> {
     Link(LinkPlan<'w>),
     /// A case of a number is written, sent and received.
     Generate(GenerateCase<'w>),
+    /// Two ends that hold each other back become the captures of what each got.
+    Duplex(DuplexFile<'w>),
+    /// The calendar of a plan and its local rows become samples.
+    OobWrite(OobWrite<'w>),
+    /// The samples of a plan become a flow file.
+    OobRead(OobRead<'w>),
+    /// The stream of a plan is carried over a link that loses, repeats and delays.
+    Resend(ResendPlan<'w>),
     /// A words file or a lane file becomes its listing.
     ListFile(ListFile<'w>),
     /// A text becomes the file of which it is the listing.
@@ -57,6 +68,10 @@ impl Command for Request<'_> {
             Request::Receive(receive) => receive.obey(alloc, store),
             Request::Link(link) => link.obey(alloc, store),
             Request::Generate(generate) => generate.obey(alloc, store),
+            Request::Duplex(duplex) => duplex.obey(alloc, store),
+            Request::OobWrite(write) => write.obey(alloc, store),
+            Request::OobRead(read) => read.obey(alloc, store),
+            Request::Resend(resend) => resend.obey(alloc, store),
             Request::ListFile(list) => list.obey(alloc, store),
             Request::AssembleText(assemble) => assemble.obey(alloc, store),
         }
@@ -104,6 +119,10 @@ fn request_for<'w>(command: Name, arguments: &Arguments<'w>) -> Request<'w>
         Name::Receive => Request::Receive(Receive::make(arguments.file)),
         Name::Link => Request::Link(LinkPlan::make(arguments.file)),
         Name::Generate => Request::Generate(GenerateCase::make(arguments.number, arguments.file)),
+        Name::Duplex => Request::Duplex(DuplexFile::make(arguments.file)),
+        Name::OobWrite => Request::OobWrite(OobWrite::make(arguments.file)),
+        Name::OobRead => Request::OobRead(OobRead::make(arguments.file)),
+        Name::Resend => Request::Resend(ResendPlan::make(arguments.file)),
         Name::List => Request::ListFile(ListFile::make(arguments.file)),
         Name::Assemble => Request::AssembleText(AssembleText::make(arguments.file)),
     }

@@ -26,6 +26,14 @@ pub enum Name {
     Link,
     /// A case of a number is written, sent and received.
     Generate,
+    /// Two ends that hold each other back become the captures of what each got.
+    Duplex,
+    /// The calendar of a plan and its local rows become samples.
+    OobWrite,
+    /// The samples of a plan become a flow file.
+    OobRead,
+    /// The stream of a plan is carried over a link that loses, repeats and delays.
+    Resend,
     /// A words file or a lane file becomes its listing.
     List,
     /// A text becomes the file of which it is the listing.
@@ -74,6 +82,26 @@ static ROWS: &[Row] = &[
         word: "generate",
         command: Name::Generate,
         rule: Rule::NumberAndPrefix,
+    },
+    Row {
+        word: "duplex",
+        command: Name::Duplex,
+        rule: Rule::File,
+    },
+    Row {
+        word: "oobwrite",
+        command: Name::OobWrite,
+        rule: Rule::File,
+    },
+    Row {
+        word: "oobread",
+        command: Name::OobRead,
+        rule: Rule::File,
+    },
+    Row {
+        word: "resend",
+        command: Name::Resend,
+        rule: Rule::File,
     },
     Row {
         word: "list",
