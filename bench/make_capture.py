@@ -10,7 +10,7 @@ def write_capture(name, megabytes, size):
     record = struct.pack("<IIII", 0, 0, size, size) + packet
     with open(name, "wb") as file:
         file.write(struct.pack("<IHHIIII", 0xA1B2C3D4, 2, 4, 0, 0, 262144, 1))
-        for _ in range(megabytes * 1000000 // size):
+        for _ in range(int(megabytes * 1000000) // size):
             file.write(record)
 
 

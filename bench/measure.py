@@ -1,9 +1,11 @@
-"""Measures each command of the program on one capture: processor seconds (of the program and of the system for it) and peak memory.
+"""Measures each command of the program: processor seconds (of the program and of the system for it) and peak memory.
 
     python3 measure.py PROGRAM [MEGABYTES [PACKET_BYTES..]]
 
 It prints a table for each size of packets, of the least of three runs each. The ratio is the processor time of a command over that of md5sum on the same capture
-in the same run. The link has 8 lanes and a metaframe of 2,048 words; `receive` reads the lanes that `send` wrote.
+in the same run. The link has 8 lanes and a metaframe of 2,048 words; `receive` reads the lanes that `send` wrote. Channels, where there are many, share the
+capture's bytes evenly. What does not read the capture has a size of its own, and no ratio: `duplex`, `resend`, `oobwrite` and `oobread` go to their limits, or by
+1,000,000 slots. What the program does not know is left out.
 """
 
 import os
@@ -13,20 +15,40 @@ import tempfile
 
 from make_capture import write_capture
 
-PLAN = "lanes,8\nmetaframe,2048\nchannel,0,a.pcap\n"
+LINK = "lanes,8\nmetaframe,2048\n"
+PLAN = LINK + "channel,0,a.pcap\n"
+WIDE, NARROW = 1000, 256
 # One bit of a lane is inverted, so the link counts its accidents.
 SCHEDULE = "flip,3,1000000\n"
-FILES = {"a.plan": PLAN + "out,o\n", "d.plan": PLAN + "schedule,d.schedule\nout,o\n", "d.schedule": SCHEDULE}
+# A queue of two ends is drained by a word in each slot, and each end sends all the time.
+ENDS = "plan,e.plan\ndelay,100\nmark,64\nslots,1000000\nback,0,e.pcap\nout,e\n"
+# 4,194,304 events, each of which does something as long as there are pieces.
+EVENTS = 1384 * "send,255\nrepeat,755\ntake,1010\ntakeback,1010\n" + "send,255\ntake,255\ntakeback,255\nlose,19\n"
+# The frames of two entries are 12 samples; the last begins at this slot.
+STATUS = LINK + "channel,1\nchannel,2\nlocal,s.local\noob,s.oob\nout,s\n"
+FILES = {
+    "a.plan": PLAN + "out,o\n", "d.plan": PLAN + "schedule,d.schedule\nout,o\n", "d.schedule": SCHEDULE,
+    "w.plan": LINK + "wide,1\n" + "".join("channel,%d,w.pcap\n" % (65 * n) for n in range(WIDE)) + "out,o\n",
+    "n.plan": LINK + "".join("channel,%d,n.pcap\n" % n for n in range(NARROW)) + "out,o\n",
+    "e.plan": "lanes,1\nmetaframe,32\nwarmup,4\nchannel,0,e.pcap\nout,e\n", "e.csv": ENDS,
+    "r.plan": PLAN + "window,255\nevents,r.events\nout,r\n", "r.events": EVENTS, "s.plan": STATUS, "s.local": "4194288,1,off\n",
+}
 # In this order: later commands read what earlier ones wrote.
 COMMANDS = [
     ("burst", "the capture", ["burst", "a.pcap"]), ("join", "its words file", ["join", "a.pcap.words"]),
     ("burst", "a plan", ["burst", "a.plan"]), ("join", "a plan", ["join", "a.plan"]),
     ("send", "8 lanes", ["send", "a.plan"]), ("receive", "8 lanes", ["receive", "a.plan"]), ("link", "8 lanes", ["link", "a.plan"]),
     ("link", "8 lanes, one bit inverted", ["link", "d.plan"]),
+    ("burst", "1,000 wide channels", ["burst", "w.plan"]), ("link", "1,000 wide channels", ["link", "w.plan"]),
+    ("burst", "256 narrow channels", ["burst", "n.plan"]), ("link", "256 narrow channels", ["link", "n.plan"]),
 ]
-# These read no more than LISTED bytes: the first words of the words file, whose lines they list and read back.
+# Listings read no more than LISTED bytes: the first words of the words file, whose lines they list and read back.
 LISTED = 16777216
-LISTINGS = [("list", "its first 16.8 MB", ["list", "first.words"]), ("assemble", "that listing", ["assemble", "first.words.txt"])]
+OTHERS = [
+    ("list", "its first 16.8 MB", ["list", "first.words"]), ("assemble", "that listing", ["assemble", "first.words.txt"]),
+    ("duplex", "1,000,000 slots", ["duplex", "e.csv"]), ("resend", "4,194,304 events", ["resend", "r.plan"]),
+    ("oobwrite", "4.2 MB of samples", ["oobwrite", "s.plan"]), ("oobread", "these samples", ["oobread", "s.plan"]),
+]
 MISUSED = 2
 RUNS = 3
 
@@ -42,6 +64,15 @@ def measured(words, folder):
 def least(words, folder):
     """The same of the run of RUNS that took the least, since other work on the machine only adds."""
     return min((measured(words, folder) for _ in range(RUNS)), key=lambda run: run[1])
+
+
+def write_inputs(folder, megabytes, size):
+    # Two ends carry eight bytes in a slot at most.
+    for name, part in (("a.pcap", megabytes), ("w.pcap", megabytes / WIDE), ("n.pcap", megabytes / NARROW), ("e.pcap", 8)):
+        write_capture(os.path.join(folder, name), part, size)
+    for name, text in FILES.items():
+        with open(os.path.join(folder, name), "w") as file:
+            file.write(text)
 
 
 def cut_words(folder):
@@ -60,18 +91,15 @@ def table(program, megabytes, size):
     row("command", "of", "seconds", "ratio to md5sum", "peak MB")
     row("---", "---", "---", "---", "---")
     with tempfile.TemporaryDirectory() as folder:
-        write_capture(os.path.join(folder, "a.pcap"), megabytes, size)
-        for name, text in FILES.items():
-            with open(os.path.join(folder, name), "w") as file:
-                file.write(text)
+        write_inputs(folder, megabytes, size)
         # The first run brings the capture into the machine's memory.
         _, base, peak = least(["md5sum", "a.pcap"], folder)
         row("`md5sum`", "a capture", "%.2f" % base, "1.0", "%.0f" % peak)
-        for name, what, words in COMMANDS + LISTINGS:
+        for name, what, words in COMMANDS + OTHERS:
             if name == "list":
                 cut_words(folder)
             status, seconds, peak = least([program] + words, folder)
-            ratio = "" if (name, what, words) in LISTINGS else "%.1f" % (seconds / base)
+            ratio = "" if (name, what, words) in OTHERS else "%.1f" % (seconds / base)
             if status != MISUSED:
                 row("`%s`" % name, what, "%.2f" % seconds, ratio, "%.0f" % peak if status == 0 else "status %d" % status)
 

@@ -1,24 +1,34 @@
-"""Runs `join` and `receive` on a table of words files and lanes that no sender made, and compares with what is written down.
+"""Runs the commands that read what another end made on a table of files that none would make, and compares with what is written down.
 
     python3 hostile.py PROGRAM [--write MODEL_FOLDER] [CASE..]
 
-What each case has to come to stands in hostile.txt: a line '== CASE -- WORDS', 'status N', the text, and a line
-'NAME LENGTH SHA-256' for each file that is created. --write makes that file anew, by an independent model. Nothing may come on
-standard error, and every other file has to be as it was.
+`join` and `receive` get words files and lanes, `oobwrite` local rows, `oobread` samples, `resend` events, and `duplex` two ends. What
+each case has to come to stands in hostile.txt: a line '== CASE -- WORDS', 'status N', the text, and a line 'NAME LENGTH SHA-256' for
+each file that is created. Of a text of more than 40 lines the line 'text LENGTH SHA-256' stands there, and of more than 40 files
+the line 'files LENGTH SHA-256' of their lines. --write makes that file anew, by an independent model. Nothing may come on standard
+error, every other file has to be as it was, and the run has to end in time. Cases of commands that the program does not know are
+skipped.
 """
 
 import hashlib
 import os
 import random
+import subprocess
 import sys
 
 from captures import capture
 from modeled import left_by_model
-from rows import left_by
+from rows import SECONDS, knows, left_by
 
 WANTED = os.path.join(os.path.dirname(os.path.abspath(__file__)), "hostile.txt")
-STAGE = 14
+STAGE = 20
 METAFRAME = 32
+# The most bytes of a plan, of a file of rows, and of samples, the most events, and the most slots of two ends.
+PLAN, ROWS, SAMPLES, EVENTS, SLOTS = 1048576, 16777216, 4194304, 4194304, 16777215
+# A model is asked for so many slots in place of the most, since by then both ends send idles alone.
+SETTLED = 20000
+# More lines of a text, or of files, are kept by their checksum.
+LINES = 40
 ONE = b"lanes,1\nmetaframe,32\nwarmup,4\nchannel,1,a.pcap\nchannel,2,b.pcap\nout,o\n"
 FOUR = b"lanes,4\nmetaframe,32\nwarmup,4\nchannel,0,a.pcap\nout,o\n"
 CAPTURES = {"a.pcap": capture(["300", "40"]), "b.pcap": capture(["300", "40"])}
@@ -145,17 +155,129 @@ def on_words(words):
         "shuffled": b"".join(r.sample(each, len(each))), "cut in a burst": b"".join(each[:15]), "idles alone": each[0] * 50,
     }
     found = {"words: %s" % name: (["join", "p.plan"], {"p.plan": ONE, "o.words": data}) for name, data in cases.items()}
+    for name in ("random words", "shuffled", "data as control"):
+        found["words: %s on wide channels" % name] = (["join", "p.plan"], {"p.plan": ONE + b"wide,1\n", "o.words": cases[name]})
     found["words: on one channel"] = (["join", "o.words"], {"o.words": words})
     found["words: a smaller longest packet"] = (["join", "p.plan"], {"p.plan": ONE + b"max_packet,299\n", "o.words": words})
     return found
 
 
-def table(run):
-    """All cases: their words, and the files before. The lanes and words that are damaged are those that `run` makes."""
+def calendar(entries):
+    return b"".join(b"channel,%d\n" % entry for entry in range(entries)) + b"wide,1\n"
+
+
+def status_plan(entries):
+    return b"lanes,1\nmetaframe,32\nout,o\nlocal,o.local\noob,o.oob\n" + calendar(entries)
+
+
+def on_rows():
+    """The cases of a local file, whose rows `oobwrite` shows."""
+    cases = {
+        "an early and the last slot": (1024, b"0,5,off\n16777215,5,on\n"), "zeros": (2, bytes(1000)), "a quote that stays open": (2, b'0,1,"off\n' * 1000),
+        "a row of many fields": (2, b"0,1,off" + b",off" * 100000), "a field of a megabyte": (2, b"0" * 1000000 + b",1,off\n"), "line ends alone": (2, b"\r\n" * 500000),
+        "many rows at one slot": (3, b"".join(b"9,%d,%s\n" % (n % 3, (b"off", b"on")[n % 7 == 0]) for n in range(100000))),
+        "at the limit": (1, b"0,0,off\n" * (ROWS // 8)), "above the limit": (1, b"0,0,off\n" * (ROWS // 8) + b"\n"),
+    }
+    found = {"rows: %s" % name: (["oobwrite", "p.plan"], {"p.plan": status_plan(n), "o.local": rows}) for name, (n, rows) in cases.items()}
+    found["rows: the folder itself"] = (["oobwrite", "p.plan"], {"p.plan": status_plan(1).replace(b"o.local", b".")})
+    found["rows: a prefix in a folder that is not there"] = (["oobwrite", "p.plan"], {"p.plan": status_plan(1).replace(b"out,o", b"out,absent/o"), "o.local": b""})
+    return found
+
+
+def on_samples(run):
+    """The cases of samples: of calendars with one entry, two, and as many as give a second block, and the most."""
+    r = random.Random(3)
+    rows = b"0,0,off\n100,0,on\n2500,0,off\n"
+    one, two, blocks, most = (run(["oobwrite", "p.plan"], {"p.plan": status_plan(n), "o.local": rows})[3]["o.oob"] for n in (1, 2, 65, 1024))
+    with_bits = lambda data, bits: bytes(sample ^ bits for sample in data)
+    cases = {
+        "none": (1, b""), "one": (1, b"\7"), "zeros": (1, bytes(1000)), "sevens": (1, b"\7" * 1000), "fives and fours": (1, b"\4\5" * 500), "sixes and sevens": (1, b"\6\7" * 500),
+        "random samples": (1, bytes(r.randrange(8) for _ in range(9000))), "random samples of two blocks": (65, bytes(r.choice([0, 1, 2, 3] * 9 + [6, 7]) for _ in range(9000))),
+        "random bytes": (2, r.randbytes(9000)), "an eight at first": (2, b"\x08" + two), "an eight at last": (2, two + b"\x08"), "a high bit in the middle": (2, two[:500] + b"\x87" + two[501:]),
+        "all bits high": (2, b"\xff" * 100), "turned around": (2, two[::-1]), "each sample twice": (2, bytes(s for s in two for _ in (0, 1))), "of another calendar": (2, one),
+        "without the first": (2, two[1:]), "clock inverted": (2, with_bits(two, 1)), "data inverted": (2, with_bits(two, 2)), "sync inverted": (2, with_bits(two, 4)),
+        "lines swapped": (2, bytes(s & 1 | s >> 1 & 2 | s << 1 & 4 for s in two)), "without a sync": (2, bytes(s & 3 for s in two)), "a sync in each third bit": (2, bytes(s | 4 * (n % 6 > 3) for n, s in enumerate(two))),
+        "a sync at the last bit": (2, two[:-2] + bytes(s | 4 for s in two[-2:])), "each frame without its last bit": (2, b"".join(two[n:n + 10] for n in range(0, len(two), 12))),
+        "each frame with a bit more": (2, b"".join(two[n:n + 12] + b"\0\1" for n in range(0, len(two), 12))), "each five hundredth sample damaged": (65, bytes(s ^ (1 << n % 3) * (n % 500 == 99) for n, s in enumerate(blocks))),
+        "two blocks cut between": (65, blocks[:136] + blocks), "the most entries": (1024, most), "the most entries cut in the last block": (1024, most[:2175] + most),
+        "at the limit": (1, (b"\6\7" + b"\0\1" * 4) * (SAMPLES // 10) + bytes(4)), "zeros at the limit": (1, bytes(SAMPLES)), "a sync in each bit at the limit": (1, b"\6\7" * (SAMPLES // 2)),
+        "wrong at the limit": (1, bytes(SAMPLES - 1) + b"\x08"), "above the limit": (1, bytes(SAMPLES + 1)), "wrong and above the limit": (1, b"\x08" * (SAMPLES + 1)),
+    }
+    found = {"samples: %s" % name: (["oobread", "p.plan"], {"p.plan": status_plan(n), "o.oob": data}) for name, (n, data) in cases.items()}
+    found["samples: the folder itself"] = (["oobread", "p.plan"], {"p.plan": status_plan(1).replace(b"o.oob", b".")})
+    found["samples: the plan itself"] = (["oobread", "p.plan"], {"p.plan": status_plan(1).replace(b"o.oob", b"p.plan")})
+    found["samples: a prefix in a folder that is not there"] = (["oobread", "p.plan"], {"p.plan": status_plan(1).replace(b"out,o", b"out,absent/o"), "o.oob": one})
+    return found
+
+
+def on_events():
+    """The cases of events on a stream of 1,680 pieces."""
+    plan = b"lanes,1\nmetaframe,32\nwarmup,58\nwindow,255\nchannel,0\nevents,e\nout,o\n"
+    r = random.Random(4)
+    names = [b"send", b"rewind", b"take", b"lose", b"repeat", b"takeback", b"loseback", b"repeatback"]
+    busy = b"send,255\nrepeat,1000\ntake,1024\nrepeatback,9\ntakeback,1024\n"
+    turns = b"send,1\ntake,1\ntakeback,1\n"
+    cases = {
+        "none": b"", "zeros": bytes(1000), "random bytes": r.randbytes(1000), "a quote that stays open": b'"send",1\n"take,1\n' * 1000, "a row of many fields": b"send" + b",1" * 100000,
+        "a name of a megabyte": b"send" * 250000 + b",1\n", "a count of a megabyte": b"send," + b"1" * 1000000, "a huge count": b"send,1\ntake,999999999999999\n",
+        "a count of sixteen digits": b"take,1000000000000000\n", "each event on empty queues": b"".join(name + b",400000\n" for name in names),
+        "random events": b"".join(b"%s,%d\n" % (r.choice(names), r.randint(1, 300)) for _ in range(5000)),
+        "one row of the most": b"send,%d\n" % EVENTS, "repeats of the most": b"send,1\nrepeat,%d\n" % (EVENTS - 1), "takes of the most": b"send,9\ntake,%d\n" % (EVENTS - 9),
+        "full queues up to the most": busy * (EVENTS // 3312) + b"take,%d\n" % (EVENTS % 3312), "one more than the most": busy * (EVENTS // 3312) + b"take,%d\ntake,1\n" % (EVENTS % 3312),
+        "all counts together above the most": b"lose,4194304\n" * 1000, "at the limit": turns * (ROWS // 25) + b"\n" * (ROWS % 25), "line ends at the limit": b"\n" * ROWS, "above the limit": b"\n" * (ROWS + 1),
+    }
+    found = {"events: %s" % name: (["resend", "p.plan"], {"p.plan": plan, "e": data}) for name, data in cases.items()}
+    found["events: the folder itself"] = (["resend", "p.plan"], {"p.plan": plan.replace(b"events,e", b"events,.")})
+    found["events: a prefix in a folder that is not there"] = (["resend", "p.plan"], {"p.plan": plan.replace(b"out,o", b"out,absent/o"), "e": turns})
+    return found
+
+
+def on_ends():
+    """The cases of two ends."""
+    r = random.Random(5)
+    settings = b"plan,p.plan\ndelay,10\nmark,8\nslots,3000\nout,o\n"
+    plan = b"lanes,1\nmetaframe,32\nwarmup,4\nchannel,1,a.pcap\nout,x\n"
+    many = b"lanes,1\nmetaframe,32\nwarmup,4\nwide,1\nout,x\n"
+    files = {"a.pcap": capture(["300", "40", "1000"]), "long.pcap": capture(["262128"])}
+    back = b"back,1,a.pcap\n"
+    # Captures of 262,168 bytes: 1,023 of them are within what all captures may have together.
+    both = lambda a, b: (settings + b"".join(b"back,%d,long.pcap\n" % n for n in range(b)), many + b"".join(b"channel,%d%s\n" % (n, b",long.pcap" * (n < a)) for n in range(512)))
+    cases = {
+        "no bytes": (b"", plan), "zeros": (bytes(1000), plan), "random bytes": (r.randbytes(1000), plan), "a quote that stays open": (settings + b'back,"1,a.pcap\n', plan),
+        "a row of many fields": (settings + b"back" + b",1" * 100000, plan), "a key of a megabyte": (b"delay" * 200000, plan), "a count of sixteen digits": (settings + b"drain,0000000000000001\n", plan),
+        "at the limit": (settings + back + b"\n" * (PLAN - len(settings + back)), plan), "above the limit": (settings + b"\n" * (PLAN + 1 - len(settings)), plan),
+        "a plan at the limit": (settings, plan + b"\n" * (PLAN - len(plan))), "a plan above the limit": (settings, plan + b"\n" * (PLAN + 1 - len(plan))),
+        "the folder itself as plan": (settings.replace(b"p.plan", b"."), plan), "a prefix in a folder that is not there": (settings.replace(b"out,o", b"out,absent/o"), plan),
+        "the longest delay": (settings.replace(b"delay,10", b"delay,4096").replace(b"3000", b"9000") + back, plan), "the least mark and the slowest drain": (settings.replace(b"mark,8", b"mark,1") + b"drain,1024\n" + back, plan),
+        "the greatest mark": (settings.replace(b"mark,8", b"mark,65536") + back, plan), "more back rows than channels": (settings + b"".join(b"back,%d,a.pcap\n" % n for n in range(50000)), plan),
+        "a thousand channels both ways": (settings + b"".join(b"back,%d,a.pcap\n" % (61 * n) for n in range(1000)), many + b"".join(b"channel,%d,a.pcap\n" % (61 * n) for n in range(1000))),
+        "captures of both ends above the limit": both(512, 512), "an entry in each place but one": (settings + back, plan + b"channel,2,a.pcap\n" + b"entry,2\n" * 1023 + b"entry,1\n"),
+        "the most slots": (settings.replace(b"3000", b"%d" % SLOTS) + back, plan), "one more than the most slots": (settings.replace(b"3000", b"%d" % (SLOTS + 1)), plan),
+    }
+    return {"ends: %s" % name: (["duplex", "d"], {"d": data, "p.plan": plan, **files}) for name, (data, plan) in cases.items()}
+
+
+def table(run, knows_command):
+    """All cases of the commands that are known: their words, and the files before. What is damaged is what `run` makes."""
     one = run(["send", "p.plan"], {"p.plan": ONE, **CAPTURES})[3]
     four = run(["send", "p.plan"], {"p.plan": FOUR, **CAPTURES})[3]
     words = run(["burst", "p.plan"], {"p.plan": ONE, **CAPTURES})[3]["o.words"]
-    return {**on_one_lane(one["o.lane.0"]), **on_four_lanes([four["o.lane.%d" % lane] for lane in range(4)]), **on_words(words)}
+    found = {**on_one_lane(one["o.lane.0"]), **on_four_lanes([four["o.lane.%d" % lane] for lane in range(4)]), **on_words(words)}
+    if knows_command("oobwrite"):
+        found.update(on_rows())
+    if knows_command("oobwrite") and knows_command("oobread"):
+        found.update(on_samples(run))
+    if knows_command("resend"):
+        found.update(on_events())
+    if knows_command("duplex"):
+        found.update(on_ends())
+    return found
+
+
+def shortened(kind, lines):
+    """Many lines are kept by their checksum."""
+    data = "".join(line + "\n" for line in lines).encode()
+    return lines if len(lines) <= LINES else ["%s %d %s" % (kind, len(data), hashlib.sha256(data).hexdigest())]
 
 
 def told(name, words, before, ended):
@@ -163,9 +285,9 @@ def told(name, words, before, ended):
     status, text, error, files = ended
     if error or any(files.get(name) != data for name, data in before.items()):
         return None
-    lines = ["== %s -- %s" % (name, " ".join(words)), "status %d" % status] + text.decode().splitlines()
-    for name in sorted(set(files) - set(before)):
-        lines.append("%s %d %s" % (name, len(files[name]), hashlib.sha256(files[name]).hexdigest()))
+    lines = ["== %s -- %s" % (name, " ".join(words)), "status %d" % status] + shortened("text", text.decode().splitlines())
+    created = sorted(set(files) - set(before))
+    lines += shortened("files", ["%s %d %s" % (name, len(files[name]), hashlib.sha256(files[name]).hexdigest()) for name in created])
     return "".join(line + "\n" for line in lines)
 
 
@@ -173,28 +295,44 @@ def by_model(folder):
     """A run of the model in this folder."""
     sys.path.insert(0, folder)
     reference = __import__("reference")
-    return lambda words, before: left_by_model(reference, words, before, STAGE)
+
+    def run(words, before):
+        fewer = {name: data.replace(b"slots,%d\n" % SLOTS, b"slots,%d\n" % SETTLED) for name, data in before.items()}
+        status, text, error, files = left_by_model(reference, words, fewer, STAGE)
+        text = text if fewer == before else text.replace(b"slots %d\n" % SETTLED, b"slots %d\n" % SLOTS)
+        return status, text, error, {**files, **before}
+    return run
+
+
+def write(folder):
+    run = by_model(folder)
+    with open(WANTED, "w") as file:
+        for name, (words, before) in table(run, lambda command: True).items():
+            file.write(told(name, words, before, run(words, before)))
 
 
 def main():
     program, words = os.path.abspath(sys.argv[1]), sys.argv[2:]
     if words[:1] == ["--write"]:
-        run = by_model(os.path.abspath(words[1]))
-        with open(WANTED, "w") as file:
-            file.write("".join(told(name, words, before, run(words, before)) for name, (words, before) in table(run).items()))
-        return 0
+        return write(os.path.abspath(words[1]))
     with open(WANTED) as file:
         wanted = {block.split(" -- ")[0]: "== " + block for block in file.read().split("== ")[1:]}
     run = lambda words, before: left_by(program, words, before)
+    cases = table(run, lambda command: knows(program, command))
     passed, failed = 0, 0
-    for name, (case, before) in table(run).items():
+    for name, (case, before) in cases.items():
         if words and name not in words:
             continue
-        got = told(name, case, before, run(case, before))
-        right = got is not None and got == wanted.get(name)
+        try:
+            got = told(name, case, before, run(case, before))
+        except subprocess.TimeoutExpired:
+            got = "no end in %d seconds\n" % SECONDS
+        right = got == wanted.get(name)
         passed, failed = passed + right, failed + (not right)
         if not right:
             print("%s:\n%sand not:\n%s" % (name, got, wanted.get(name)))
+    if len(cases) < len(wanted):
+        print("%d cases skipped: the program does not know their commands" % (len(wanted) - len(cases)))
     print("hostile: %d passed, %d failed" % (passed, failed))
     return 1 if failed else 0
 

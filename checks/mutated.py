@@ -1,11 +1,12 @@
-"""Runs `join` and `receive` on mutated words files and lanes, and shows that each run ends by itself with an answer.
+"""Runs the commands that read what another end made on mutated files, and shows that each run ends by itself with an answer.
 
-    python3 mutated.py PROGRAM [--count N] [--seed S] [--jobs J] [--model FOLDER --sample N]
+    python3 mutated.py PROGRAM [--count N] [--seed S] [--jobs J] [--model FOLDER --sample N [--stage N]]
 
-No part of the gate: it is run by hand, since it takes its time. The files that are mutated are those of the rows of rows/ that end
-well and have at most 20,000 bytes together. A run is right where it ends within 20 seconds with the status 0, 2, 4 or 5, and
-nothing came on standard error. Of the first --sample runs of each job the model in FOLDER gives the same status, text and files.
-The same seed gives the same files. N is 1,000 by default, for each of the two commands a half.
+No part of the gate: it is run by hand, since it takes its time. The files that are mutated are the words files of `join`, the lanes
+of `receive`, the samples of `oobread` and the events of `resend`, of the rows of rows/ that end well and have at most 20,000 bytes
+together. A run is right where it ends within 20 seconds with the status 0, 2, 4 or 5, and nothing came on standard error. Of the
+first --sample runs of each job the model in FOLDER gives the same status, text and files, at the stage of the program. The same seed
+gives the same files. N is 1,000 by default, for each of the commands that the program knows an equal part.
 """
 
 import argparse
@@ -17,8 +18,10 @@ import sys
 import tempfile
 import time
 
-from rows import ROWS, content, files_in, left_by, lines_of
+import compare
+from rows import ROWS, content, files_in, knows, left_by, lines_of
 
+COMMANDS = ("join", "receive", "oobread", "resend")
 ANSWERS = (0, 2, 4, 5)
 SECONDS = 20
 LARGEST = 20000
@@ -35,7 +38,7 @@ def bases(program, command):
         before = files_in(os.path.join(path, "before"))
         first = lines_of(os.path.join(path, "first"))
         before = left_by(program, first, before)[3] if first else before
-        if sum(map(len, before.values())) <= LARGEST:
+        if sum(map(len, before.values())) <= LARGEST and any(map(is_mutated, before)):
             found.append((words, before))
     return found
 
@@ -91,18 +94,58 @@ def word(r, data):
         data[at:at + 9] = bytes([r.choice([1, 2, 3])]) + r.randbytes(8)
 
 
+def sample(r, data):
+    """Samples stay below eight: one is another, lost, repeated, or some are any others."""
+    at = r.randrange(len(data))
+    kind = r.randrange(5)
+    if kind < 2:
+        data[at] ^= 1 << r.randrange(3)
+    elif kind == 2:
+        del data[at:at + r.choice([1, 2, 12])]
+    elif kind == 3:
+        data[at:at] = data[at:at + r.choice([1, 2, 12])]
+    else:
+        data[at:at] = bytes(r.randrange(8) for _ in range(r.choice([1, 2, 20])))
+
+
+def event(r, data):
+    """Rows of events stay such: one is moved, lost, repeated, or any other."""
+    rows = bytes(data).splitlines(True)
+    at = r.randrange(len(rows))
+    kind = r.randrange(4)
+    if kind == 0:
+        rows.insert(r.randrange(len(rows)), rows.pop(at))
+    elif kind == 1:
+        rows.insert(at, rows[at])
+    elif kind == 2:
+        del rows[at]
+    else:
+        name = r.choice([b"send", b"rewind", b"take", b"lose", b"repeat", b"takeback", b"loseback", b"repeatback"])
+        rows[at] = b"%s,%d\n" % (name, r.choice([1, 2, 64, 255, 1024, r.randint(1, 2000)]))
+    data[:] = b"".join(rows)
+
+
+# By the ends of their names, the files that are mutated, how they are so that they stay such, and the least that this needs.
+STAYING = {".words": (word, 9), ".oob": (sample, 1), "e.csv": (event, 1)}
+
+
+def is_mutated(name):
+    return ".lane." in name or name.endswith(tuple(STAYING))
+
+
 def mutated(r, words, before):
-    """The same words, and the files with the words file or the lanes changed in one to four places."""
+    """The same words, and the files with what the command reads of another end changed in one to four places."""
     files = dict(before)
-    names = [name for name in sorted(files) if name.endswith(".words") or ".lane." in name]
+    names = [name for name in sorted(files) if is_mutated(name)]
     if len(names) > 1 and r.randrange(6) == 0:
         one, other = r.sample(names, 2)
         files[one], files[other] = (files[other], files[one]) if r.randrange(2) else (files[one], files[one])
     for _ in range(r.randint(1, 4)):
         name = r.choice(names)
         data = bytearray(files[name])
-        if name.endswith(".words") and len(data) >= 9 and r.randrange(10):
-            word(r, data)
+        change, least = next((STAYING[end] for end in STAYING if name.endswith(end)), (None, 0))
+        if change and len(data) >= least and r.randrange(10):
+            change(r, data)
         elif data:
             r.choice(CHANGES)(r, data)
         files[name] = bytes(data)
@@ -122,15 +165,14 @@ def run_in(program, folder, words, files):
 def job(task):
     given, number, count = task
     r = random.Random("%d %d" % (given.seed, number))
-    from_rows = {command: bases(given.program, command) for command in ("join", "receive")}
+    from_rows = {command: bases(given.program, command) for command in given.commands}
     told, answers = [], {}
     if given.model:
-        import compare
         sys.path.insert(0, given.model)
         compare.reference = __import__("reference")
     with tempfile.TemporaryDirectory(dir="/dev/shm" if os.path.isdir("/dev/shm") else None) as folder:
         for run in range(count):
-            command = ("join", "receive")[run % 2]
+            command = given.commands[run % len(given.commands)]
             words, files = mutated(r, *r.choice(from_rows[command]))
             try:
                 status, _, error = run_in(given.program, folder, words, files)
@@ -152,8 +194,10 @@ def main():
     parser.add_argument("--jobs", type=int, default=1)
     parser.add_argument("--model", type=os.path.abspath)
     parser.add_argument("--sample", type=int, default=0)
-    parser.add_argument("--stage", type=int, default=14)
+    parser.add_argument("--stage", type=int)
     given = parser.parse_args()
+    given.commands = [command for command in COMMANDS if knows(given.program, command)]
+    given.stage = given.stage or compare.stage_of(given.program)
     began = time.time()
     with multiprocessing.Pool(given.jobs) as pool:
         ended = pool.map(job, [(given, number, given.count // given.jobs) for number in range(given.jobs)])

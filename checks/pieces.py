@@ -8,20 +8,26 @@ LIBRARY is faults/failing.c, built. A write that fails adds nothing, so what sta
     send    of eight lanes of 171,520 bytes: pieces of 65,536 bytes alone, then the rests in the order of creation, then the text
     receive of a lane with a hundred packets: at the last read whose failing ends the run, the capture has a piece already
     generate of a case: each of its files is written to its end before the next, pieces and then a rest
+    duplex  of a hundred packets both ways: pieces of both captures alone, then the rests in the order of creation, then the text
+    oobwrite, oobread, resend of one large output each: pieces of it, a rest, and the text in one write
 """
 
 import os
-import subprocess
 import sys
 
 sys.path.insert(0, os.path.join(os.path.dirname(os.path.abspath(__file__)), "faults"))
 from faults import Run
 from captures import capture
+from rows import knows
 
 PIECE = 65536
 SENT = {"p.plan": b"lanes,8\nmetaframe,2048\nchannel,0,a.pcap\nchannel,1,b.pcap\nout,o\n", "a.pcap": capture(["60", "1514"]), "b.pcap": capture(["60", "590"])}
 RECEIVED = {"p.plan": b"lanes,1\nmetaframe,32\nwarmup,4\nchannel,1,a.pcap\nchannel,2\nout,o\n", "a.pcap": capture(["100x1514"])}
 LANES = ["o.lane.%d" % lane for lane in range(8)]
+# Frames of 12 samples up to slot 150,000 and one more.
+STATUS = {"p.plan": b"lanes,1\nmetaframe,32\nchannel,1\nchannel,2\nlocal,p.local\noob,o.oob\nout,o\n", "p.local": b"150000,1,off\n"}
+RESENT = {"p.plan": b"lanes,1\nmetaframe,32\nwindow,255\nevents,p.events\nchannel,1,a.pcap\nout,o\n", "a.pcap": capture(["100x1514"]), "p.events": 9 * b"send,255\ntake,255\ntakeback,255\n"}
+ENDS = {"d.csv": b"plan,p.plan\ndelay,1\nmark,100\nslots,30000\nback,1,a.pcap\nout,o\n", **RESENT}
 
 
 class Checks:
@@ -46,21 +52,47 @@ class Checks:
         self.holds(what + ": prefixes", all(right.files[name].startswith(got.files.get(name, b"")) for name in names))
         self.holds(what + ": status and text", (got.status, got.text) == ((1, line) if line else (7, b"")))
 
+    def one_output(self, words, before, name, length):
+        """The one file of a command grows in pieces and a rest, and the text is the write after it."""
+        writes = -(-length // PIECE)
+        for at in range(1, writes + 1):
+            self.lengths(words, before, [name], at, [PIECE * (at - 1)], b"store fault: %s\n" % name.encode())
+        self.lengths(words, before, [name], writes + 1, [length], b"")
+
+    def equal_outputs(self, words, before, names, length):
+        """The files of a command, all of one length, grow in pieces side by side; then come the rests in order, and then the text."""
+        pieces = len(names) * (length // PIECE)
+        for at in range(1, pieces + 1):
+            got = self.run(words, before, "write", at)
+            lengths = [len(got.files.get(name, b"")) for name in names]
+            self.holds("%s, write %d: pieces" % (words[0], at), all(n % PIECE == 0 for n in lengths) and sum(lengths) == PIECE * (at - 1))
+        for at, name in enumerate(names):
+            wanted = [length] * at + [length // PIECE * PIECE] * (len(names) - at)
+            self.lengths(words, before, names, pieces + 1 + at, wanted, b"store fault: %s\n" % name.encode())
+        self.lengths(words, before, names, pieces + 1 + len(names), [length] * len(names), b"")
+
     def burst(self):
-        before = {"a.pcap": capture(["100x1514"])}
-        for at, wanted in ((1, 0), (2, PIECE), (3, 2 * PIECE)):
-            self.lengths(["burst", "a.pcap"], before, ["a.pcap.words"], at, [wanted], b"store fault: a.pcap.words\n")
-        self.lengths(["burst", "a.pcap"], before, ["a.pcap.words"], 4, [176427], b"")
+        self.one_output(["burst", "a.pcap"], {"a.pcap": capture(["100x1514"])}, "a.pcap.words", 176427)
 
     def send(self):
-        for at in range(1, 17):
-            got = self.run(["send", "p.plan"], SENT, "write", at)
-            lengths = [len(got.files.get(name, b"")) for name in LANES]
-            self.holds("send, write %d: pieces" % at, all(n % PIECE == 0 for n in lengths) and sum(lengths) == PIECE * (at - 1))
-        for at in range(17, 25):
-            wanted = [171520] * (at - 17) + [2 * PIECE] * (25 - at)
-            self.lengths(["send", "p.plan"], SENT, LANES, at, wanted, b"store fault: o.lane.%d\n" % (at - 17))
-        self.lengths(["send", "p.plan"], SENT, LANES, 25, [171520] * 8, b"")
+        self.equal_outputs(["send", "p.plan"], SENT, LANES, 171520)
+
+    def duplex(self):
+        self.equal_outputs(["duplex", "d.csv"], ENDS, ["o.a.1.pcap", "o.b.1.pcap"], len(ENDS["a.pcap"]))
+
+    def oobwrite(self):
+        self.one_output(["oobwrite", "p.plan"], STATUS, "o.oob", 150012)
+
+    def oobread(self):
+        samples = bytes([6, 7, 2, 3, 0, 1, 0, 1, 0, 1, 2, 3]) * 5000
+        # A row has the number of a sample, a comma, 16 digits and a line end.
+        length = sum(len("%d" % at) + 18 for at in range(11, len(samples), 12))
+        self.one_output(["oobread", "p.plan"], {**STATUS, "o.oob": samples}, "o.oob.flow", length)
+
+    def resend(self):
+        # The whole stream is accepted, so that its length is that of the words file of `burst`.
+        length = len(self.run(["burst", "p.plan"], RESENT).files["o.words"])
+        self.one_output(["resend", "p.plan"], RESENT, "o.words", length)
 
     def receive(self):
         before = self.run(["send", "p.plan"], RECEIVED).files
@@ -91,12 +123,9 @@ def main():
     program, library = sys.argv[1:]
     program = os.path.abspath(program)
     checks = Checks(program, library)
-    checks.burst()
-    checks.send()
-    if b"usage" not in subprocess.run([program, "receive", "none.plan"], capture_output=True).stdout:
-        checks.receive()
-    if b"usage" not in subprocess.run([program, "generate", "0", "absent/g"], capture_output=True).stdout:
-        checks.generate()
+    for command in ("burst", "send", "receive", "generate", "duplex", "oobwrite", "oobread", "resend"):
+        if knows(program, command):
+            getattr(checks, command)()
     print("pieces: %d passed, %d failed" % (checks.passed, checks.failed))
     return 1 if checks.failed else 0
 

@@ -3,7 +3,8 @@
     python3 faults.py PROGRAM LIBRARY [--seconds N] [CASE..]
 
 LIBRARY is failing.c, built. Each case is a command on a small link: two captures of a few packets, a plan with a flow file and a
-local file, what `burst` and `send` make of it, and a schedule. A run in which one call failed has to end by itself
+local file, what `burst` and `send` make of it, and a schedule; samples and events; and two ends that send to each other. A run in
+which one call failed has to end by itself
 
     as the undisturbed run does: status, text and files;
     or with status 6 where memory was refused, 1 where an open or a read failed, 1 or 7 where a write failed; then each file that
@@ -32,11 +33,14 @@ CASES = {
     "burst": ["burst", "one.pcap"], "burst with a plan": ["burst", "p.plan"], "join": ["join", "one.pcap.words"],
     "join with a plan": ["join", "p.plan"], "send": ["send", "p.plan"], "receive": ["receive", "p.plan"],
     "link": ["link", "l.plan"], "generate": ["generate", "7", "g"], "list": ["list", "one.pcap.words"],
-    "list of a lane": ["list", "p.lane.0"], "assemble": ["assemble", "one.txt"],
+    "list of a lane": ["list", "p.lane.0"], "assemble": ["assemble", "one.txt"], "duplex": ["duplex", "d.csv"],
+    "oobwrite": ["oobwrite", "p.plan"], "oobread": ["oobread", "r.plan"], "resend": ["resend", "r.plan"],
 }
 KINDS = ("malloc", "read", "write", "open")
 STATUSES = {"malloc": (6,), "read": (1,), "write": (1, 7), "open": (1,)}
 PLAN = "lanes,2\nmetaframe,32\nwarmup,4\nchannel,1,one.pcap\nchannel,2,two.pcap\n"
+# A frame of a calendar of two entries, the second of them off.
+SAMPLES = bytes([6, 7, 0, 1, 0, 1, 0, 1, 0, 1, 0, 1])
 # A run has to end by then.
 SECONDS = 60
 
@@ -47,6 +51,9 @@ def made_inputs():
         "p.plan": (PLAN + "flow,p.flow\nlocal,p.local\nout,p\n").encode(), "p.flow": b"0,81FFFF0000188177\n",
         "p.local": b"3,1,off\n", "l.plan": (PLAN + "schedule,l.schedule\nout,l\n").encode(),
         "l.schedule": b"skew,1,30\nflip,0,9000\n", "one.txt": b"words\nbad 0000000000000000\ndata 0000000000000001\n",
+        "d.csv": b"plan,p.plan\ndelay,7\nmark,4\nslots,900\ndrain,2\nback,2,one.pcap\nout,d\n",
+        "r.plan": (PLAN + "flow,p.flow\nlocal,p.local\noob,r.oob\nwindow,9\nevents,r.events\nout,r\n").encode(),
+        "r.oob": SAMPLES + SAMPLES[:7] + SAMPLES, "r.events": b"send,9\ntake,5\nlose,1\ntake,9\ntakeback,14\nrewind,1\n" + 40 * b"send,9\ntake,9\ntakeback,9\n",
     }
 
 

@@ -1,0 +1,160 @@
+#!/usr/bin/env bash
+# Compares the SystemVerilog benches of examples/testbench with the program. For lanes as sent and damaged ones, what the one bench
+# prints of a lane is what `receive` prints of it, and, where it is stated here, what the rules give. The lanes of idles that the
+# other makes are those of `send`, and `receive` locks on them. Needs iverilog; where verilator is there too, it lints both benches.
+set -u
+. "$(dirname "$0")/program.bash"
+wants iverilog
+wants vvp
+program=$(readlink -f "$program")
+bench=$top/examples/testbench
+folder=$(mktemp -d)
+trap 'rm -rf "$folder"' EXIT
+cp "$top"/examples/{one,two}.pcap "$folder" && cd "$folder" || exit 1
+passed=0 failed=0
+
+holds() { # WHAT FOUND WANTED
+  if [ "$2" = "$3" ]; then
+    passed=$((passed + 1))
+  else
+    failed=$((failed + 1))
+    printf '%s:\n  %s\nand not\n  %s\n' "$1" "$2" "$3"
+  fi
+}
+
+compile() { # BENCH OUTPUT PARAMETERS..
+  local name=$1 output=$folder/$2 parameters=() parameter
+  shift 2
+  for parameter; do parameters+=(-P "tb_$name.$parameter"); done
+  (cd "$bench" && iverilog -g2012 -f "$name.f" -s "tb_$name" "${parameters[@]}" -o "$output") || echo "$name $*: not compiled"
+}
+
+# Every plan here has one lane, a metaframe of 32 words, one Skip word and a warm-up of 9 groups where its rows say nothing else.
+plan() { # ROWS..
+  printf '%s\n' "$@" >p.plan
+  local row
+  for row in lanes,1 metaframe,32 warmup,9 out,o; do
+    grep -q "^${row%,*}," p.plan || echo "$row" >>p.plan
+  done
+}
+
+lines_of() { # COMMAND
+  "$program" "$1" p.plan 2>&1 | grep '^lane '
+}
+
+bench_of() { # CHECK FILE LANE
+  timeout 30 vvp -n "$1" "+file=$2" "+lane=$3" 2>&1
+}
+
+# A lane with the damage that the rows of a schedule say: link, receive and the bench agree on it.
+captures=(channel,1,one.pcap channel,2,two.pcap)
+damaged() { # WHAT STATED-LINE-OR-NOTHING ROWS..
+  local what=$1 stated=$2 received
+  shift 2
+  printf '%s\n' "$@" >s.csv
+  plan "${captures[@]}" schedule,s.csv
+  "$program" link p.plan >linked 2>&1
+  received=$(lines_of receive)
+  holds "$what, as link prints it" "$(grep '^lane ' linked)" "$received"
+  holds "$what, as the bench prints it" "$(bench_of check32 o.lane.0 0 | head -n 1)" "$received"
+  [ -z "$stated" ] || holds "$what, as stated" "$received" "$stated"
+}
+
+# The number of a bit in a lane of metaframes of 32 words.
+bit_of() { # METAFRAME WORD BIT
+  echo $((67 * (32 * $1 + $2) + $3))
+}
+
+compile check check32 METAFRAME=32
+compile check check40 METAFRAME=40
+compile make make32 METAFRAME=32 SKIPS=1
+compile make make40_0 METAFRAME=40 SKIPS=3 LANE=0
+compile make make40_1 METAFRAME=40 SKIPS=3 LANE=1
+
+# The first lock is declared at the Sync of metaframe 3, bit 6432. A code is the inversion bit, two header bits and the payload.
+clean='lane 0 locks=1 first=6432 lost=0 unframed=0 bad=0 sync=0 state=0 diag=0'
+one_bad='lane 0 locks=1 first=6432 lost=0 unframed=0 bad=1 sync=0 state=0 diag=1'
+damaged 'a lane as sent' "$clean" 'skew,0,0'
+damaged 'ones in front' "${clean/6432/6632}" 'skew,0,200'
+damaged 'ones in front, a word and a bit' "${clean/6432/6500}" 'skew,0,68'
+damaged 'a payload bit' "${clean/diag=0/diag=1}" "flip,0,$(bit_of 5 10 20)"
+damaged 'an inversion bit' "${clean/diag=0/diag=1}" "flip,0,$(bit_of 5 10 0)"
+damaged 'a header bit' "$one_bad" "flip,0,$(bit_of 5 10 1)"
+damaged 'a bit of a Sync word' "${clean/sync=0 state=0 diag=0/sync=1 state=0 diag=1}" "flip,0,$(bit_of 5 0 30)"
+damaged 'a bit of a state' "${clean/state=0/state=1}" "flip,0,$(bit_of 5 1 40)"
+damaged 'a bit of a CRC32' "${clean/diag=0/diag=1}" "flip,0,$(bit_of 5 31 60)"
+damaged 'sixteen illegal headers in a block' 'lane 0 locks=2 first=6432 lost=1 unframed=0 bad=15 sync=0 state=0 diag=0' \
+  "dark,0,$(bit_of 5 10 0),$((16 * 67))"
+damaged 'fifteen illegal headers in a block' 'lane 0 locks=1 first=6432 lost=0 unframed=0 bad=15 sync=0 state=0 diag=1' \
+  "dark,0,$(bit_of 5 10 0),$((15 * 67))"
+damaged 'sixteen illegal headers before the metaframe is found' \
+  'lane 0 locks=1 first=12864 lost=0 unframed=1 bad=0 sync=0 state=0 diag=0' "dark,0,$(bit_of 2 6 0),$((16 * 67))"
+damaged 'four wrong Syncs in a row' 'lane 0 locks=2 first=6432 lost=1 unframed=0 bad=0 sync=3 state=0 diag=3' \
+  "flip,0,$(bit_of 5 0 30)" "flip,0,$(bit_of 6 0 31)" "flip,0,$(bit_of 7 0 32)" "flip,0,$(bit_of 8 0 33)"
+damaged 'three wrong states in a row' 'lane 0 locks=2 first=6432 lost=1 unframed=0 bad=0 sync=0 state=2 diag=0' \
+  "flip,0,$(bit_of 5 1 40)" "flip,0,$(bit_of 6 1 41)" "flip,0,$(bit_of 7 1 42)"
+damaged 'no state after the declaring Sync' 'lane 0 locks=2 first=6432 lost=1 unframed=0 bad=0 sync=0 state=0 diag=0' \
+  "flip,0,$(bit_of 3 1 3)"
+damaged 'a bit in every twelfth word' '' $(seq -f 'flip,0,%.0f' 6500 797 30000)
+# A word that was meant as zeros leaves the CRC32 as it was, and the Diagnostic word is wrong for the bad word alone.
+{
+  printf '\xa1\xb2\xc3\xd4\0\2\0\4\0\0\0\0\0\0\0\0\0\4\0\0\0\0\0\1' # the header of a capture
+  printf '\0\0\0\0\0\0\0\0\0\0\0\100\0\0\0\100'                    # and of a packet of 64 bytes
+  head -c 64 /dev/zero
+} >zeros.pcap
+captures=(channel,1,zeros.pcap)
+damaged 'a header bit of a word of zeros' "$one_bad" "flip,0,$(bit_of 9 6 1)"
+captures=(channel,1,one.pcap channel,2,two.pcap)
+
+plan "${captures[@]}"
+"$program" send p.plan >sent 2>&1
+holds 'the disparity of a lane as sent' "$(bench_of check32 o.lane.0 0 | grep -c 'unbalanced=0 ')" 1
+
+# 480 words, for a receiver that looks for metaframes of another length. It gives up at the word 239 and begins a bit after it, so
+# with the word 241; one that began with the word 240 would give up again at the last word.
+plan warmup,13 channel,1
+"$program" send p.plan >sent 2>&1
+plan metaframe,40 channel,1
+unframed='lane 0 locks=0 first=- lost=0 unframed=1 bad=0 sync=0 state=0 diag=0'
+holds 'metaframes of another length, as receive prints it' "$(lines_of receive)" "$unframed"
+holds 'metaframes of another length, as the bench prints it' "$(bench_of check40 o.lane.0 0 | head -n 1)" "$unframed"
+
+# Lanes that send made of no packets are those that the bench makes: a stream of no packets has two groups more than its warm-up.
+plan warmup,4 channel,1
+"$program" send p.plan >sent 2>&1
+timeout 30 vvp -n make32 +file=m.lane.0 +metaframes=6 >made 2>&1
+holds 'a made lane of metaframes of 32 words' "$(cksum <m.lane.0)" "$(cksum <o.lane.0)"
+plan lanes,2 metaframe,40 skips,3 warmup,8 channel,1
+"$program" send p.plan >sent 2>&1
+for lane in 0 1; do
+  timeout 30 vvp -n "make40_$lane" "+file=m.lane.$lane" +metaframes=10 >made 2>&1
+  holds "made lane $lane of metaframes of 40 words" "$(cksum <"m.lane.$lane")" "$(cksum <"o.lane.$lane")"
+  line=$(lines_of receive | sed -n "$((lane + 1))p")
+  holds "lane $lane of metaframes of 40 words" "$(bench_of check40 "m.lane.$lane" "$lane" | head -n 1)" "$line"
+done
+
+# What receive tells of a made lane; and of one in which nothing is sent inverted, which it does not look at and the bench does. The
+# bench knows the word plain alone.
+got=$(printf '%s\n' "$clean" 'got channel=1 packets=0 bytes=0' 'spans 2' \
+  'dropped bad=0 crc=0 protocol=0 lost=0 end=0 toolong=0 unlisted=0 sender=0')
+cp "$bench/idle.plan" .
+for way in balanced plain; do
+  timeout 30 vvp -n make32 +file=idle.lane.0 +metaframes=12 "+$way" >made 2>&1
+  holds "receive of a made lane, $way" "$("$program" receive idle.plan 2>&1)" "$got"
+  bench_of check32 idle.lane.0 0 >told
+  holds "the bench of a made lane, $way" "$(head -n 1 told)" "$clean"
+  wanted=$([ "$way" = plain ] && echo 0 || echo 1)
+  holds "the disparity of a made lane, $way" "$(grep -c 'unbalanced=0 ' told)" "$wanted"
+done
+
+case $(verilator --version 2>/dev/null) in
+  'Verilator '[5-9]* | 'Verilator '[1-9][0-9]*)
+    for name in check make; do
+      holds "lint of $name" "$(cd "$bench" && verilator --lint-only -Wall --timing -f "$name.f" --top-module "tb_$name" 2>&1)" ''
+    done
+    ;;
+  *) echo "$0: no lint, no verilator of version 5 or later" ;;
+esac
+
+echo "testbench: $passed passed, $failed failed"
+[ "$failed" -eq 0 ]
