@@ -1,54 +1,47 @@
-"""Draws the two pictures of the tour from the files of examples/damaged.plan.
+"""Draws the pictures of the tour from the files of examples/.
 
     python3 figures.py PROGRAM [FOLDER]
 
-The program runs `burst damaged.plan` and `link damaged.plan` on a copy of examples/; the pictures, lanes.svg and stream.svg, are
-written to FOLDER, which is the script's own by default. Nothing is drawn that does not stand in a file or in the printed text.
+The program runs its commands on a copy of examples/; the pictures are written to FOLDER, which is the script's own by default. This
+file draws those of examples/damaged.plan, lanes.svg and stream.svg; two_ends.py, status.py and again.py have one each. Nothing is
+drawn that does not stand in a file or in the printed text, or was computed from the rules and agrees with both.
 """
 
-import csv
 import os
 import re
 import shutil
-import subprocess
 import sys
 import tempfile
+
+import again
+import status
+import two_ends
+from files import Folder
+from picture import COLOURS, Picture
 
 HERE = os.path.dirname(os.path.abspath(__file__))
 CODE = 67
 SYNC = 0x78F678F678F678F6
-COLOURS = {"sync": "#1b4f72", "skew": "#d5d8dc", "lane": "#eaf2f8", "flip": "#c0392b", "idle": "#d5d8dc", 1: "#2e86c1", 2: "#28b463", "lost": "#c0392b", "span": "#fadbd8"}
-
-
-def rows_of(path):
-    with open(path, newline="") as file:
-        return [row for row in csv.reader(file) if row]
 
 
 class Run:
     """What the two commands left, and what the plan and the schedule say."""
 
-    def __init__(self, program, folder):
-        self.folder = folder
-        self.plan = {row[0]: row[1:] for row in rows_of(self.path("damaged.plan"))}
-        self.schedule = rows_of(self.path("damaged.schedule"))
+    def __init__(self, folder):
+        self.plan = {row[0]: row[1:] for row in folder.rows("damaged.plan")}
+        self.schedule = folder.rows("damaged.schedule")
         self.lanes, self.metaframe = int(self.plan["lanes"][0]), int(self.plan["metaframe"][0])
         self.group = (self.metaframe - 3 - int(self.plan.get("skips", ["1"])[0])) * self.lanes
         self.skew = {int(row[1]): int(row[2]) for row in self.schedule if row[0] == "skew"}
         self.flip = [(int(row[1]), int(row[2])) for row in self.schedule if row[0] == "flip"]
-        subprocess.run([program, "burst", "damaged.plan"], cwd=folder, check=True, capture_output=True)
-        self.text = subprocess.run([program, "link", "damaged.plan"], cwd=folder, check=True, capture_output=True).stdout.decode()
-        with open(self.path("damaged.words"), "rb") as file:
-            data = file.read()
-        self.words = [(data[i], int.from_bytes(data[i + 1:i + 9], "big")) for i in range(0, len(data), 9)]
-        self.spans = rows_of(self.path("damaged.spans.csv"))[1:]
-
-    def path(self, name):
-        return os.path.join(self.folder, name)
+        folder.run("burst", "damaged.plan")
+        self.text = folder.run("link", "damaged.plan")
+        self.words = folder.words("damaged.words")
+        self.spans = folder.rows("damaged.spans.csv")[1:]
+        self.files = folder
 
     def bits(self, lane):
-        with open(self.path("damaged.lane.%d" % lane), "rb") as file:
-            return "".join("%d" % (byte >> (7 - i) & 1) for byte in file.read() for i in range(8))
+        return "".join("%d" % (byte >> (7 - i) & 1) for byte in self.files.content("damaged.lane.%d" % lane) for i in range(8))
 
     def slot(self, group, index):
         """The slot of a place: its group is named by the bit at which lane 0's Sync word of the group begins."""
@@ -67,25 +60,6 @@ class Run:
                 if word >> 61 & 1:
                     open_at[channel] = slot
         return sorted(found, key=lambda packet: packet[1])
-
-
-class Picture:
-    def __init__(self, width, height):
-        self.lines = ['<svg xmlns="http://www.w3.org/2000/svg" width="%d" height="%d" viewBox="0 0 %d %d" font-family="sans-serif" font-size="12">' % (width, height, width, height),
-                      '<rect width="%d" height="%d" fill="white"/>' % (width, height)]
-
-    def box(self, x, y, width, height, fill):
-        self.lines.append('<rect x="%.1f" y="%.1f" width="%.1f" height="%.1f" fill="%s"/>' % (x, y, width, height, fill))
-
-    def line(self, x, y, to_x, to_y, colour, dashes=""):
-        self.lines.append('<line x1="%.1f" y1="%.1f" x2="%.1f" y2="%.1f" stroke="%s"%s/>' % (x, y, to_x, to_y, colour, ' stroke-dasharray="%s"' % dashes if dashes else ""))
-
-    def text(self, x, y, text, colour="#17202a", anchor="start"):
-        self.lines.append('<text x="%.1f" y="%.1f" fill="%s" text-anchor="%s">%s</text>' % (x, y, colour, anchor, text))
-
-    def save(self, path):
-        with open(path, "w") as file:
-            file.write("\n".join(self.lines + ["</svg>", ""]))
 
 
 def draw_lanes(run, path):
@@ -154,12 +128,16 @@ def draw_stream(run, path):
 
 
 def main():
-    program, folder = os.path.abspath(sys.argv[1]), sys.argv[2] if len(sys.argv) > 2 else HERE
+    program, target = os.path.abspath(sys.argv[1]), sys.argv[2] if len(sys.argv) > 2 else HERE
     with tempfile.TemporaryDirectory() as work:
         shutil.copytree(os.path.join(HERE, "..", "..", "examples"), work, dirs_exist_ok=True)
-        run = Run(program, work)
-        draw_lanes(run, os.path.join(folder, "lanes.svg"))
-        draw_stream(run, os.path.join(folder, "stream.svg"))
+        folder = Folder(program, work)
+        run = Run(folder)
+        draw_lanes(run, os.path.join(target, "lanes.svg"))
+        draw_stream(run, os.path.join(target, "stream.svg"))
+        for page in (two_ends, status, again):
+            page.draw(folder, os.path.join(target, page.__name__ + ".svg"))
 
 
-main()
+if __name__ == "__main__":
+    main()
