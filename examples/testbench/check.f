@@ -1,0 +1,9 @@
+lane_pkg.sv
+lane_reader.sv
+word_lock.sv
+metaframe_lock.sv
+scrambler58.sv
+crc.sv
+disparity.sv
+lane_checker.sv
+tb_check.sv

@@ -1,0 +1,7 @@
+lane_pkg.sv
+lane_writer.sv
+scrambler58.sv
+crc.sv
+disparity.sv
+idle_lane.sv
+tb_make.sv
