@@ -1,0 +1,181 @@
+"""What checks/pictures.sh does, with the program and the repository as its words."""
+
+import os
+import re
+import shutil
+import subprocess
+import sys
+import tempfile
+import xml.etree.ElementTree as xml
+
+PROGRAM, TOP = os.path.abspath(sys.argv[1]), os.path.abspath(sys.argv[2])
+sys.path.insert(0, os.path.join(TOP, "tools"))
+
+from drawing.svg import length_of
+
+TOOL = os.path.join(TOP, "tools", "picture")
+SVG = "{http://www.w3.org/2000/svg}"
+# Each example that is drawn, and what its pictures have: worked out from the plans and captures, as the tour tells.
+EXAMPLES = {"damaged": {"lanes": 2, "packets": 4, "lost": 2, "spans": 3}, "two": {"lanes": 1, "packets": 4, "lost": 0, "spans": 2},
+            "wide": {"lanes": 2, "packets": 4, "lost": 0, "spans": 2}, "again": {"lanes": 1, "packets": 2, "lost": 0, "spans": 2},
+            "status": {"lanes": 1, "packets": 0, "lost": 0, "spans": 2}}
+CASES = (2, 18, 20)
+# Each file that is spoiled, and how; then what is drawn, and what the tool says.
+SPOILED = [
+    ("damaged.words", None, "damaged.plan", "damaged.words is missing: `interlaken burst damaged.plan` makes it"),
+    ("damaged.lane.1", None, "damaged.plan", "damaged.lane.1 is missing: `interlaken link damaged.plan` makes it"),
+    ("damaged.spans.csv", None, "damaged.plan", "damaged.spans.csv is missing: `interlaken receive damaged.plan` makes it"),
+    ("damaged.2.pcap", None, "damaged.plan", "damaged.2.pcap is missing: `interlaken receive damaged.plan` makes it"),
+    ("two_ends.b.1.pcap", None, "two_ends.duplex", "two_ends.b.1.pcap is missing: `interlaken duplex two_ends.duplex` makes it"),
+    ("damaged.plan", None, "damaged.plan", "damaged.plan: No such file or directory"),
+    ("damaged.schedule", None, "damaged.plan", "damaged.schedule: No such file or directory"),
+    ("damaged.words", lambda data: data[:100], "damaged.plan", "damaged.words: short at 99"),
+    ("damaged.words", lambda data: data[:18] + b"\7" + data[19:], "damaged.plan", "damaged.words: tag at 18"),
+    ("damaged.words", lambda data: data[:900], "damaged.plan", "damaged.spans.csv: row 2: slot 169, and the words file has 100"),
+    ("damaged.spans.csv", lambda data: b"after\n", "damaged.plan", "damaged.spans.csv: no table of fault spans"),
+    ("damaged.1.pcap", lambda data: data[:50], "damaged.plan", "damaged.1.pcap: record 0 is not whole"),
+    ("damaged.schedule", lambda data: b"flip,2,1\n", "damaged.plan", "damaged.schedule: row 1: 2 is not in 0 to 1"),
+    ("damaged.plan", lambda data: data + b"lane,1\n", "damaged.plan", "damaged.plan: row 8: unknown key 'lane'"),
+    ("two_ends.a.2.pcap", lambda data: data[:24], "two_ends.duplex", "two_ends.a.2.pcap: computed "),
+]
+
+
+class Results:
+    passed, failed = 0, 0
+
+    def expect(self, what, found, wanted):
+        self.passed, self.failed = self.passed + (found == wanted), self.failed + (found != wanted)
+        if found != wanted:
+            print("%s: %r, and not %r" % (what, found, wanted))
+
+
+def run(words, folder):
+    return subprocess.run(words, cwd=folder, capture_output=True, encoding="utf-8")
+
+
+def titles(root, kind):
+    """The titles of the boxes of a kind."""
+    return [box.findtext(SVG + "title") or "" for box in root.iter(SVG + "rect") if box.get("class") == kind]
+
+
+def counts_of(folder, prefix):
+    """What the two pictures of a plan have."""
+    lanes, stream = (xml.parse(os.path.join(folder, "%s.%s.svg" % (prefix, kind))).getroot() for kind in ("lanes", "stream"))
+    lost = set(titles(stream, "lost packet"))
+    alone = set(titles(stream, "packet")) | lost
+    together = sum(int(title.split()[0]) for title in titles(stream, "packets"))
+    return {"lanes": len(set(titles(lanes, "lane"))), "packets": len(alone) + together, "lost": len(lost), "spans": len(set(titles(stream, "span")))}
+
+
+def printed_counts(sent, linked):
+    """The same as the program printed it."""
+    return {"lanes": len(re.findall(r"^lane ", linked, re.MULTILINE)), "packets": sum(map(int, re.findall(r"^sent .*packets=(\d+)", sent, re.MULTILINE))),
+            "lost": len(re.findall(r"^missing ", linked, re.MULTILINE)), "spans": int(re.search(r"^spans (\d+)", linked, re.MULTILINE).group(1))}
+
+
+def overlapping(path):
+    """Two texts of a picture that overlap, or an empty list."""
+    boxes = []
+    for element in xml.parse(path).getroot().iter(SVG + "text"):
+        x, y, width = float(element.get("x")), float(element.get("y")), length_of(element.text)
+        x -= {"end": width, "middle": width / 2}.get(element.get("text-anchor"), 0)
+        for other in boxes:
+            if x + 2 < other[0] + other[2] and other[0] + 2 < x + width and abs(y - other[1]) < 10:
+                return [element.text, other[3]]
+        boxes.append((x, y, width, element.text))
+    return []
+
+
+def check_pictures(results, folder):
+    """That no texts overlap in the pictures that are there."""
+    for name in sorted(name for name in os.listdir(folder) if name.endswith(".svg")):
+        results.expect(name + ", texts", overlapping(os.path.join(folder, name)), [])
+
+
+def draw(results, folder, words):
+    done = run([TOOL] + words, folder)
+    results.expect("picture " + " ".join(words), (done.returncode, done.stderr), (0, ""))
+
+
+def check_examples(results, folder):
+    for name, wanted in EXAMPLES.items():
+        draw(results, folder, [name + ".plan", "--program", PROGRAM])
+        results.expect(name, counts_of(folder, name), wanted)
+    stream = xml.parse(os.path.join(folder, "damaged.stream.svg")).getroot()
+    texts = [element.text for element in stream.iter(SVG + "text")]
+    for text in ("slot 230 is damaged", "span 1 of slots 224 to 290: crc"):
+        results.expect("damaged, " + text, texts.count(text), 1)
+    with open(os.path.join(folder, "printed"), "w", encoding="utf-8") as file:
+        file.write(run([PROGRAM, "duplex", "two_ends.duplex"], folder).stdout)
+    draw(results, folder, ["two_ends.duplex", "--text", "printed"])
+    queues = xml.parse(os.path.join(folder, "two_ends.queues.svg")).getroot()
+    peaks = sorted(element.text for element in queues.iter(SVG + "text") if element.text.startswith("peak"))
+    results.expect("two_ends, peaks", peaks, ["peak 19", "peak 30", "peak 33"])
+
+
+def check_case(results, folder, number):
+    """A generated case, beside what `generate` printed."""
+    name = "case%d" % number
+    linked = run([PROGRAM, "generate", "%d" % number, name], folder).stdout
+    sent = run([PROGRAM, "burst", name + ".plan"], folder).stdout
+    with open(os.path.join(folder, "printed"), "w", encoding="utf-8") as file:
+        file.write(linked)
+    draw(results, folder, [name + ".plan", "--text", "printed"])
+    results.expect(name, counts_of(folder, name + ".out"), printed_counts(sent, linked))
+
+
+def check_wide_link(results, folder):
+    """64 lanes, a few of them damaged, with lanes and words that the tool has made by the program."""
+    rows = ["lanes,64", "metaframe,32", "warmup,4", "channel,1,one.pcap", "channel,2,two.pcap", "schedule,many.schedule", "out,many"]
+    skews = ["skew,%d,%d" % (lane, 7 * lane % 400) for lane in range(64)]
+    for name, lines in (("many.plan", rows), ("many.schedule", skews + ["flip,9,9000", "flip,9,9001", "dark,40,9000,300"])):
+        with open(os.path.join(folder, name), "w", encoding="utf-8") as file:
+            file.write("\n".join(lines) + "\n")
+    draw(results, folder, ["many.plan", "--program", PROGRAM])
+    results.expect("many", counts_of(folder, "many"), printed_counts(run([PROGRAM, "burst", "many.plan"], folder).stdout, run([PROGRAM, "link", "many.plan"], folder).stdout))
+
+
+def check_tour(results, folder):
+    target = os.path.join(folder, "tour")
+    os.mkdir(target)
+    done = run([sys.executable, "-B", os.path.join(TOP, "docs", "tour", "figures.py"), PROGRAM, target], folder)
+    results.expect("tour", (done.returncode, done.stderr), (0, ""))
+    for name in sorted(os.listdir(target)):
+        with open(os.path.join(target, name), "rb") as drawn, open(os.path.join(TOP, "docs", "tour", name), "rb") as kept:
+            results.expect("tour, " + name, drawn.read() == kept.read(), True)
+    results.expect("pictures of the tour", len(os.listdir(target)), 5)
+
+
+def check_spoiled(results, folder):
+    for name, change, plan, told in SPOILED:
+        path = os.path.join(folder, name)
+        with open(path, "rb") as file:
+            data = file.read()
+        os.remove(path)
+        if change:
+            with open(path, "wb") as file:
+                file.write(change(data))
+        done = run([TOOL, plan], folder)
+        first = done.stderr[:len("picture: " + told)] if done.stderr.count("\n") == 1 else done.stderr
+        results.expect("%s spoiled" % name, (done.returncode, first), (1, "picture: " + told))
+        with open(path, "wb") as file:
+            file.write(data)
+
+
+def main():
+    results = Results()
+    with tempfile.TemporaryDirectory() as folder:
+        shutil.copytree(os.path.join(TOP, "examples"), folder, dirs_exist_ok=True)
+        check_examples(results, folder)
+        check_spoiled(results, folder)
+        for number in CASES:
+            check_case(results, folder, number)
+        check_wide_link(results, folder)
+        check_pictures(results, folder)
+        check_tour(results, folder)
+    print("pictures: %d passed, %d failed" % (results.passed, results.failed))
+    return 1 if results.failed else 0
+
+
+if __name__ == "__main__":
+    sys.exit(main())

@@ -1,0 +1,124 @@
+"""The command `picture`: its options, the files that it needs, and its errors."""
+
+import argparse
+import os
+import sys
+import tempfile
+
+from drawing.files import Folder, Refused
+from drawing.lane_bits import read_lanes
+from drawing.lanes import draw_lanes
+from drawing.plans import Plan, Schedule, Settings, are_settings
+from drawing.queues import draw_queues
+from drawing.stream import draw_stream
+from drawing.words import Stream, read_spans
+
+
+def options_of(words):
+    parser = argparse.ArgumentParser(prog="picture", description="Draws the lanes and the stream of a plan, or the queues of a run of two ends, as SVG files.")
+    parser.add_argument("plan", help="a plan, or the settings of a run of two ends")
+    parser.add_argument("--program", help="the program, which makes the files that are missing, and the lanes as they were sent to compare with")
+    parser.add_argument("--only", choices=("lanes", "stream"), help="one picture of a plan, from the files that it alone needs")
+    parser.add_argument("--sent", metavar="PREFIX", help="PREFIX.lane.I are the lanes as `send` made them")
+    parser.add_argument("--text", metavar="FILE", help="what `link`, `receive` or `duplex` printed, to draw locks and to compare with")
+    parser.add_argument("--to", metavar="PREFIX", help="the prefix of the pictures' names; that of the plan's outputs where there is none")
+    return parser.parse_args(words)
+
+
+class Work:
+    """One call: what is there, and what the program is asked for."""
+
+    def __init__(self, options):
+        self.options = options
+        self.folder = Folder(options.program and os.path.abspath(options.program), os.getcwd())
+        self.text = self.folder.content(options.text).decode("utf-8", "replace") if options.text else ""
+
+    def need(self, names, command):
+        """Sees to it that files are there: the program makes them, or else the error names the first that is missing."""
+        missing = [name for name in names if not self.folder.has(name)]
+        if not missing:
+            return
+        if not self.options.program:
+            raise Refused("%s is missing: `interlaken %s %s` makes it" % (missing[0], command, self.options.plan))
+        printed = self.folder.run(command, self.options.plan)
+        if not self.options.text:
+            self.text += printed
+        left = [name for name in missing if not self.folder.has(name)]
+        if left:
+            raise Refused("%s is missing, and `%s %s` did not make it" % (left[0], command, self.options.plan))
+
+    def wants(self, picture):
+        return self.options.only in (None, picture)
+
+    def save(self, draw, out, kind):
+        """Draws to a file by a call that takes its name, and tells what is in it."""
+        path = self.folder.path("%s.%s.svg" % (self.options.to or out, kind))
+        try:
+            counts = draw(path)
+        except (OSError, UnicodeError) as error:
+            raise Refused("%s: %s" % (path, getattr(error, "strerror", None) or error))
+        print("%s %s" % (os.path.relpath(path), " ".join("%s=%d" % count for count in counts.items())))
+
+
+def draw_settings(work):
+    folder, name = work.folder, work.options.plan
+    settings = Settings(folder, name)
+    plan = Plan(folder, settings.plan)
+    work.need(["%s.%s.%d.pcap" % (settings.out, end, channel) for end in "ab" for channel in plan.channels], "duplex")
+    work.save(lambda path: draw_queues(folder, name, work.text or None, path), settings.out, "queues")
+
+
+def need_plan_files(work, plan):
+    """The files of a plan's pictures. Lanes that are there are received, and not made again."""
+    lanes = ["%s.lane.%d" % (plan.out, lane) for lane in range(plan.lanes)]
+    came = [plan.out + ".spans.csv"] + ["%s.%d.pcap" % (plan.out, channel) for channel in plan.channels]
+    has_lanes = all(work.folder.has(name) for name in lanes)
+    if work.wants("lanes"):
+        work.need(lanes, "link")
+    if work.wants("stream"):
+        work.need([plan.out + ".words"], "burst")
+        work.need(came, "receive" if has_lanes else "link")
+
+
+def sent_prefix(work, plan, folder):
+    """The prefix of the lanes as sent: the one that is named, or that of lanes which the program makes in a temporary folder."""
+    if work.options.sent or not work.options.program:
+        return work.options.sent
+    path, prefix = os.path.join(folder, "plan"), os.path.join(folder, "sent")
+    rows = [row if row[0] != "out" else ["out", prefix] for row in work.folder.rows(work.options.plan)]
+    with open(path, "w", encoding="utf-8") as file:
+        file.write("".join(",".join('"%s"' % field.replace('"', '""') for field in row) + "\n" for row in rows))
+    work.folder.run("send", path)
+    return prefix
+
+
+def draw_plan(work):
+    folder = work.folder
+    plan = Plan(folder, work.options.plan)
+    schedule = Schedule(folder, plan)
+    need_plan_files(work, plan)
+    damaged = {plan.slot_of(lane, bit) for lane in range(plan.lanes) for bit in schedule.flips[lane]} - {None}
+    skew = schedule.skew[0]
+    if work.wants("lanes"):
+        with tempfile.TemporaryDirectory() as temporary:
+            lanes, as_sent = read_lanes(folder, plan, schedule, sent_prefix(work, plan, temporary), work.text)
+        damaged = set().union(*(lane.damaged_slots(plan) for lane in lanes))
+        skew = lanes[0].front
+        work.save(lambda path: draw_lanes(lanes, plan, as_sent, path), plan.out, "lanes")
+    if work.wants("stream"):
+        stream = Stream(folder, plan.out + ".words", plan)
+        spans = read_spans(folder, plan.out + ".spans.csv", plan, skew, stream.count)
+        came = {channel: folder.packets("%s.%d.pcap" % (plan.out, channel)) for channel in plan.channels}
+        damaged = {slot for slot in damaged if slot < stream.count}
+        work.save(lambda path: draw_stream(stream, plan, spans, damaged, came, path), plan.out, "stream")
+
+
+def main(words):
+    options = options_of(words)
+    try:
+        work = Work(options)
+        (draw_settings if are_settings(work.folder, options.plan) else draw_plan)(work)
+    except Refused as error:
+        print("picture: %s" % str(error).replace("\n", " "), file=sys.stderr)
+        return 1
+    return 0

@@ -1,0 +1,177 @@
+"""The lanes as files have them: where their Sync words stand, where each is locked first, and which of their bits are damaged."""
+
+import re
+from collections import Counter
+
+from drawing.axis import merged
+from drawing.files import must_agree
+from drawing.plans import CODE
+
+SYNC = 0x78F678F678F678F6
+HEADERS, ILLEGAL, SEARCHED = 64, 16, 6
+
+
+def bits_of(data):
+    """Bytes as a text of 0 and 1."""
+    return bin(int.from_bytes(b"\1" + data, "big"))[3:]
+
+
+def sync_words(bits):
+    """The bits at which Sync words begin, inverted ones among them."""
+    found = []
+    for pattern in ("010" + format(SYNC, "064b"), "110" + format(~SYNC & (1 << 64) - 1, "064b")):
+        at = bits.find(pattern)
+        while at >= 0:
+            found.append(at)
+            at = bits.find(pattern, at + 1)
+    return sorted(found)
+
+
+def first_lock(bits, syncs, metaframe):
+    """The bit of the Sync word that declares the first lock, or None: by the rules, for the bits and their Sync words."""
+    if len(bits) < CODE * HEADERS:
+        return None
+    number = int(bits, 2)
+    legal = number ^ number << 1  # bit q of the text is 1 where header bits q and q + 1 differ
+    legal = bin(1 << len(bits) | legal & (1 << len(bits)) - 1)[3:]  # each stands one place further left in the text
+    run, reach = int(legal, 2), 1
+    while reach < HEADERS:
+        run, reach = run & run << CODE * reach, 2 * reach
+    full = bin(1 << len(bits) | run & (1 << len(bits)) - 1)[3:]
+    start = 0
+    while True:
+        # The phase p has its header's bits in p + 1 and p + 2.
+        phase = full.find("1", start + 1) - 1
+        if phase < start or phase + CODE * HEADERS > len(bits):
+            return None
+        lost, declared = headers_lost(legal, phase), declaring(syncs, phase, metaframe)
+        if declared is not None and (lost is None or declared < lost):
+            return declared
+        given_up = phase + CODE * SEARCHED * metaframe
+        start = lost + CODE if lost is not None and lost <= given_up - CODE else given_up + 1
+        if start > len(bits):
+            return None
+
+
+def headers_lost(legal, phase):
+    """The bit of the word, of those from a phase on, at which a block of 64 has its 16th illegal header; None where there is none."""
+    headers = legal[phase + 1:len(legal) - CODE + 2:CODE]
+    for block in range(0, len(headers), HEADERS):
+        wrong = [place for place in range(block, min(block + HEADERS, len(headers))) if headers[place] == "0"]
+        if len(wrong) >= ILLEGAL:
+            return phase + CODE * wrong[ILLEGAL - 1]
+    return None
+
+
+def declaring(syncs, phase, metaframe):
+    """The bit of the fourth of four Sync words a metaframe apart, of the words from a phase on, before the search is given up."""
+    period, there = CODE * metaframe, set(syncs)
+    last = phase + CODE * SEARCHED * metaframe
+    return next((at + 3 * period for at in syncs if at >= phase and (at - phase) % CODE == 0 and at + 3 * period < last
+                 and all(at + n * period in there for n in (1, 2, 3))), None)
+
+
+class Lane:
+    """A lane of a file. `front` are the ones of its skew, `inverted` and `other` its damaged bits, and `dark` (first, last + 1), all in
+    bits of the file; `report` is what the program told of its locks."""
+
+    def __init__(self, number, data, plan):
+        self.number, self.bits = number, bits_of(data)
+        self.syncs = sync_words(self.bits)
+        self.lock = first_lock(self.bits, self.syncs, plan.metaframe)
+        self.front, self.inverted, self.dark, self.other, self.changed = 0, [], [], [], None
+        self.report, self.note = {}, ""
+
+    def is_sent(self, skew):
+        """Whether the file has the lane as it was sent, without the skew that the schedule gives it."""
+        return skew > 0 and 0 in self.syncs and "0" in self.bits[:skew]
+
+    def take_schedule(self, skew, flips, darks):
+        if "0" in self.bits[:skew]:
+            self.note = "no %d ones of a skew in front" % skew
+            return
+        self.front, last = skew, len(self.bits)
+        self.dark = [(skew + first, min(skew + end, last)) for first, end in merged(darks) if skew + first < last]
+        self.inverted = [skew + bit for bit in flips if skew + bit < last and not any(a <= skew + bit < b for a, b in self.dark)]
+
+    def compare(self, sent):
+        """Keeps of the schedule's damage what differs from the sent lane, and adds what differs besides."""
+        sent = sent[:len(sent) // CODE * CODE]
+        here = self.bits[self.front:self.front + len(sent)]
+        if len(here) < len(sent):
+            self.note = "%d of %d sent bits are there" % (len(here), len(sent))
+            sent = sent[:len(here)]
+        if not sent:
+            self.changed = set()
+            return
+        differing = bin(1 << len(sent) | int(here, 2) ^ int(sent, 2))[3:]
+        self.changed = {self.front + found.start() for found in re.finditer("1", differing)}
+        self.inverted = [bit for bit in self.inverted if bit in self.changed]
+        known = set(self.inverted)
+        self.dark = [(a, b) for a, b in self.dark if differing.find("1", a - self.front, b - self.front) >= 0]
+        self.other = sorted(bit for bit in self.changed - known if not any(a <= bit < b for a, b in self.dark))
+
+    def missing_syncs(self, period):
+        """The bits where Sync words of the lane's own phase should begin and do not."""
+        if not self.syncs:
+            return []
+        phase = Counter(at % period for at in self.syncs).most_common(1)[0][0]
+        begin = self.front + (phase - self.front) % period
+        there = set(self.syncs)
+        return [at for at in range(begin, len(self.bits) - CODE - 7, period) if at not in there]
+
+    def damaged(self):
+        """The damaged bits as (first, last + 1, what they are), in order."""
+        return sorted([(bit, bit + 1, "inverted") for bit in self.inverted] + [(a, b, "dark") for a, b in self.dark] + [(bit, bit + 1, "changed") for bit in self.other])
+
+    def damaged_slots(self, plan):
+        """The slots of the stream whose words are damaged in this lane."""
+        found = set()
+        for first, end, _ in self.damaged():
+            for word in range((first - self.front) // CODE, (end - 1 - self.front) // CODE + 1):
+                found.add(word)
+        if self.changed is not None:
+            found &= {(bit - self.front) // CODE for bit in self.changed}
+        return {slot for slot in (plan.slot_of(self.number, CODE * word) for word in found) if slot is not None}
+
+
+def read_lanes(folder, plan, schedule, sent=None, text=""):
+    """The lanes of a plan; `sent` names the prefix of the lanes as they were sent, and `text` is what the program printed."""
+    lanes = [Lane(number, folder.content("%s.lane.%d" % (plan.out, number)), plan) for number in range(plan.lanes)]
+    as_sent = any(lane.is_sent(schedule.skew[lane.number]) for lane in lanes)
+    for lane in lanes:
+        if not as_sent:
+            lane.take_schedule(schedule.skew[lane.number], schedule.flips[lane.number], schedule.darks[lane.number])
+        if sent is not None:
+            lane.compare(bits_of(folder.content("%s.lane.%d" % (sent, lane.number))))
+    take_reports(lanes, text)
+    return lanes, as_sent
+
+
+def take_reports(lanes, text):
+    """Takes what the program told of each lane, and compares the first locks with it."""
+    for found in re.finditer(r"^lane (\d+) (locks=.*)$", text, re.MULTILINE):
+        report = dict(field.split("=", 1) for field in found.group(2).split())
+        if int(found.group(1)) < len(lanes):
+            lane = lanes[int(found.group(1))]
+            lane.report = report
+            first = report.get("first", "-")
+            must_agree("the first lock of lane %d" % lane.number, lane.lock, int(first) if first.isdigit() else None)
+
+
+def groups_of(lanes, plan):
+    """The groups, each the list of its lanes' Sync words: none farther apart than `deskew` words."""
+    reach, found = CODE * plan.deskew, []
+    places = [sorted(lane.syncs) for lane in lanes]
+    at = [0] * len(lanes)
+    for name in places[0]:
+        group = [name]
+        for n in range(1, len(lanes)):
+            while at[n] < len(places[n]) and places[n][at[n]] < name - reach:
+                at[n] += 1
+            if at[n] == len(places[n]) or places[n][at[n]] > name + reach:
+                break
+            group.append(places[n][at[n]])
+        if len(group) == len(lanes) and max(group) - min(group) <= reach:
+            found.append(group)
+    return found

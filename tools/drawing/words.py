@@ -1,0 +1,123 @@
+"""A stream as its words file has it: its packets, its quiet runs, and the fault spans that a receiver told."""
+
+import re
+from bisect import bisect_right
+from collections import namedtuple
+
+from drawing.files import Refused
+
+# A packet of a channel by its number there, from the slot of its SOP word to that of its end word, or None; and its bytes.
+Packet = namedtuple("Packet", "channel number first last data")
+# A fault span between two slots, each None at an end of the stream; why; and whether its groups are the sender's.
+Span = namedtuple("Span", "after before why exact")
+
+
+def kind_of(tag, first):
+    """A letter for a word by its tag and first byte: d data, x bad, b burst word, i idle, e idle that ends a packet."""
+    if tag != 2:
+        return b"dx"[tag == 3]
+    return ord("b") if first & 0x40 else ord("e") if first & 0x1E else ord("i")
+
+
+REASONS = ("start", "end", "bad", "crc", "protocol", "lost")
+NO_DATA = re.compile("[^d]")
+KINDS = [[kind_of(tag, first) for first in range(256)] for tag in range(4)]
+
+
+class Stream:
+    """The words of a file. `kinds` has a letter for each, `packets` are in the order of their SOP words."""
+
+    def __init__(self, folder, name, plan):
+        self.data = folder.words_bytes(name)
+        self.kinds = bytes(KINDS[tag][first] for tag, first in zip(self.data[::9], self.data[1::9])).decode()
+        self.count = len(self.kinds)
+        self.bursts = []  # the slot, the data words and the channel of each
+        self.packets = self.find_packets(plan)
+
+    def word(self, slot):
+        return int.from_bytes(self.data[9 * slot + 1:9 * slot + 9], "big")
+
+    def find_packets(self, plan):
+        open_at, numbers, found, channel = {}, {}, [], None
+        for match in re.finditer("i+|[be]", self.kinds):
+            slot = match.start()
+            word = self.word(slot)
+            if word >> 57 & 15 and channel in open_at:
+                found.append(self.packet(channel, numbers, open_at.pop(channel), slot, word >> 57 & 15))
+            channel = plan.channel_of(word) if word >> 62 & 1 else None
+            if channel is None:
+                continue
+            end = self.end_of_data(slot + 1)
+            self.bursts.append((slot, end - slot - 1, channel))
+            if word >> 61 & 1:
+                open_at[channel] = (slot, [])
+            if channel in open_at:
+                open_at[channel][1].append((slot + 1, end))
+        found += [self.packet(channel, numbers, begun, None, 8) for channel, begun in sorted(open_at.items())]
+        return sorted(found, key=lambda packet: packet.first)
+
+    def end_of_data(self, slot):
+        found = NO_DATA.search(self.kinds, slot)
+        return found.start() if found else self.count
+
+    def burst_at(self, slot):
+        """The last burst that begins at a slot or before it, or None."""
+        place = bisect_right(self.bursts, (slot, self.count, 0)) - 1
+        return self.bursts[place] if place >= 0 else None
+
+    def packet(self, channel, numbers, begun, last, end_format):
+        number = numbers[channel] = numbers.get(channel, -1) + 1
+        first, parts = begun
+        data = b"".join(self.data[9 * at + 1:9 * at + 9] for begin, end in parts for at in range(begin, end))
+        unused = 8 - (end_format & 7 or 8) if end_format & 8 else 0
+        return Packet(channel, number, first, last, data[:len(data) - unused])
+
+    def runs(self, letters, least):
+        """The runs of at least so many words of these letters."""
+        return [match.span() for match in re.finditer("[%s]{%d,}" % (letters, least), self.kinds)]
+
+
+def read_spans(folder, name, plan, skew, count):
+    """The fault spans of a table, by slots. A group is named by the bit at which lane 0's Sync word begins; all words of a words
+    file are group 0. Where the groups do not fit the skew of lane 0 and fit none, the lanes were received as they were sent."""
+    rows = folder.rows(name)
+    if not rows or rows[0] != "after_group,after_index,before_group,before_index,why".split(","):
+        raise Refused("%s: no table of fault spans" % name)
+    places = []
+    for number, row in enumerate(rows[1:], 2):
+        if len(row) != 5:
+            raise Refused("%s: row %d: %d fields" % (name, number, len(row)))
+        if row[4] not in REASONS:
+            raise Refused("%s: row %d: %r is no reason of a span" % (name, number, row[4][:20]))
+        places.append([place_of("%s: row %d" % (name, number), part) for part in (row[:2], row[2:4])])
+    groups = [place[0] for pair in places for place in pair if place and place[0]]
+    begin = next((front for front in (skew, 0) if all((group - front) % plan.period == 0 for group in groups)), skew)
+    spans = []
+    for number, (pair, row) in enumerate(zip(places, rows[1:]), 2):
+        slots = [slot_of("%s: row %d" % (name, number), place, plan, begin, count) for place in pair]
+        spans.append(Span(*slots, row[4], all(not place or not place[0] or (place[0] - begin) % plan.period == 0 for place in pair)))
+    return spans
+
+
+def place_of(where, fields):
+    if fields == ["-", "-"]:
+        return None
+    if not all(part.isascii() and part.isdigit() for part in fields):
+        raise Refused("%s: no place" % where)
+    return int(fields[0]), int(fields[1])
+
+
+def slot_of(where, place, plan, begin, count):
+    """The slot of a place, in the group before where its own is none that was sent."""
+    if place is None:
+        return None
+    group, index = place
+    slot = max(0, group - begin) // plan.period * plan.group + index if group else index
+    if slot >= count:
+        raise Refused("%s: slot %d, and the words file has %d" % (where, slot, count))
+    return slot
+
+
+def meets(span, packet):
+    """Whether a span costs a packet."""
+    return packet.last is not None and (span.after is None or span.after < packet.last) and (span.before is None or packet.first < span.before)
