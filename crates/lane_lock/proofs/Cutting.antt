@@ -1,19 +1,19 @@
 -- Bits cut at the one that ends a word.
-use Rattle.std.proofs.Common.{ℕ, ◌≡◌, sym, ap, ◌∙◌, subst, ◌+◌, ◌-◌, ◌*◌, ◌/◌, ◌%◌, ◌^◌, ◌<◌, ◌≤◌, ◌==◌, Bool, true, List, [], ◌∷◌, ◌++◌, replicate, arith, bit_and, bit_or}
+use Rattle.std.proofs.Common.{ℕ, ◌≡◌, refl, sym, ap, ◌∙◌, subst, ◌+◌, ◌-◌, ◌*◌, ◌/◌, ◌%◌, ◌^◌, ◌<◌, ◌≤◌, ◌==◌, Bool, true, List, [], ◌∷◌, ◌++◌, replicate, arith, bit_and, bit_or}
 use Rattle.std.specs.Int.{bit_at}
 use Rattle.std.proofs.Math.Nat.{div-lt_iff_lt-mul}
-use Rattle.std.proofs.lemmas.Nat.{and_mask, or_shifted, pow-add, pow_pos, shl_whole, shr-shr}
+use Rattle.std.proofs.lemmas.Nat.{and_mask, mod_low, or_shifted, pow-add, pow_pos, shl_whole, shr-shr}
 use Rattle.lk_base.specs.Checksum.{bits_of}
 use Rattle.lk_base.specs.Link.{Settings}
 use Rattle.lane_model.specs.Bits.{digit}
-use Rattle.coding_67b.proofs.Cut.{bits-cut, bits-mod, first_bit}
+use Rattle.coding_67b.proofs.Cut.{bits-cut, bits-mod, first_bit, no_bits}
 use Rattle.lock_model.specs.declared.types.LaneStep.{LaneStep}
 use Rattle.lock_model.specs.declared.types.LaneStep.TheVariants as steps
 use Rattle.lane_lock.specs.Bytes.{Brings, with_bits}
 use Rattle.lane_lock.specs.Lane.{LaneState, with_bit}
 use Rattle.lane_lock.specs.Standing.{IsStep, Stands}
 use Rattle.lane_lock.proofs.LastWord.{held}
-use Rattle.lane_lock.proofs.Resting.{all_at_once, brings_bit, brings_both, brings_same, with_both}
+use Rattle.lane_lock.proofs.Resting.{all_at_once, brings_bit, brings_both, brings_none, brings_same, with_both}
 use Rattle.lane_lock.proofs.Windows.{pushed_bit}
 
 -- the bits before the bit at a place, this bit, and the bits behind it
@@ -80,3 +80,21 @@ masked x count most =
     let one : 1 * 2 ^ count % 2 ^ 64 ≡ 1 * 2 ^ count = shl_whole 1 1 count 64 (omega arith) (omega (arith, most)) in
     let e : 1 * 2 ^ count ≡ 2 ^ count = omega arith in
     ap (λ m. bit_and x (m - 1)) (one ∙ e) ∙ and_mask x count
+
+-- ---- a whole word at once
+
+pub code_brings : (v u w : LaneState) (code : ℕ) (x : LaneStep) → v.watching ≡ true → v.at ≡ v.taken → code < 2 ^ 67 → u ≡ with_both v code (v.taken + 67) →
+    ((s : Settings) (bits : List Bool) (z : LaneState) (b : Bool) → Stands z s bits → u ≡ with_bit z b → z.watching ≡ true → z.at + 67 ≤ z.taken + 1 → Stands w s (bits ++ b ∷ []) × IsStep s (bits ++ b ∷ []) x) →
+    Brings v w (bits_of 67 code) (replicate 66 steps.Nothing ++ x ∷ [])
+code_brings v u w code x ew begins low is goes =
+    let before = with_bits v 66 (code / 2 ^ (67 - 66)) in
+    let last = bit_at code 0 == 1 in
+    let whole : code / 2 ^ (67 - (66 + 1)) ≡ code = omega arith in
+    let shifted : (v.window * 2 ^ 67 + code) % 2 ^ 67 ≡ code = mod_low v.window 67 code low in
+    let reached : u ≡ with_bit before last =
+    is ∙ ap (λ (n : ℕ). with_both v n (v.taken + 67)) (sym shifted) ∙ ap (with_bits v 67) (sym whole) ∙ last_pushed v 67 code 66 0 (omega arith) refl in
+    let none : bits_of 0 (code % 2 ^ 0) ≡ [] = no_bits (code % 2 ^ 0) in
+    cut_brings v w w 67 code 66 0 x last ew (omega (arith, begins)) refl (omega arith)
+    (first_below code 67 66 low (omega arith)) refl
+    (λ s bits k. goes s bits before last k reached ew (omega (arith, begins)))
+    (subst (λ (bits : List Bool). Brings w w bits []) (sym none) (brings_none w))

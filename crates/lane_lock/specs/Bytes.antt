@@ -1,8 +1,10 @@
 -- What the bits of a byte complete.
-use Rattle.std.specs.Prelude.{ℕ, ◌≡◌, ◌<◌, ◌+◌, ◌-◌, ◌*◌, ◌%◌, ◌^◌, Bool, true, List, ◌∷◌, ◌++◌, replicate, Option, Some, None}
+use Rattle.std.specs.Prelude.{ℕ, ◌≡◌, ◌<◌, ◌≤◌, ◌+◌, ◌-◌, ◌*◌, ◌%◌, ◌^◌, Bool, true, List, ◌∷◌, ◌++◌, length, replicate, Option, Some, None}
 use Rattle.lk_base.specs.Link.{Settings}
 use Rattle.lock_model.specs.declared.types.LaneStep.{LaneStep}
 use Rattle.lock_model.specs.declared.types.LaneStep.TheVariants as steps
+use Rattle.lock_model.specs.Low.{all_low}
+use Rattle.lock_model.specs.Shows.{shown_in}
 use Rattle.lock_model.specs.Steps.{AreSteps}
 use Rattle.lane_lock.specs.declared.completed.Completed.{Completed}
 use Rattle.lane_lock.specs.Lane.{LaneState}
@@ -21,6 +23,26 @@ steps_of_byte completed = steps_of_bits 8 completed
 abbrev pub Brings : LaneState → LaneState → List Bool → List LaneStep → Type 0
 Brings v w given shown = (s : Settings) (bits : List Bool) (own : List LaneStep) → Stands v s bits → AreSteps s bits own →
     Stands w s (bits ++ given) × AreSteps s (bits ++ given) (own ++ shown)
+
+-- these bits complete a step each, and those of them that show something are appended
+pub record BringsBatch (v w : LaneState) (given : List Bool) (before after : List LaneStep) : Type 0 where
+  -- one for each bit in order
+  pub column : List LaneStep
+  pub long : length column ≡ length given
+  pub low : all_low column
+  pub appended : after ≡ before ++ shown_in column
+  pub brings : Brings v w given column
+
+-- a word of a word lock ends within so many bits
+abbrev pub EndsWithin : LaneState → ℕ → Type 0
+EndsWithin v count = (v.watching ≡ true) × (v.at + 67 ≤ v.taken + count)
+
+-- since so many bits had come, words ended at least 67 bits apart: there are so many steps more than there were then
+abbrev pub IsSparse : ℕ → ℕ → LaneState → ℕ → Type 0
+IsSparse first before v count = 67 * (count - before) ≤ v.at + 66 - first
+
+abbrev pub StaysSparse : LaneState → ℕ → LaneState → ℕ → Type 0
+StaysSparse v count w more = (first before : ℕ) → first ≤ v.taken → IsSparse first before v count → IsSparse first before w more
 
 -- no word of a word lock ends within so many bits
 abbrev pub Rests : LaneState → ℕ → Type 0

@@ -1,10 +1,10 @@
-ghost use Rattle.std.specs.Prelude.{◌≡◌, ◌<◌, ◌≤◌, ◌+◌, ◌*◌, ◌^◌, Bool, List, [], ℕ, get_or, length, replicate, IfOk};
+ghost use Rattle.std.specs.Prelude.{◌≡◌, ◌<◌, ◌≤◌, ◌+◌, ◌*◌, ◌/◌, ◌^◌, Bool, List, [], ℕ, get_or, length, replicate, vec_capacity, IfOk};
 ghost use Rattle.std.specs.Int.{bit_at};
-ghost use Rattle.lk_base.specs.Checksum.{bits_of};
+ghost use Rattle.lk_base.specs.Checksum.{bits_of, bits_of_bytes};
 ghost use Rattle.lk_base.specs.Link.{Settings};
 ghost use Rattle.lock_model.specs.declared.types.LaneStep.TheVariants as variants;
 ghost use Rattle.lock_model.specs.Low.{is_low};
-ghost use Rattle.lane_lock.specs.Bytes.{Brings};
+ghost use Rattle.lane_lock.specs.Bytes.{Brings, BringsBatch};
 ghost use Rattle.lane_lock.specs.Standing.{IsReport, Stands};
 
 use crate::found::{Found, found_of};
@@ -14,13 +14,13 @@ use lock_model::{LaneReport, LaneStep};
 use std::alloc::Global;
 use std::marker::Model;
 
-/// The locks of one lane, which takes its bytes one by one or several at once, and the steps of the bits of the last ones.
+/// The locks of one lane, which takes its bytes one by one, several at once or many, and the steps of the bits of the last ones.
 #[derive(Drop)]
 pub struct LaneSteps {
     lock: LaneLock,
     /// What the last bytes show: the end before the first.
     found: Found,
-    /// How many bits they have: 8..=56.
+    /// How many bits they have: at most 56; none where the steps of the last bytes were appended to a list.
     width: u32,
 }
 
@@ -33,7 +33,7 @@ impl Model for LaneSteps {
 
     ghost view = { λ a. record { lock = a.lock; shown = steps_found a.width a.found } };
 
-    ghost invariant = { λ a. (8 ≤ a.width) × (a.width ≤ 56) × IsWithin a.width a.found };
+    ghost invariant = { λ a. (a.width ≤ 56) × IsWithin a.width a.found };
 }
 
 impl LaneSteps {
@@ -81,6 +81,22 @@ impl LaneSteps {
     {
         self.found = found_of(self.lock.take_bytes(bits, count), 8 * count);
         self.width = 8 * count;
+    }
+
+    /// Takes bytes at once, and appends the steps that their bits complete to `found`, in order, without those that show nothing.
+    /// The steps are those of as many calls of `byte`; after it no bit's step is kept. At most 2^60 bits come in all. It takes no
+    /// memory.
+    pub fn take_batch(&mut self, bytes: &[u8], found: &mut Vec<LaneStep>)
+        requires few { self.old.lock.taken + 8 * length bytes.now ≤ 2 ^ 60 }
+        requires room { length found.old.items + 8 * length bytes.now / 67 + 1 ≤ vec_capacity found.old }
+        ensures taken { self.new.lock.taken ≡ self.old.lock.taken + 8 * length bytes.now }
+        ensures shown { self.new.shown ≡ [] }
+        ensures capacity { vec_capacity found.new ≡ vec_capacity found.old }
+        ensures stands { BringsBatch self.old.lock self.new.lock (bits_of_bytes bytes.now) found.old.items found.new.items }
+    {
+        self.lock.take_batch(bytes, found);
+        self.found = Found::Quiet;
+        self.width = 0;
     }
 
     /// The step of bit k of the last bytes, counted from the first, the highest of the first byte; behind them it has ended.

@@ -17,7 +17,7 @@ AreNothing number g = (k : ℕ) → k < length g → bit_at number k ≡ 0 → g
 pub returns-in-End : goal.returns-in-End
 returns-in-End c =
     let i = c.self.inside in
-    let most = c.self.invariant.1 in
+    let most = c.self.invariant.0 in
     subst (AreNothing 18446744073709551615) (ap (steps_found i.width) (sym c.in-End.is) ∙ ap (λ (v : StepsState). v.shown) c.self.view_is)
     (λ k. ended_covered i.width k (omega (arith, most)))
 
@@ -25,8 +25,8 @@ pub returns-in-Step : goal.returns-in-Step
 returns-in-Step c =
     let i = c.self.inside in
     let place = c.in-Step.place in
-    let most = c.self.invariant.1 in
-    let within : place < i.width = (subst (IsWithin i.width) c.in-Step.is c.self.invariant.2).0 in
+    let most = c.self.invariant.0 in
+    let within : place < i.width = (subst (IsWithin i.width) c.in-Step.is c.self.invariant.1).0 in
     let whole : 1 * 2 ^ place % 2 ^ 64 ≡ 1 * 2 ^ place = shl_whole 1 1 place 64 (omega arith) (omega (arith, most, within)) in
     let one : 1 * 2 ^ place ≡ 2 ^ place = omega arith in
     subst (AreNothing (1 * 2 ^ place % 2 ^ 64)) (ap (steps_found i.width) (sym c.in-Step.is) ∙ ap (λ (v : StepsState). v.shown) c.self.view_is)

@@ -1,0 +1,9 @@
+-- The first bytes were taken.
+use Rattle.std.proofs.Common.{◌≡◌, ◌*◌, vec_capacity}
+use Rattle.lk_base.specs.Checksum.{bits_of_bytes}
+use Rattle.lane_lock.proofs.Batches.{Batched}
+use Rattle.lane_lock.proofs.lane.LaneLock.each_byte.Given as goal
+
+abbrev pub invariant-loop-byte : goal.invariant-loop-byte
+invariant-loop-byte l =
+    Batched l.fn.self l.self (bits_of_bytes l.bytes) (8 * l.byte-index) l.fn.found.items l.found.items × (vec_capacity l.found ≡ vec_capacity l.fn.found)
