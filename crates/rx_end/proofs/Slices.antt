@@ -1,0 +1,53 @@
+-- Bytes that are taken in two pieces.
+use Rattle.std.proofs.Common.{ℕ, ◌≡◌, sym, ap, ◌∙◌, subst, ◌+◌, ◌-◌, ◌≤◌, Bool, List, [], ◌∷◌, ◌++◌, length, take, arith, inl, inr}
+use Rattle.std.proofs.lemmas.Bool.{cases_Bool}
+use Rattle.std.proofs.lemmas.List.{take-append-le}
+use Rattle.std.proofs.Math.Seq.{take-append-add}
+use Rattle.lk_base.specs.Checksum.{bits_of_bytes}
+use Rattle.lock_model.specs.declared.types.LaneStep.{LaneStep}
+use Rattle.lock_model.specs.Low.{all_low}
+use Rattle.lock_model.specs.Shows.{shown_in, shows}
+use Rattle.lane_lock.specs.Bytes.{BringsBatch}
+use Rattle.lane_lock.specs.Lane.{LaneState}
+use Rattle.receiver_model.proofs.Clocks.{bits-append}
+
+-- ---- what steps show
+
+shown_most : (xs : List LaneStep) → length (shown_in xs) ≤ length xs
+shown_most [] = omega arith
+shown_most (x ∷ xs) = elim (cases_Bool (shows x)) [
+  | inl h ↦ (rw h (let k = shown_most xs in omega (arith, k)))
+  | inr h ↦ (rw h (let k = shown_most xs in omega (arith, k)))
+]
+
+pub low_shown : (xs : List LaneStep) → all_low xs → all_low (shown_in xs)
+low_shown [] a = tt
+low_shown (x ∷ xs) a = elim (cases_Bool (shows x)) [
+  | inl h ↦ (rw h (a.0, low_shown xs a.1))
+  | inr h ↦ (rw h (low_shown xs a.1))
+]
+
+-- ---- of a piece
+
+pub found_most : (v w : LaneState) (bits : List Bool) (before after : List LaneStep) → before ≡ [] → BringsBatch v w bits before after → length after ≤ length bits
+found_most v w bits before after none b =
+    let n = ap (λ (xs : List LaneStep). length (xs ++ shown_in b.column)) none in
+    let e = ap length b.appended in
+    let m = shown_most b.column in
+    let l = b.long in
+    omega (arith, n, e, m, l)
+
+pub found_low : (v w : LaneState) (bits : List Bool) (before after : List LaneStep) → before ≡ [] → BringsBatch v w bits before after → all_low after
+found_low v w bits before after none b =
+    subst (λ (xs : List LaneStep). all_low xs) (sym (b.appended ∙ ap (λ (xs : List LaneStep). xs ++ shown_in b.column) none)) (low_shown b.column b.low)
+
+-- ---- the pieces of a ring
+
+pub cut_first : (front back items : List ℕ) (count : ℕ) → front ++ back ≡ items → count ≤ length front → bits_of_bytes (take count front) ≡ bits_of_bytes (take count items)
+cut_first front back items count e le = ap bits_of_bytes (sym (take-append-le count front back le) ∙ ap (take count) e)
+
+pub cut_both : (front back items : List ℕ) (count : ℕ) → front ++ back ≡ items → length front ≤ count → bits_of_bytes front ++ bits_of_bytes (take (count - length front) back) ≡ bits_of_bytes (take count items)
+cut_both front back items count e le =
+    let n : length front + (count - length front) ≡ count = omega (arith, le) in
+    sym (bits-append front (take (count - length front) back))
+    ∙ ap bits_of_bytes (sym (take-append-add front back (count - length front)) ∙ ap (λ (k : ℕ). take k (front ++ back)) n ∙ ap (take count) e)
