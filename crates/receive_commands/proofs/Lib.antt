@@ -1,6 +1,6 @@
 pub mod LanesThere
 pub mod FileLanes
-pub mod ReceiveLanes
+pub mod Buffers
 pub mod Receives
 pub mod PlanLanes
-pub mod ReceiveEnds
+pub mod ReceiveRun

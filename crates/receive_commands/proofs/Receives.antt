@@ -1,20 +1,16 @@
 -- `receive`: what its lanes come to.
-use Rattle.std.proofs.Common.{◌≡◌, ℕ, ◌*◌, ◌<◌, false, List, [], ◌++◌, length, map, slice_get, refl, sym, ap, ap₂, ◌∙◌, subst, arith, inl, inr, ◌⊎◌, Option, Some, None, IfSome, Result, Ok, Err, Contains}
-use Rattle.std.proofs.lemmas.List.{length-map}
+use Rattle.std.proofs.Common.{◌≡◌, ℕ, ◌<◌, false, List, [], ◌++◌, length, map, slice_get, refl, sym, ap, ap₂, ◌∙◌, subst, arith, inl, inr, ◌⊎◌, Option, Some, None, IfSome, Result, Ok, Err, Contains}
 use Rattle.std.proofs.lemmas.List.Elements.{Contains-append_left, Contains-append_right}
 use Rattle.lk_base.specs.Link.{IsLink}
 use Rattle.lk_outside.specs.Files.{Files, Told}
 use Rattle.lock_model.specs.declared.types.LaneReport.{LaneReport}
 use Rattle.receive_model.specs.Events.{Event, Setting}
-use Rattle.receiver_model.specs.Fed.{Fed}
+use Rattle.receiver_model.specs.Fed.{AllBegin, Fed}
 use Rattle.receiver_model.specs.Given.{AreEvents}
-use Rattle.receiver_model.proofs.Clocks.{AreShort, short_at_end}
-use Rattle.receiver_model.proofs.KnownEvents.{events_are_determined, events_exist, known_events_exist}
+use Rattle.receiver_model.proofs.KnownEvents.{events_are_determined, events_exist}
 use Rattle.rx_end.specs.Calls.{IsReportOf}
-use Rattle.rx_end.specs.PiecesLaw.{bytes_of}
 use Rattle.rx_end.specs.Standing.{Stands}
 use Rattle.rx_end.specs.States.{State}
-use Rattle.rx_end.proofs.Pieces.{known_at_end}
 use Rattle.link_plan.specs.Plan.{PlanValue}
 use Rattle.plan_inputs.specs.Inputs.{plan_in}
 use Rattle.plan_inputs.proofs.SomeSource.{plan_limits}
@@ -26,7 +22,7 @@ use Rattle.run_shell.specs.Meaning.{IsMeaning}
 use Rattle.run_shell.specs.Stops.{IsOfStore, held_status}
 use Rattle.run_shell.specs.Reading.{IsWork}
 use Rattle.run_shell.specs.Writing.{Fills, Writes}
-use Rattle.run_shell.proofs.Moves.{if_both, if_told_by}
+use Rattle.run_shell.proofs.Moves.{if_told_by}
 use Rattle.run_shell.proofs.Readings.{behind_ok}
 use Rattle.run_shell.proofs.Works.{is_meaning}
 use Rattle.run_shell.proofs.Writing.{none_writes, one_writes, part_leaves}
@@ -36,12 +32,13 @@ use Rattle.receipts.specs.Receipts.{Beginning, IsStopped, closed_outcome, given_
 use Rattle.receipts.specs.Settings.{IsSettingOf, plan_names}
 use Rattle.lane_receipts.specs.LaneReports.{AreLaneReports, lane_lines, names_of_lanes}
 use Rattle.receive_commands.specs.Receive.{IsReceived, PlanLanes, lanes_in, plan_lanes_in, receive_meaning, receive_work, with_lanes}
-use Rattle.receive_commands.specs.ReadLanes.{AllComeFrom, AllReceived, IsBroken}
+use Rattle.lane_receipts.specs.Taking.{AllTaken, IsBroken}
 use Rattle.receipts.proofs.Settings.{plan_setting, is_the_setting, the_setting}
 use Rattle.lane_receipts.proofs.Reports.{reports_are, same_reports, some_reports}
 use Rattle.receipts.proofs.Making.{stopped_writes}
-use Rattle.receive_commands.proofs.FileLanes.{lanes_count, whole_all}
-use Rattle.receive_commands.proofs.ReceiveLanes.{widened}
+use Rattle.lane_receipts.proofs.HeldLanes.{all_come, all_reported}
+use Rattle.lane_receipts.proofs.TakenLanes.{widened}
+use Rattle.receive_commands.proofs.FileLanes.{lanes_count}
 
 -- ---- the work
 
@@ -114,33 +111,6 @@ module _ (plan : PlanValue) (b : Beginning) (is_setting : IsSettingOf plan b.set
       ap (λ (os : List Output). record { status = held_status false; files = os ++ received_files b.setting b.link_type b.prefix events; text = before ++ received_text b.setting events }) none
       ∙ ap₂ (λ (t : ℕ) (p : List ℕ). received_outcome b.setting t p before events) typed named
 
-  -- something stopped it
-  part_by : (lanes : List (List ℕ)) (o : Outcome) (why : Stop) (later : Option Files) (h : IsBroken b plan.settings lane_files why later) → IsReceived (record { plan = plan; lanes = lanes }) o
-      → ((all : List Event) → AreEvents plan.settings b.setting lanes all → (rest : List Event) × (all ≡ h.came ++ rest)) → Told b.was later (HoldsPart o.files)
-  part_by lanes o why later h k first =
-      let e : k.setting ≡ b.setting = plan_setting plan k.setting b.setting k.is_setting is_setting in
-      let (rest, all) = first k.events (subst (λ (x : Setting). AreEvents plan.settings x lanes k.events) e k.are_events) in
-      let stopped : IsStopped b k.events stop.OutOfMemory later = record { by_store = tt; came = h.came; rest = rest; all = all; part = h.part } in
-      (stopped_writes b k.events false (lane_lines 0 k.reports ++ received_text b.setting k.events) stop.OutOfMemory later stopped).fills.part o
-      (k.is ∙ ap (λ (x : Setting). received_outcome x plan.link_type plan.out (lane_lines 0 k.reports) k.events) e ∙ sym (outcome_is (lane_lines 0 k.reports) k.events))
-
-  store_by : (why : Stop) → IsOfStore (λ q. Contains (names_of b) q ⊎ Contains lane_files q) why → IsOfStore (Contains (plan_names plan ++ lane_files)) why
-  store_by why = widened (λ q. Contains (names_of b) q ⊎ Contains lane_files q) (Contains (plan_names plan ++ lane_files)) why among
-    where
-      among : (q : List ℕ) → Contains (names_of b) q ⊎ Contains lane_files q → Contains (plan_names plan ++ lane_files) q
-      among q (inl h) = Contains-append_left (plan_names plan) lane_files q (subst (λ ns. Contains ns q) names_are h)
-      among q (inr h) = Contains-append_right (plan_names plan) lane_files q h
-
-  pub broken_fills : (why : Stop) (later : Option Files) → IsBroken b plan.settings lane_files why later → Comes (Err why) later
-  broken_fills why later h =
-      if_told_by b.was (λ files (store, first) lanes e. record {
-        by_store = store_by why store;
-        part = λ o k. part_by lanes o why later h k (λ all are. first lanes all e are);
-      }) (if_both _ _ b.was h.by_store h.first)
-
-  pub broken_leaves : (why : Stop) (later : Option Files) → IsBroken b plan.settings lane_files why later → Leaves later
-  broken_leaves why later h = subst (λ ns. Told b.was later (LeavesOthers (λ files q. Contains ns q))) names_are (part_leaves (names_of b) (given_of b h.came) b.was later h.part)
-
   -- nothing was created
   pub none_fills : (s : Stop) → IsOfStore (Contains (plan_names plan)) s → Comes (Err s) b.was
   none_fills s store = always b.was (λ files lanes e. fills_more (IsReceived (record { plan = plan; lanes = lanes })) (plan_names plan) lane_files (Err s) b.was b.was (none_writes (IsReceived (record { plan = plan; lanes = lanes })) (plan_names plan) s b.was store).fills)
@@ -149,45 +119,61 @@ module _ (plan : PlanValue) (b : Beginning) (is_setting : IsSettingOf plan b.set
       always None f = tt
       always (Some files) f = f files
 
-  module _ (r : State) (kept : Receipt) (now : Option Files) (h : AllReceived b plan.settings lane_files r kept now) (reports : List LaneReport) (count : length reports ≡ plan.settings.lanes)
-      (each : (setting : Setting) (fed : List Fed) (given : List Event) (stands : Stands r plan.settings setting fed given) (lane : ℕ) (report : LaneReport) → slice_get reports lane ≡ Some report → IsReportOf plan.settings stands.rounds lane fed report) where
-    abbrev the : Outcome
-    the = closed_outcome b h.given false (lane_lines 0 reports ++ received_text b.setting h.given)
-
-    is_received : (files : Files) (lanes : List (List ℕ)) → AllComeFrom lane_files h.fed files → lanes_in files lane_files ≡ Ok lanes → IsReceived (record { plan = plan; lanes = lanes }) the
-    is_received files lanes from e =
-        let s = plan.settings in
-        let st = h.drained.taking.stands in
-        let low = st.link.lanes.0 in
-        let long = st.link.metaframe.0 in
-        let fed_count = st.lane_count in
-        let len = length-map h.fed (λ (lane : Fed). lane.bytes) in
-        let (all, are) = events_exist s b.setting (bytes_of h.fed) (omega (arith, long)) (omega (arith, low, fed_count, len)) in
-        let (known, are_known) = known_events_exist s b.setting h.fed (omega (arith, long)) (omega (arith, low, fed_count)) in
-        let same : h.given ≡ all = h.drained.all known are_known ∙ known_at_end s b.setting h.fed known all st.link.deskew_below_half h.over are_known are in
-        let whole : bytes_of h.fed ≡ lanes = whole_all files lane_files h.fed lanes from e h.over in
-        let short : AreShort (8 * st.rounds) h.fed = subst (λ (n : ℕ). AreShort (8 * n) h.fed) (sym h.drained.rounds) (short_at_end h.fed h.over) in
-        record {
-          link = st.link;
-          setting = b.setting;
-          is_setting = is_setting;
-          events = h.given;
-          are_events = subst (λ (ls : List (List ℕ)). AreEvents s b.setting ls h.given) whole (subst (λ (es : List Event). AreEvents s b.setting (bytes_of h.fed) es) (sym same) are);
-          reports = reports;
-          are_reports = subst (λ (ls : List (List ℕ)). AreLaneReports s ls reports) whole (reports_are s st.rounds h.fed reports (count ∙ sym fed_count) short (each b.setting h.fed h.given st));
-          is = outcome_is (lane_lines 0 reports) h.given;
-        }
-
-    -- all came, and was written or stopped
-    pub received_fills : (text : List ℕ) (result : Result Finished Stop) (later : Option Files) → text ≡ lane_lines 0 reports → Writes (λ o. o ≡ closed_outcome b h.given false (text ++ received_text b.setting h.given)) (names_of b) result b.was later → Comes result later
-    received_fills text result later is writes =
-        if_told_by b.was (λ files from lanes e.
-        let of = IsReceived (record { plan = plan; lanes = lanes }) in
-        let made : of the = is_received files lanes from e in
-        subst (λ ns. Fills of (ns ++ lane_files) result b.was later) names_are
-        (fills_more of (names_of b) lane_files result b.was later
-        (one_writes of (names_of b) the made (λ p k. one_received (record { plan = plan; lanes = lanes }) p the k made) result b.was later
-        (subst (λ (t : List ℕ). Writes (λ o. o ≡ closed_outcome b h.given false (t ++ received_text b.setting h.given)) (names_of b) result b.was later) is writes)).fills)) h.from
-
   pub written_leaves : (of : Outcome → Type 0) (result : Result Finished Stop) (later : Option Files) → Writes of (names_of b) result b.was later → Leaves later
   written_leaves of result later writes = subst (λ ns. Told b.was later (LeavesOthers (λ files q. Contains ns q))) names_are writes.others
+
+  module _ (first : List Fed) (Are : List (List ℕ) → Type 0) (begin : IfSome b.was (λ files. (lanes : List (List ℕ)) → lanes_in files lane_files ≡ Ok lanes → Are lanes × AllBegin first lanes)) (names : List (List ℕ)) (same : names ≡ lane_files) where
+    store_by : (why : Stop) → IsOfStore (λ q. Contains (names_of b) q ⊎ Contains names q) why → IsOfStore (Contains (plan_names plan ++ lane_files)) why
+    store_by why = widened (λ q. Contains (names_of b) q ⊎ Contains names q) (Contains (plan_names plan ++ lane_files)) why among
+      where
+        among : (q : List ℕ) → Contains (names_of b) q ⊎ Contains names q → Contains (plan_names plan ++ lane_files) q
+        among q (inl h) = Contains-append_left (plan_names plan) lane_files q (subst (λ ns. Contains ns q) names_are h)
+        among q (inr h) = Contains-append_right (plan_names plan) lane_files q (subst (λ ns. Contains ns q) same h)
+
+    -- what an early stop fills: a part of what some first events come to
+    pub broken_fills : (why : Stop) (later : Option Files) → IsBroken b plan.settings first Are names why later → Comes (Err why) later
+    broken_fills why later h =
+        if_told_by b.was (λ files so lanes e.
+        let (are, begun) = so lanes e in
+        let stops = h.stops lanes are begun in
+        record { by_store = store_by why stops.by_store; part = λ o k. part_by lanes o k stops.first }) begin
+      where
+        part_by : (lanes : List (List ℕ)) (o : Outcome) → IsReceived (record { plan = plan; lanes = lanes }) o → ((all : List Event) → AreEvents plan.settings b.setting lanes all → (rest : List Event) × (all ≡ h.came ++ rest)) → Told b.was later (HoldsPart o.files)
+        part_by lanes o k firsts =
+            let e : k.setting ≡ b.setting = plan_setting plan k.setting b.setting k.is_setting is_setting in
+            let (rest, all) = firsts k.events (subst (λ (x : Setting). AreEvents plan.settings x lanes k.events) e k.are_events) in
+            let stopped : IsStopped b k.events stop.OutOfMemory later = record { by_store = tt; came = h.came; rest = rest; all = all; part = h.part } in
+            (stopped_writes b k.events false (lane_lines 0 k.reports ++ received_text b.setting k.events) stop.OutOfMemory later stopped).fills.part o
+            (k.is ∙ ap (λ (x : Setting). received_outcome x plan.link_type plan.out (lane_lines 0 k.reports) k.events) e ∙ sym (outcome_is (lane_lines 0 k.reports) k.events))
+
+    pub broken_leaves : (why : Stop) (later : Option Files) → IsBroken b plan.settings first Are names why later → Leaves later
+    broken_leaves why later h = subst (λ ns. Told b.was later (LeavesOthers (λ files q. Contains ns q))) names_are (part_leaves (names_of b) (given_of b h.came) b.was later h.part)
+
+    module _ (r : State) (kept : Receipt) (now : Option Files) (h : AllTaken b plan.settings first Are r kept now) (reports : List LaneReport) (count : length reports ≡ plan.settings.lanes)
+        (each : (setting : Setting) (fed : List Fed) (given : List Event) (stands : Stands r plan.settings setting fed given) (lane : ℕ) (report : LaneReport) → slice_get reports lane ≡ Some report → IsReportOf plan.settings stands.rounds lane fed report) where
+      abbrev the : Outcome
+      the = closed_outcome b h.given false (lane_lines 0 reports ++ received_text b.setting h.given)
+
+      is_received : (lanes : List (List ℕ)) → AllBegin h.fed lanes → IsReceived (record { plan = plan; lanes = lanes }) the
+      is_received lanes from = record {
+        link = h.drained.taking.stands.link;
+        setting = b.setting;
+        is_setting = is_setting;
+        events = h.given;
+        are_events = all_come b plan.settings lanes h.fed h.given r kept now h.drained h.over from;
+        reports = reports;
+        are_reports = all_reported b plan.settings lanes h.fed h.given r kept now h.drained h.over from reports count each;
+        is = outcome_is (lane_lines 0 reports) h.given;
+      }
+
+      -- all came, and was written or stopped
+      pub received_fills : (text : List ℕ) (result : Result Finished Stop) (later : Option Files) → text ≡ lane_lines 0 reports → Writes (λ o. o ≡ closed_outcome b h.given false (text ++ received_text b.setting h.given)) (names_of b) result b.was later → Comes result later
+      received_fills text result later is writes =
+          if_told_by b.was (λ files so lanes e.
+          let (are, begun) = so lanes e in
+          let of = IsReceived (record { plan = plan; lanes = lanes }) in
+          let made : of the = is_received lanes (h.from lanes are begun) in
+          subst (λ ns. Fills of (ns ++ lane_files) result b.was later) names_are
+          (fills_more of (names_of b) lane_files result b.was later
+          (one_writes of (names_of b) the made (λ p k. one_received (record { plan = plan; lanes = lanes }) p the k made) result b.was later
+          (subst (λ (t : List ℕ). Writes (λ o. o ≡ closed_outcome b h.given false (t ++ received_text b.setting h.given)) (names_of b) result b.was later) is writes)).fills)) begin

@@ -1,103 +1,75 @@
--- How lanes are read, and go over into a receiver.
-use Rattle.std.specs.Prelude.{ℕ, suc, ◌≡◌, ◌⊎◌, ◌≤◌, ◌+◌, ◌-◌, List, [], ◌∷◌, ◌++◌, length, map, set, take, drop, Option, Some, None, IfSome, IsSomeAnd, Result, Ok, Err, Contains, Vec, true}
-use Rattle.std.specs.declared.alloc.Global.{Global}
-use Rattle.lk_base.specs.Limits.{lane_limit}
-use Rattle.lk_base.specs.Link.{Settings}
-use Rattle.lk_outside.specs.Files.{Files, file, Told}
-use Rattle.receive_model.specs.Events.{Event}
-use Rattle.receiver_model.specs.Fed.{Fed, Goes, all_finished, whole}
-use Rattle.receiver_model.specs.Given.{AreEvents}
-use Rattle.rx_end.specs.States.{State}
+-- How the lanes of files are read.
+use Rattle.std.specs.Prelude.{ℕ, zero, suc, ◌≡◌, ◌⊎◌, ◌≤◌, ◌<◌, ◌+◌, ◌-◌, ◌^◌, Bool, ◌&&◌, nat_le, nat_lt, List, [], ◌∷◌, get_or, length, take, drop, All, Option, Some, None, Result, Ok, Err, IsSomeAnd}
+use Rattle.lk_outside.specs.Files.{Files, file}
 use Rattle.run_shell.specs.declared.stop.Stop.{Stop}
-use Rattle.run_shell.specs.Outcome.{HoldsPart}
 use Rattle.run_shell.specs.Stops.{IsOfStore}
-use Rattle.run_shell.specs.Outputs.{outs}
-use Rattle.receipts.specs.declared.receipt.Receipt.{Receipt}
-use Rattle.lane_receipts.specs.Feeding.{IsCutOff, IsDrained, fed_next, offset_next, offset_of}
-use Rattle.lane_receipts.specs.declared.lane_offsets.OpenLane.{OpenLane}
-use Rattle.receipts.specs.Receipts.{Beginning, given_of, names_of}
+use Rattle.lane_receipts.specs.Taking.{IsPieceAt}
+use Rattle.receive_commands.specs.declared.lane_buffer.LaneBuffer.{LaneBuffer}
 use Rattle.receive_commands.specs.Receive.{lanes_in}
 
--- ---- lanes
+-- ---- the buffer of a lane
 
--- the lane's bytes are the first of the file's, and all where it is over
-abbrev pub ComesFrom : Option (List ℕ) → Fed → Type 0
-ComesFrom None lane = ⊥
-ComesFrom (Some bytes) lane = (length bytes ≤ lane_limit) × Goes lane (whole bytes)
+-- it has room, what is held keeps within it, and stands among the first 2^56 bytes
+pub record IsBuffer (b : LaneBuffer) : Type 0 where
+  pub room : 0 < length b.bytes.items
+  pub inside : b.count ≤ length b.bytes.items
+  pub within : b.start + b.count ≤ 2 ^ 56
 
-abbrev pub AllComeFrom : List (List ℕ) → List Fed → Files → Type 0
-AllComeFrom [] [] files = Unit {0}
-AllComeFrom (name ∷ names) (lane ∷ fed) files = ComesFrom (file files name) lane × AllComeFrom names fed files
-AllComeFrom names fed files = ⊥
+-- nothing is held in it yet
+pub record IsFresh (b : LaneBuffer) : Type 0 where
+  pub buffer : IsBuffer b
+  pub nothing : b.count ≡ 0
 
--- how much is still to be read, one more for each lane that is not over
-abbrev pub left_of : Option ℕ → ℕ
-left_of None = 0
-left_of (Some offset) = suc (lane_limit - offset)
+-- what is held is of these bytes
+abbrev pub HoldsOf : List ℕ → LaneBuffer → Type 0
+HoldsOf bytes b = take b.count b.bytes.items ≡ take b.count (drop b.start bytes)
 
-abbrev pub left_in : List (Option ℕ) → ℕ
-left_in [] = 0
-left_in (offset ∷ offsets) = left_of offset + left_in offsets
+-- what is held from this offset on, at most 4,096 bytes
+abbrev pub held_from : LaneBuffer → ℕ → List ℕ
+held_from b offset = take 4096 (drop (offset - b.start) (take b.count b.bytes.items))
 
--- the piece is what stands in the bytes at this offset; it is empty only at the end of bytes within the limit
-pub record IsPieceAt (offset : ℕ) (piece bytes : List ℕ) : Type 0 where
-  pub taken : piece ≡ take (length piece) (drop offset bytes)
-  pub within : length piece ≤ length bytes - offset
-  pub stops : length piece ≡ 0 → length bytes ≤ lane_limit → length bytes ≤ offset
+-- the byte at this offset is held
+abbrev pub holds_at : LaneBuffer → ℕ → Bool
+holds_at b offset = nat_le b.start offset && nat_lt offset (b.start + b.count)
 
--- a piece was read, or the file is absent, unless the store, at this name, or memory stopped it
-abbrev pub ReadsLane : Result (Vec ℕ Global) Stop → List ℕ → ℕ → Files → Type 0
-ReadsLane (Ok piece) name offset files = IsSomeAnd (file files name) (IsPieceAt offset piece.items)
-ReadsLane (Err why) name offset files = IsOfStore (λ n. n ≡ name) why ⊎ (file files name ≡ None)
+-- n bytes of the file stand at the front; none only at its end, or where none may be read
+pub record IsFront (offset most n : ℕ) (front bytes : List ℕ) : Type 0 where
+  pub taken : take n front ≡ take n (drop offset bytes)
+  pub stops : n ≡ 0 → 0 < most → 0 < length front → length bytes ≤ offset
 
--- ---- lanes and events
+abbrev pub ReadsFront : Result ℕ Stop → List ℕ → ℕ → ℕ → List ℕ → Files → Type 0
+ReadsFront (Ok n) name offset most front files = IsSomeAnd (file files name) (IsFront offset most n front)
+ReadsFront (Err why) name offset most front files = IsOfStore (λ n. n ≡ name) why ⊎ (file files name ≡ None)
 
--- so much was read of the lane: a piece of its file, all of whose events came; or something stopped it
-pub record HasFed (b : Beginning) (s : Settings) (fed : List Fed) (next : OpenLane) (name : List ℕ) (before offsets : List (Option ℕ)) (old : Option Files) (r : State) (kept : Receipt) (now : Option Files) : Type 0 where
-  pub piece : List ℕ
-  pub read : IfSome old (λ files. IsSomeAnd (file files name) (IsPieceAt next.offset piece))
-  pub within : next.offset + length piece ≤ lane_limit
-  pub reached : offsets ≡ set before next.lane (offset_next next.offset piece)
-  pub given : List Event
-  pub drained : IsDrained b s (fed_next next.lane piece fed) given r kept now
+-- bytes of the lane from the offset on are held, unless it ends there; or the store, at this name, or memory stopped the reading
+abbrev pub FillsBuffer : {T : Type 0} → List ℕ → List ℕ → ℕ → Result T Stop → LaneBuffer → Type 0
+FillsBuffer name bytes offset (Ok _) b = HoldsOf bytes b × IsPieceAt offset (held_from b offset) bytes
+FillsBuffer name bytes offset (Err why) b = IsOfStore (λ n. n ≡ name) why
 
--- the lane was not read
-pub record NotRead (name : List ℕ) (why : Stop) (old now : Option Files) : Type 0 where
-  pub same : now ≡ old
-  pub cause : IfSome old (λ files. IsOfStore (λ n. n ≡ name) why ⊎ (file files name ≡ None))
+-- ---- those of all lanes
 
--- it was read, and its events were cut off
-pub record CutOffBehind (b : Beginning) (s : Settings) (fed : List Fed) (next : OpenLane) (name : List ℕ) (why : Stop) (old now : Option Files) : Type 0 where
-  pub piece : List ℕ
-  pub read : IfSome old (λ files. IsSomeAnd (file files name) (IsPieceAt next.offset piece))
-  pub cut : IsCutOff b s (fed_next next.lane piece fed) why now
+abbrev pub piece_in : List LaneBuffer → ℕ → ℕ → List ℕ
+piece_in [] lane offset = []
+piece_in (b ∷ buffers) zero offset = held_from b offset
+piece_in (b ∷ buffers) (suc lane) offset = piece_in buffers lane offset
 
-abbrev pub FeedsLane : {T : Type 0} → Beginning → Settings → List Fed → OpenLane → List ℕ → List (Option ℕ) → List (Option ℕ) → Result T Stop → Option Files → State → Receipt → Option Files → Type 0
-FeedsLane b s fed next name before offsets (Ok _) old r kept now = HasFed b s fed next name before offsets old r kept now
-FeedsLane b s fed next name before offsets (Err why) old r kept now = NotRead name why old now ⊎ CutOffBehind b s fed next name why old now
+-- what is held of each lane is of its bytes
+abbrev pub AllHold : List (List ℕ) → List LaneBuffer → Type 0
+AllHold [] [] = Unit {0}
+AllHold (bytes ∷ lanes) (b ∷ buffers) = HoldsOf bytes b × AllHold lanes buffers
+AllHold lanes buffers = ⊥
 
--- these lanes were read on from there, as far as what was fed, and all events that are known have come
-pub record IsReceiving (b : Beginning) (s : Settings) (names : List (List ℕ)) (first fed : List Fed) (given : List Event) (r : State) (offsets : List (Option ℕ)) (kept : Receipt) (now : Option Files) : Type 0 where
-  pub drained : IsDrained b s fed given r kept now
-  pub reached : offsets ≡ map offset_of fed
-  pub from : IfSome b.was (AllComeFrom names first) → IfSome b.was (AllComeFrom names fed)
+-- the lane's bytes are held so, and what is held of each lane is still of its bytes where it was
+abbrev pub LanesFill : {T : Type 0} → List ℕ → List (List ℕ) → ℕ → ℕ → Result T Stop → List LaneBuffer → List LaneBuffer → Type 0
+LanesFill name lanes lane offset (Ok _) before buffers = AllHold lanes before → AllHold lanes buffers × IsPieceAt offset (piece_in buffers lane offset) (get_or lanes lane [])
+LanesFill name lanes lane offset (Err why) before buffers = AllHold lanes before → IsOfStore (λ n. n ≡ name) why
 
--- all lanes were read to their ends, and their events have come
-pub record AllReceived (b : Beginning) (s : Settings) (names : List (List ℕ)) (r : State) (kept : Receipt) (now : Option Files) : Type 0 where
-  pub fed : List Fed
-  pub given : List Event
-  pub drained : IsDrained b s fed given r kept now
-  pub over : all_finished fed ≡ true
-  pub from : IfSome b.was (AllComeFrom names fed)
+-- there is a buffer for each name
+pub record AreBuffers (names : List (List ℕ)) (buffers : List LaneBuffer) : Type 0 where
+  pub many : length names ≡ length buffers
+  pub each : All IsBuffer buffers
 
--- a lane or an output stopped it, and a part of what some first events come to stands
-pub record IsBroken (b : Beginning) (s : Settings) (names : List (List ℕ)) (why : Stop) (now : Option Files) : Type 0 where
-  pub came : List Event
-  pub part : Told b.was now (HoldsPart (outs (names_of b) (given_of b came)))
-  -- where the files are told: an absent lane is none of the stops, and these are first events of the lanes
-  pub by_store : IfSome b.was (λ files. IsOfStore (λ q. Contains (names_of b) q ⊎ Contains names q) why)
-  pub first : IfSome b.was (λ files. (lanes : List (List ℕ)) (all : List Event) → lanes_in files names ≡ Ok lanes → AreEvents s b.setting lanes all → (rest : List Event) × (all ≡ came ++ rest))
-
-abbrev pub ReceivesLanes : {T : Type 0} → Beginning → Settings → List (List ℕ) → Result T Stop → State → Receipt → Option Files → Type 0
-ReceivesLanes b s names (Ok _) r kept now = AllReceived b s names r kept now
-ReceivesLanes b s names (Err why) r kept now = IsBroken b s names why now
+-- these are the bytes of the files of these names, and what is held is of them
+abbrev pub AreFileLanes : List (List ℕ) → List LaneBuffer → Option Files → List (List ℕ) → Type 0
+AreFileLanes names buffers None lanes = ⊥
+AreFileLanes names buffers (Some files) lanes = (lanes_in files names ≡ Ok lanes) × AllHold lanes buffers

@@ -1,75 +1,109 @@
-//! The lanes are read in turn, and what comes of them goes over into a receipt.
-ghost use Rattle.std.specs.Prelude.{◌≡◌, ◌<◌, ◌≤◌, ◌^◌, true, List, ℕ, Option, Some, length, map, slice_get, Contains, IfSome, string_bytes};
+//! The lanes of a plan in their files, each read some bytes at a time.
+ghost use Rattle.std.specs.Prelude.{◌≡◌, ◌<◌, ◌≤◌, ◌+◌, ◌^◌, [], ℕ, List, Some, get_or, length, map, All, IfOk, IfSome, OnOk, string_bytes};
 ghost use Rattle.lk_base.specs.Limits.{lane_limit};
-ghost use Rattle.lk_base.specs.Link.{Settings};
-ghost use Rattle.receive_model.specs.Events.{Event};
-ghost use Rattle.receiver_model.specs.Fed.{Fed};
-ghost use Rattle.rx_end.specs.Calls.{count_at, is_open, room_at};
+ghost use Rattle.lk_outside.specs.Files.{file};
 ghost use Rattle.run_shell.specs.Stops.{StopCount};
-ghost use Rattle.run_shell.specs.Outputs.{open_names};
-ghost use Rattle.receipts.specs.Receipts.{Beginning};
-ghost use Rattle.receive_commands.specs.ReadLanes.{FeedsLane, AllComeFrom, ReceivesLanes};
-ghost use Rattle.lane_receipts.specs.Feeding.{IsTaking, offset_of};
+ghost use Rattle.receive_commands.specs.ReadLanes.{AreBuffers, IsBuffer, IsFresh, LanesFill, piece_in};
 
-use crate::lanes_in::read_lane;
-use lane_receipts::{OpenLane, feed_piece, least_open, take_events};
+use crate::lane_buffer::LaneBuffer;
+use lane_receipts::LanePieces;
+use lk_base::OutOfMemory;
 use lk_outside::Store;
-use receipts::Receipt;
 use run_shell::Stop;
-use rx_end::Receiver;
 use std::alloc::Global;
 
-// Reads the lane on, and takes all events that its piece brings.
-fn take_piece<S: Store>(
-    alloc: Global,
-    store: &mut S,
-    receipt: &mut Receipt,
-    receiver: &mut Receiver,
-    offsets: &mut [Option<u64>],
-    next: OpenLane,
-    name: &str,
-) -> Result<(), Stop>
-    requires count { S.faults store.old < 2 ^ 60 }
-    requires within { next.offset ≤ lane_limit }
-    requires place { next.lane < length offsets.old }
-    requires unfinished { is_open next.lane receiver.old.lanes ≡ true }
-    requires counted { count_at next.lane receiver.old.lanes ≡ next.offset }
-    requires room { room_at next.lane receiver.old.lanes ≡ 4096 }
-    requires taking { (b : Beginning) × (s : Settings) × (fed : List Fed) × (given : List Event) × IsTaking b s fed given receiver.old receipt.old (S.files store.old) }
-    ensures cause { StopCount result (S.faults store.old) (S.faults store.new) }
-    ensures feeds { (b : Beginning) (s : Settings) (fed : List Fed) (given : List Event) → IsTaking b s fed given receiver.old receipt.old (S.files store.old) →
-        FeedsLane b s fed next name.now offsets.old offsets.new result (S.files store.old) receiver.new receipt.new (S.files store.new) }
-{
-    let piece = read_lane(alloc, store, name, next.offset)?;
-    feed_piece(receiver, offsets, next, &piece);
-    take_events(alloc, store, receipt, receiver)
+/// The lanes in the files of these names, and what is held of each.
+#[derive(Drop)]
+pub struct FileLanes<'n> {
+    /// The names of the files, by number of the lane.
+    pub names: &'n [String],
+    /// A buffer for each lane.
+    pub buffers: Vec<LaneBuffer>,
 }
 
-/// Reads all lanes to their ends, in the files of these names, and takes all events of theirs. The lane of which the least was
-/// read is always the next.
-pub fn take_lanes<S: Store>(
+// Buffers in which nothing is held yet.
+fn fresh_buffers(alloc: Global, count: usize) -> Result<Vec<LaneBuffer>, OutOfMemory>
+    ensures many { IfOk result (λ buffers. length buffers.items ≡ count) }
+    ensures fresh { IfOk result (λ buffers. All IsFresh buffers.items) }
+{
+    let mut buffers = Vec::new(alloc);
+    for _lane in 0..count {
+        buffers.push(LaneBuffer::new(alloc)?)?;
+    }
+    Ok(buffers)
+}
+
+// Reads a lane on, in the file of this name.
+fn read_lane<S: Store>(
     alloc: Global,
     store: &mut S,
-    receipt: &mut Receipt,
-    receiver: &mut Receiver,
-    names: &[String],
-    offsets: &mut [Option<u64>],
+    buffers: &mut [LaneBuffer],
+    lane: u32,
+    name: &str,
+    offset: u64,
 ) -> Result<(), Stop>
     requires count { S.faults store.old < 2 ^ 60 }
-    requires few { length offsets.old < 2 ^ 32 }
-    requires named { length names.now ≡ length offsets.old }
-    requires within { (lane at : ℕ) → slice_get offsets.old lane ≡ Some (Some at) → at ≤ lane_limit }
-    requires apart { (q : List ℕ) → Contains (map string_bytes names.now) q → Contains (open_names receipt.old.outputs) q → ⊥ }
-    requires taking { (b : Beginning) × (s : Settings) × (fed : List Fed) × (given : List Event) × IsTaking b s fed given receiver.old receipt.old (S.files store.old) × (offsets.old ≡ map offset_of fed) }
+    requires place { lane < length buffers.old }
+    requires within { offset ≤ 2 ^ 56 }
+    requires buffers { All IsBuffer buffers.old }
     ensures cause { StopCount result (S.faults store.old) (S.faults store.new) }
-    ensures receives { (b : Beginning) (s : Settings) (fed : List Fed) (given : List Event) → IsTaking b s fed given receiver.old receipt.old (S.files store.old) → offsets.old ≡ map offset_of fed →
-        IfSome b.was (AllComeFrom (map string_bytes names.now) fed) →
-        ReceivesLanes b s (map string_bytes names.now) result receiver.new receipt.new (S.files store.new) }
+    ensures unchanged { S.files store.new ≡ S.files store.old }
+    ensures many { length buffers.new ≡ length buffers.old }
+    ensures buffers { OnOk result (All IsBuffer buffers.new) }
+    ensures reads { IfSome (S.files store.old) (λ files. (lanes : List (List ℕ)) → file files name.now ≡ Some (get_or lanes lane []) → length (get_or lanes lane []) ≤ lane_limit → LanesFill name.now lanes lane offset result buffers.old buffers.new) }
 {
-    take_events(alloc, store, receipt, receiver)?;
-    while let Some(next) = least_open(offsets) {
-        let name = names[next.lane as usize].as_str();
-        take_piece(alloc, store, receipt, receiver, offsets, next, name)?;
+    buffers[lane as usize].read_on(alloc, store, name, offset)
+}
+
+// What is held of a lane from the offset on.
+fn lane_piece(buffers: &[LaneBuffer], lane: u32, offset: u64) -> &[u8]
+    requires place { lane < length buffers.now }
+    requires buffers { All IsBuffer buffers.now }
+    ensures held { result.now ≡ piece_in buffers.now lane offset }
+    ensures few { length result.now ≤ 4096 }
+    ensures within { offset ≤ 2 ^ 56 → offset + length result.now ≤ 2 ^ 56 }
+{
+    buffers[lane as usize].piece(offset)
+}
+
+impl<'n> FileLanes<'n> {
+    /// The lanes in the files of these names, of which nothing is held yet.
+    pub fn new(alloc: Global, names: &'n [String]) -> Result<FileLanes<'n>, OutOfMemory>
+        ensures names { IfOk result (λ lanes. lanes.names.now ≡ names.now) }
+        ensures buffers { IfOk result (λ lanes. AreBuffers (map string_bytes lanes.names.now) lanes.buffers.items) }
+        ensures fresh { IfOk result (λ lanes. All IsFresh lanes.buffers.items) }
+    {
+        let buffers = fresh_buffers(alloc, names.len())?;
+        Ok(FileLanes { names, buffers })
     }
-    Ok(())
+}
+
+impl LanePieces for FileLanes<'_> {
+    ghost use Rattle.std.specs.Prelude.{length, map, string_bytes};
+    ghost use Rattle.receive_commands.specs.ReadLanes.{AreBuffers, AreFileLanes, piece_in};
+
+    ghost lane_count = { λ files. length files.buffers.items };
+
+    ghost file_names = { λ files. map string_bytes files.names.now };
+
+    ghost fits = { λ files. AreBuffers (map string_bytes files.names.now) files.buffers.items };
+
+    ghost are_lanes = { λ files was lanes. AreFileLanes (map string_bytes files.names.now) files.buffers.items was lanes };
+
+    ghost piece_at = { λ files lane offset. piece_in files.buffers.items lane offset };
+
+    fn read_on<S: Store>(
+        &mut self,
+        alloc: Global,
+        store: &mut S,
+        lane: u32,
+        offset: u64,
+    ) -> Result<(), Stop> {
+        let name = self.names[lane as usize].as_str();
+        read_lane(alloc, store, &mut self.buffers, lane, name, offset)
+    }
+
+    fn piece(&self, lane: u32, offset: u64) -> &[u8] {
+        lane_piece(&self.buffers, lane, offset)
+    }
 }

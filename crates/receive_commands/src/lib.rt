@@ -1,6 +1,7 @@
 //! The command that receives: the lanes of a plan become captures and a table of fault spans.
 #![tactic(auto)]
 
+mod lane_buffer;
 mod lanes;
 mod lanes_in;
 mod receive;

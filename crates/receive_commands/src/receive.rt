@@ -11,9 +11,9 @@ ghost use Rattle.receipts.specs.Settings.{plan_names};
 ghost use Rattle.receive_commands.specs.Receive.{IsReceiveInput, IsReceived, lanes_in, plan_lanes_in};
 ghost use Rattle.lane_receipts.specs.LaneReports.{names_of_lanes};
 
-use crate::lanes::take_lanes;
+use crate::lanes::FileLanes;
 use crate::lanes_in::probe_lanes;
-use lane_receipts::{lane_lines, nothing_read};
+use lane_receipts::{lane_lines, nothing_read, take_lanes};
 use link_plan::{Plan, channels_in_order};
 use lk_outside::Store;
 use plan_inputs::read_plan_file;
@@ -62,13 +62,14 @@ fn receive_lanes<S: Store>(alloc: Global, store: &mut S, read: &PlanLanes) -> Re
     let channels = channels_in_order(alloc, plan.channels.as_slice())?;
     let mut receiver = Receiver::make(alloc, plan)?;
     let mut offsets = nothing_read(alloc, names.len())?;
+    let mut lanes = FileLanes::new(alloc, names)?;
     let mut receipt = Receipt::open(alloc, store, plan.out.as_str(), &channels, plan.link_type)?;
     take_lanes(
         alloc,
         store,
         &mut receipt,
         &mut receiver,
-        names,
+        &mut lanes,
         &mut offsets,
     )?;
     let text = lane_lines(alloc, &receiver, plan.link.lanes())?;
