@@ -1,18 +1,19 @@
 -- The stream of a generated case: there is one, it is not held, and its packets are within the longest.
-use Rattle.std.proofs.Common.{ℕ, ◌≡◌, zero, suc, ◌+◌, ◌<◌, ◌≤◌, true, false, length, map, List, [], ◌∷◌, refl, arith, All}
+use Rattle.std.proofs.Common.{ℕ, ◌≡◌, zero, suc, ◌+◌, ◌<◌, ◌≤◌, true, false, length, map, List, [], ◌∷◌, refl, ◌∙◌, arith, All, Contains}
 use Rattle.std.specs.Prelude.{nat_le}
 use Rattle.std.specs.List.{AllByRecursion, range_with_len}
 use Rattle.std.proofs.lemmas.Bool.{and_from, le-leb}
 use Rattle.std.proofs.lemmas.List.{length-map}
-use Rattle.std.proofs.lemmas.List.Elements.{All-append, All-map}
-use Rattle.std.proofs.lemmas.List.FromFn.{length-range_with_len, length-map-range_with_len}
+use Rattle.std.proofs.lemmas.List.Elements.{All-append, All-map, All-nil}
+use Rattle.std.proofs.lemmas.List.FromFn.{get_or-range_with_len, length-range_with_len, length-map-range_with_len}
 use Rattle.lk_base.specs.Limits.{longest_packet}
 use Rattle.lk_base.specs.Link.{IsLink}
 use Rattle.stream_model.specs.BurstStream.{Source, IsPacket}
 use Rattle.stream_model.proofs.SomeStream.{of_fitting}
 use Rattle.link_plan.specs.Listing.{are_listed, channels_in_order, fit_width}
 use Rattle.link_plan.specs.Plan.{Listed}
-use Rattle.link_plan.proofs.InOrder.{width_in_order}
+use Rattle.link_laws.proofs.FirstMet.{in_mapped}
+use Rattle.link_plan.proofs.InOrder.{in_order, width_in_order}
 use Rattle.link_plan.proofs.Whole.{KeepsValue}
 use Rattle.link_cases.specs.Draws.{draw}
 use Rattle.link_cases.specs.Case.{Case, case_of, channel_drawn, numbers_drawn, packet_drawn}
@@ -21,6 +22,7 @@ use Rattle.link_cases.specs.declared.numbers.LinkNumbers.{LinkNumbers}
 use Rattle.link_cases.proofs.Drawn as drawn
 use Rattle.plan_inputs.specs.Inputs.{on_channel, numbers_in}
 use Rattle.plan_inputs.specs.Sources.{IsSourceOf}
+use Rattle.plan_inputs.specs.Values.{AreOn}
 use Rattle.plan_inputs.proofs.PlanStream.{AreFit}
 use Rattle.plan_inputs.proofs.SomeSource.{shape_of}
 use Rattle.link_commands.specs.Linked.{IsLinked}
@@ -56,7 +58,7 @@ case_link number = by (case_of number).numbers (drawn.case-fits number).numbers
 
 -- ---- its packets
 
-all_of : {X : Type 0} (P : X → Type 0) (xs : List X) → AllByRecursion P xs → All P xs
+pub all_of : {X : Type 0} (P : X → Type 0) (xs : List X) → AllByRecursion P xs → All P xs
 all_of P [] a k d lt = absurd (omega arith)
 all_of P (x ∷ xs) a zero d lt = a.0
 all_of P (x ∷ xs) a (suc k) d lt = all_of P xs a.1 k d (omega arith)
@@ -110,6 +112,30 @@ case_width prefix number = let few = (drawn.case-fits number).channels.few in na
 -- the channels of a case are below 256
 pub case_numbers : (prefix : List ℕ) (number : ℕ) → All (λ channel. channel < 256) (channels_in_order (numbers_in (case_reading prefix (case_of number)).reading.plan))
 case_numbers prefix number k d lt = let h = width_in_order false (numbers_in (case_reading prefix (case_of number)).reading.plan) (case_width prefix number) k d lt in omega arith
+
+in_range : (from n k j : ℕ) → k < n → from + k ≡ j → Contains (range_with_len from n) j
+in_range from n k j lt e = let many = length-range_with_len from n in (k, omega (arith, lt, many), get_or-range_with_len from n k j lt ∙ e)
+
+-- packets of channels by number are on these, where all of their numbers are among them
+packets_on : (numbers : List ℕ) (from : ℕ) (channels : List (List (List ℕ))) → ((k j : ℕ) → k < length channels → from + k ≡ j → Contains numbers j) → AreOn numbers (packets_from from channels)
+packets_on numbers from [] has = All-nil (λ (p : ℕ × List ℕ). Contains numbers p.0)
+packets_on numbers from (packets ∷ more) has =
+    All-append (λ (p : ℕ × List ℕ). Contains numbers p.0) (on_channel from packets) (packets_from (from + 1) more)
+    (All-map (λ (p : ℕ × List ℕ). Contains numbers p.0) (λ (packet : List ℕ). (from, packet)) packets (λ k d lt. has 0 from (omega arith) (omega arith)))
+    (packets_on numbers (from + 1) more (λ k j lt e. has (suc k) j (omega (arith, lt)) (omega (arith, e))))
+
+-- the channels of a case are listed
+pub case_listed : (prefix : List ℕ) (number k : ℕ) → k < length (case_of number).channels → Contains (channels_in_order (numbers_in (case_reading prefix (case_of number)).reading.plan)) k
+case_listed prefix number k lt =
+    let plan = (case_reading prefix (case_of number)).reading.plan in
+    let n : ℕ = length (case_of number).channels in
+    in_order false (numbers_in plan) k (case_width prefix number)
+    (in_mapped (λ (c : Listed). c.number) plan.channels (channel_of prefix k) (in_mapped (channel_of prefix) (range_with_len 0 n) k (in_range 0 n k k lt (omega arith))))
+
+-- and its packets are on them
+pub case_on : (prefix : List ℕ) (number : ℕ) → AreOn (channels_in_order (numbers_in (case_reading prefix (case_of number)).reading.plan)) (packets_from 0 (case_of number).channels)
+case_on prefix number =
+    packets_on (channels_in_order (numbers_in (case_reading prefix (case_of number)).reading.plan)) 0 (case_of number).channels (λ k j lt e. case_listed prefix number j (omega (arith, lt, e)))
 
 all_wide : (cs : List ℕ) → All (λ channel. channel < 256) cs → All (λ channel. channel < 65536) cs
 all_wide cs h k d lt = let low = h k d lt in omega arith
