@@ -1,5 +1,5 @@
 -- A run of `generate` delivers.
-use Rattle.std.proofs.Common.{ℕ, List, subst, Option, Some, None, IfSome}
+use Rattle.std.proofs.Common.{◌≡◌, ℕ, List, Option, Some, IfSome}
 use Rattle.lk_base.specs.declared.word.Word.{Word}
 use Rattle.lk_outside.specs.Files.{Files}
 use Rattle.run_shell.specs.declared.status.Status.{Status}
@@ -9,30 +9,62 @@ use Rattle.link_commands.specs.Linked.{IsLinkedBy}
 use Rattle.link_commands.proofs.Delivers.{never_when_off}
 use Rattle.case_commands.specs.Asked.{Asked}
 use Rattle.case_commands.specs.Generate.{reading_for}
-use Rattle.case_commands.proofs.CaseDelivers.{case_delivers, clean_case_delivers}
-use Rattle.interlaken.specs.declared.request.Request.{Request}
-use Rattle.interlaken.specs.Meanings.{meaning_by as meaning_for}
+use Rattle.case_commands.proofs.CaseDelivers.{case_delivers, case_sends_all, case_spans_narrow, case_tells_missing, clean_case_delivers}
+use Rattle.interlaken.specs.declared.request.Request.TheVariants.{Generate}
+use Rattle.interlaken.specs.Request.{request_of}
 use Rattle.interlaken.specs.Run.{OutcomeOf}
-use Rattle.interlaken.specs.CaseDelivery.{CasesDeliver, CasesDeliverClean, CasesWhenOn, OfCases}
+use Rattle.interlaken.specs.CaseDelivery.{CaseMissingAreTold, CasesDeliver, CasesDeliverClean, CasesSendAll, CaseSpansAreNarrow, CasesWhenOn, IsCaseRun, OfCases}
+use Rattle.interlaken.proofs.Told.{asked_for, is_answered, told}
 
-module _ (words : List (List ℕ)) (status : Status) (Says : (a : Asked) → (stream : List Word) → (o : Outcome) → IsLinkedBy (reading_for a) stream o → Type 0)
-    (says : (a : Asked) (stream : List Word) (o : Outcome) (h : IsLinkedBy (reading_for a) stream o) → Says a stream o h) where
-  cases_at : (u : Files) (x y : Option Files) → (IsAnswer status → Found (OutcomeOf words u) status) → ((o : Outcome) → OutcomeOf words u o → Settles o status x y) → OfCases Says words u status x y
-  cases_at u x y found settled a asks answer =
-      let (o, w, s) = found answer in
-      let (linked, (stream, h), behind) = subst (λ (r : Option Request). (meaning_for r).IsOutcome u o) asks w in
-      (record { outcome = o; is_outcome = w; status = s; stands = (settled o w).done answer; linked = linked; behind = behind; stream = stream; is_linked = h }, says a stream linked h)
+module _ (words : List (List ℕ)) (status : Status) (u : Files) (x y : Option Files) (found : IsAnswer status → Found (OutcomeOf words u) status) (settled : (o : Outcome) → OutcomeOf words u o → Settles o status x y) where
+  run_there : (a : Asked) → request_of words ≡ Some (Generate a) → IsAnswer status → IsCaseRun words u a status x y
+  run_there a asks answer =
+      let (o, of, s) = found answer in
+      let (linked, (stream, h), behind) = asked_for words (Generate a) u o asks of in
+      record { outcome = o; is_outcome = of; status = s; stands = (settled o of).done answer; linked = linked; behind = behind; stream = stream; is_linked = h }
 
-  cases : (x y : Option Files) → IfSome x (λ files. IsAnswer status → Found (OutcomeOf words files) status) → IfSome x (λ files. (o : Outcome) → OutcomeOf words files o → Settles o status x y) → IfSome x (λ files. OfCases Says words files status x y)
-  cases None y f s = tt
-  cases (Some u) y f s = cases_at u (Some u) y f s
+  module _ (Says : (a : Asked) → (stream : List Word) → (o : Outcome) → IsLinkedBy (reading_for a) stream o → Type 0) where
+    -- what holds of whatever comes of a case
+    of_cases : ((a : Asked) (stream : List Word) (o : Outcome) (h : IsLinkedBy (reading_for a) stream o) → Says a stream o h) → OfCases Says words u status x y
+    of_cases says a asks answer = record {
+      run = run_there a asks answer;
+      answered = λ o of. is_answered o status x y answer (settled o of);
+      each = λ o linked of behind stream h. says a stream linked h;
+    }
+
+  delivers_at : CasesDeliver words u status x y
+  delivers_at = of_cases _ (λ a stream o h none. case_delivers a stream o h none)
+
+  clean_at : CasesDeliverClean words u status x y
+  clean_at = of_cases _ (λ a stream o h whole within. clean_case_delivers a stream o h whole within)
+
+  sends_at : CasesSendAll words u status x y
+  sends_at = of_cases _ (λ a stream o h. case_sends_all a stream o h)
+
+  narrow_at : CaseSpansAreNarrow words u status x y
+  narrow_at = of_cases _ (λ a stream o h none kept. case_spans_narrow a stream o h none kept)
+
+  missing_at : CaseMissingAreTold words u status x y
+  missing_at = of_cases _ (λ a stream o h. case_tells_missing a stream o h)
+
+  when_on_at : CasesWhenOn words u status x y
+  when_on_at = of_cases _ (λ a stream o h. never_when_off (reading_for a) stream o h)
 
 module _ (words : List (List ℕ)) (status : Status) (x y : Option Files) (found : IfSome x (λ files. IsAnswer status → Found (OutcomeOf words files) status)) (settled : IfSome x (λ files. (o : Outcome) → OutcomeOf words files o → Settles o status x y)) where
   pub run_cases_deliver : IfSome x (λ files. CasesDeliver words files status x y)
-  run_cases_deliver = cases words status _ (λ a stream o h none. case_delivers a stream o h none) x y found settled
+  run_cases_deliver = told (λ u z. CasesDeliver words u status z y) words status x y (λ u f s. delivers_at words status u x y f s) found settled
 
   pub run_cases_deliver_clean : IfSome x (λ files. CasesDeliverClean words files status x y)
-  run_cases_deliver_clean = cases words status _ (λ a stream o h whole within. clean_case_delivers a stream o h whole within) x y found settled
+  run_cases_deliver_clean = told (λ u z. CasesDeliverClean words u status z y) words status x y (λ u f s. clean_at words status u x y f s) found settled
+
+  pub run_cases_send_all : IfSome x (λ files. CasesSendAll words files status x y)
+  run_cases_send_all = told (λ u z. CasesSendAll words u status z y) words status x y (λ u f s. sends_at words status u x y f s) found settled
+
+  pub run_cases_narrow_spans : IfSome x (λ files. CaseSpansAreNarrow words files status x y)
+  run_cases_narrow_spans = told (λ u z. CaseSpansAreNarrow words u status z y) words status x y (λ u f s. narrow_at words status u x y f s) found settled
+
+  pub run_cases_tell_missing : IfSome x (λ files. CaseMissingAreTold words files status x y)
+  run_cases_tell_missing = told (λ u z. CaseMissingAreTold words u status z y) words status x y (λ u f s. missing_at words status u x y f s) found settled
 
   pub run_cases_when_on : IfSome x (λ files. CasesWhenOn words files status x y)
-  run_cases_when_on = cases words status _ (λ a stream o h. never_when_off (reading_for a) stream o h) x y found settled
+  run_cases_when_on = told (λ u z. CasesWhenOn words u status z y) words status x y (λ u f s. when_on_at words status u x y f s) found settled

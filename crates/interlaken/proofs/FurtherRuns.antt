@@ -1,5 +1,5 @@
 -- What is said of runs of `resend`, `oobwrite`, `oobread` and `duplex` holds.
-use Rattle.std.proofs.Common.{◌≡◌, ℕ, List, subst, Option, Some, None, IfSome}
+use Rattle.std.proofs.Common.{◌≡◌, ℕ, List, Option, IfSome}
 use Rattle.lk_outside.specs.Files.{Files}
 use Rattle.run_shell.specs.declared.status.Status.{Status}
 use Rattle.run_shell.specs.Outcome.{Outcome, IsAnswer}
@@ -15,13 +15,11 @@ use Rattle.resend_commands.proofs.InOrder.{resent_in_order}
 use Rattle.duplex_commands.specs.Run.{duplex_work}
 use Rattle.duplex_commands.specs.HeldBack.{IsHeldBack}
 use Rattle.duplex_commands.proofs.HeldBack.{held_back}
-use Rattle.interlaken.specs.declared.request.Request.{Request}
 use Rattle.interlaken.specs.declared.request.Request.TheVariants.{Duplex, OobWrite, OobRead, Resend}
-use Rattle.interlaken.specs.Request.{request_of}
-use Rattle.interlaken.specs.Meanings.{meaning_of, meaning_by as meaning_for}
 use Rattle.interlaken.specs.Run.{OutcomeOf}
 use Rattle.interlaken.specs.Answered.{Answers}
 use Rattle.interlaken.specs.Further.{ResendsInOrder, WritesStatus, ReadsStatus, HoldsBack}
+use Rattle.interlaken.proofs.Told.{asked_for, told}
 
 -- an outcome that was answered, and what is said of it
 answers : (Says : Outcome → Type 0) (words : List (List ℕ)) (u : Files) (status : Status) (x y : Option Files) → (IsAnswer status → Found (OutcomeOf words u) status)
@@ -29,10 +27,6 @@ answers : (Says : Outcome → Type 0) (words : List (List ℕ)) (u : Files) (sta
 answers Says words u status x y found settled answer says =
     let (o, of, s) = found answer in
     record { outcome = o; is_outcome = of; status = s; stands = (settled o of).done answer; says = says o of }
-
--- an outcome of words is one of what they ask for
-asked_for : (words : List (List ℕ)) (r : Request) (u : Files) (o : Outcome) → request_of words ≡ Some r → OutcomeOf words u o → (meaning_of r).IsOutcome u o
-asked_for words r u o asks of = subst (λ (a : Option Request). (meaning_for a).IsOutcome u o) asks of
 
 module _ (words : List (List ℕ)) (status : Status) (u : Files) (x y : Option Files) (found : IsAnswer status → Found (OutcomeOf words u) status) (settled : (o : Outcome) → OutcomeOf words u o → Settles o status x y) where
   resends_at : ResendsInOrder words u status x y
@@ -50,13 +44,6 @@ module _ (words : List (List ℕ)) (status : Status) (u : Files) (x y : Option F
   holds_at : HoldsBack words u status x y
   holds_at name i asks bytes is answer =
       answers (IsHeldBack i) words u status x y found settled answer (λ o of. held_back u name i o bytes is (made_of (duplex_work name) u i o is (asked_for words (Duplex name) u o asks of)))
-
--- wherever the store tells its files
-told : (Says : Files → Option Files → Type 0) (words : List (List ℕ)) (status : Status) (x y : Option Files)
-    → ((u : Files) → (IsAnswer status → Found (OutcomeOf words u) status) → ((o : Outcome) → OutcomeOf words u o → Settles o status x y) → Says u x)
-    → IfSome x (λ files. IsAnswer status → Found (OutcomeOf words files) status) → IfSome x (λ files. (o : Outcome) → OutcomeOf words files o → Settles o status x y) → IfSome x (λ files. Says files x)
-told Says words status None y at f s = tt
-told Says words status (Some u) y at f s = at u f s
 
 module _ (words : List (List ℕ)) (status : Status) (x y : Option Files) (found : IfSome x (λ files. IsAnswer status → Found (OutcomeOf words files) status)) (settled : IfSome x (λ files. (o : Outcome) → OutcomeOf words files o → Settles o status x y)) where
   pub run_resends : IfSome x (λ files. ResendsInOrder words files status x y)

@@ -12,3 +12,8 @@ pub record Answers (Says : Outcome → Type 0) (words : List (List ℕ)) (files 
   pub status : its_status ≡ outcome.status
   pub stands : Told old new (Holds outcome.files)
   pub says : Says outcome
+
+-- this is what was answered: its status, and its files, which stand
+pub record IsAnswered (o : Outcome) (its_status : Status) (old new : Option Files) : Type 0 where
+  pub status : its_status ≡ o.status
+  pub stands : Told old new (Holds o.files)
