@@ -1,6 +1,6 @@
 -- The premises of the delivery theorem with damage are met by a plan of two packets on one channel, one behind the other: the schedule
 -- inverts the same bit of lane 1, by which the data word of the first packet has a damaged header. No accident is counted. The first
--- packet meets the fault span that holds the word, and is lost; the second meets none, and arrives.
+-- packet meets a fault span, and is lost; the second meets none, and arrives.
 use Rattle.std.specs.Prelude.{ℕ, ◌≡◌, List, [], ◌∷◌, ◌++◌, map, filter, replicate, codes, Some, Ok}
 use Rattle.std.specs.FinMap.{from_entries}
 use Rattle.lk_base.specs.Checksum.{bits_of_bytes}
