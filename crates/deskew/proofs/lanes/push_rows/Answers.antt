@@ -1,9 +1,26 @@
--- One row more has room.
-use Rattle.std.proofs.Common.{ℕ, ◌+◌, ◌≤◌, sym, subst, length, vec_capacity}
-use Rattle.deskew.proofs.Rows.{row_fits}
+-- One more lane writes its words.
+use Rattle.std.proofs.Common.{◌≡◌, ap, ◌∙◌, ◌+◌, ◌*◌, List, arith, drop, length}
+use Rattle.lk_base.specs.declared.word.RxWord.{RxWord}
+use Rattle.deskew.specs.Spread.{column, spread_all}
+use Rattle.deskew.proofs.Spread.{all_spread, lane_more, length_spread}
 use Rattle.deskew.proofs.lanes.push_rows.Goals as goal
 
-pub push_row-requires-clause-room : goal.push_row-requires-clause-room
-push_row-requires-clause-room c =
-    subst (λ (n : ℕ). length c.loop-row.block.items + length c.args.lanes.now ≤ n) (sym c.loop-row.invariant.1)
-    (row_fits c.args.behind c.loop-row.row c.args.rows (vec_capacity c.args.block.now) c.args.lanes.now c.args.block.now.items c.loop-row.block.items c.loop-row.invariant.0 c.loop-row-test.true c.requires.room)
+pub loop-i-init : goal.loop-i-init
+loop-i-init c =
+    let e = ap length c.requires.empty in
+    let m = c.make_places.ensures.items in
+    let long : length c.make_places.new.block.items ≡ c.args.rows * length c.args.lanes.now = omega (arith, e, m) in
+    (c.make_places.ensures.capacity, long, all_spread c.args.behind c.args.rows c.args.lanes.now c.make_places.new.block.items long)
+
+pub loop-i-preserved : goal.loop-i-preserved
+loop-i-preserved c =
+    let inv = c.loop-i.invariant in
+    let lanes = c.args.lanes.now in
+    let i = c.loop-i.i in
+    let lane = c.index-lanes-i.result in
+    let step = length lanes in (
+      c.spread.ensures.capacity ∙ inv.0,
+      ap length c.spread.ensures.items ∙ length_spread step i (column c.args.behind c.args.rows lane) c.loop-i.block.items ∙ inv.1,
+      ap (λ (ws : List RxWord). spread_all step (i + 1) c.args.behind c.args.rows (drop (i + 1) lanes) ws) c.spread.ensures.items
+          ∙ lane_more step i c.args.behind c.args.rows lanes lane c.loop-i.block.items c.loop-i-test.true c.index-lanes-i.is ∙ inv.2,
+    )

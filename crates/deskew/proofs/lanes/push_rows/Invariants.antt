@@ -1,7 +1,11 @@
--- The rows so far stand after the block.
-use Rattle.std.proofs.Common.{◌≡◌, ◌++◌, vec_capacity}
+-- The lanes that are left lead to all rows.
+use Rattle.std.proofs.Common.{◌≡◌, ◌*◌, drop, length, vec_capacity}
 use Rattle.deskew.specs.Blocks.{rows_at}
+use Rattle.deskew.specs.Spread.{spread_all}
 use Rattle.deskew.proofs.lanes.push_rows.Given as goal
 
-abbrev pub invariant-loop-row : goal.invariant-loop-row
-invariant-loop-row l = (l.block.items ≡ l.fn.block.items ++ rows_at l.behind l.row l.lanes) × (vec_capacity l.block ≡ vec_capacity l.fn.block)
+abbrev pub invariant-loop-i : goal.invariant-loop-i
+invariant-loop-i l =
+    (vec_capacity l.block ≡ vec_capacity l.fn.block)
+    × (length l.block.items ≡ l.rows * length l.lanes)
+    × (spread_all (length l.lanes) l.i l.behind l.rows (drop l.i l.lanes) l.block.items ≡ rows_at l.behind l.rows l.lanes)

@@ -1,6 +1,5 @@
 -- All rows that were counted.
-use Rattle.std.proofs.Common.{ℕ, ◌≡◌, sym, ap, ◌∙◌, subst, ◌+◌, ◌*◌, ◌/◌, ◌%◌, ◌++◌, false, List, arith, vec_capacity}
-use Rattle.lk_base.specs.declared.word.RxWord.{RxWord}
+use Rattle.std.proofs.Common.{ℕ, ◌≡◌, sym, ap, ◌∙◌, subst, ◌+◌, ◌*◌, ◌/◌, ◌%◌, false, List, arith, vec_capacity}
 use Rattle.deskew.specs.declared.phase.Phase.{Phase}
 use Rattle.deskew.specs.declared.phase.Phase.TheVariants as phases
 use Rattle.deskew.specs.States.{LaneState, State}
@@ -46,8 +45,7 @@ returns-clause-rows c =
     let counted : IsCount (vec_capacity c.args.block.now) count index held =
     subst (λ (n : ℕ). IsCount n count index held) c.capacity.ensures (subst (λ (d : State). IsCount c.capacity.result count index d) (sym c.self.view_is) c.count_rows-count.ensures.count) in
     let items : c.push_rows.new.block.items ≡ rows_at c.behind-behind.result count c.self.inside.lanes.items =
-    c.push_rows.ensures.items ∙ ap (λ (ws : List RxWord). ws ++ rows_at c.behind-behind.result count c.deref.result.now) c.requires.empty
-    ∙ ap (λ (ls : List LaneState). rows_at c.behind-behind.result count ls) c.deref.ensures.value in
+    c.push_rows.ensures.items ∙ ap (λ (ls : List LaneState). rows_at c.behind-behind.result count ls) c.deref.ensures.value in
     subst (λ (d : State). AllRows (vec_capacity c.args.block.now) d c.push_rows.new.block.items after) c.self.view_is
     (all_rows (vec_capacity c.args.block.now) count index c.behind-behind.result held after c.push_rows.new.block.items phase i.0 i.2 behind counted (omega (arith, none)) items
     (ap (λ (n : ℕ). record { settings = link; lanes = c.self.inside.lanes.items; phase = phases.Inside (index + count * n); settled = false }) c.lanes.ensures))

@@ -4,4 +4,4 @@ use Rattle.deskew.specs.Steps.{lane_after_all}
 use Rattle.deskew.proofs.lane.Lane.take_all.Given as goal
 
 abbrev pub invariant-loop-step : goal.invariant-loop-step
-invariant-loop-step l = lane_after_all l.self (drop l.step-index l.steps) ≡ lane_after_all l.fn.self l.steps
+invariant-loop-step l = lane_after_all l.self (drop l.step-index l.rest) ≡ lane_after_all l.fn.self l.steps
