@@ -72,7 +72,7 @@ module _ (i : LinkReading) (stream : List Word) (o : Outcome) (h : IsLinkedBy i 
       by status (inl (e, held)) done = absurd cc
       by status (inr (e, free)) done = free
 
-  captured : (channel : ℕ) → packets_of h.source channel ≡ captured_on i channel
+  pub captured : (channel : ℕ) → packets_of h.source channel ≡ captured_on i channel
   captured channel = ap (λ (ps : List (ℕ × List ℕ)). map (λ (p : ℕ × List ℕ). p.1) (filter (λ (p : ℕ × List ℕ). p.0 == channel) ps)) h.is_source.packets
 
   listed : (channel : ℕ) → AreOn (channels_in_order (numbers_in i.reading.plan)) i.reading.inputs.packets → (packets_of h.source channel ≡ []) ⊎ Contains h.source.channels channel
