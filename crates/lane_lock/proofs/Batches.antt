@@ -1,6 +1,6 @@
 -- The steps of many bits, without those that show nothing.
-use Rattle.std.proofs.Common.{ℕ, zero, suc, ◌≡◌, refl, sym, ap, ◌∙◌, subst, ◌+◌, ◌-◌, ◌*◌, ◌<◌, ◌≤◌, Bool, true, false, cond, List, [], ◌∷◌, ◌++◌, length, replicate, take, append_assoc, get_or, Some, None, arith}
-use Rattle.std.proofs.Math.Seq.{take-append-add}
+use Rattle.std.proofs.Common.{ℕ, zero, suc, ◌≡◌, refl, sym, ap, ◌∙◌, subst, ◌+◌, ◌-◌, ◌*◌, ◌<◌, ◌≤◌, Bool, true, false, cond, List, [], ◌∷◌, ◌++◌, length, replicate, take, drop, append_assoc, get_or, Some, None, arith}
+use Rattle.std.proofs.Math.Seq.{take-add, take-append-add}
 use Rattle.std.proofs.lemmas.List.{length-append, length-replicate, take_all, take_at}
 use Rattle.lk_base.specs.Checksum.{bits_of, bits_of_bytes}
 use Rattle.lane_model.proofs.FilesHold.{length-flat_map_bits}
@@ -76,6 +76,12 @@ batch_step v w given place behind x before after long low e brings = record {
   brings = brings;
 }
 
+-- that of a whole word
+pub batch_whole : (v w : LaneState) (code : ℕ) (given : List Bool) (x : LaneStep) (before after : List LaneStep) → bits_of 67 code ≡ given → is_low x → after ≡ before ++ shown_in (x ∷ []) →
+    Brings v w (bits_of 67 code) (replicate 66 steps.Nothing ++ x ∷ []) → BringsBatch v w given before after
+batch_whole v w code given x before after is low e brings =
+    batch_same v w (bits_of 67 code) given before after is (batch_step v w (bits_of 67 code) 66 0 x before after (length-bits_of 67 code) low e brings)
+
 pub batch_ends : (v w : LaneState) (width bits : ℕ) (c : Completed) (before after : List LaneStep) → c.place < width → is_low c.step → after ≡ before ++ shown_in (c.step ∷ []) →
     Brings v w (bits_of width bits) (steps_of_bits width (Some c)) → BringsBatch v w (bits_of width bits) before after
 batch_ends v w width bits c before after within low e brings =
@@ -109,6 +115,48 @@ sparse_word v w x before after further behind e first had early sparse =
 
 pub sparse_rest : (v w : LaneState) (count : ℕ) → v.at ≤ w.at → StaysSparse v count w count
 sparse_rest v w count later first had early sparse = omega (arith, later, early, sparse)
+
+-- ---- whole words
+
+-- this many words of these bits were taken from where one began
+pub record Ran (v w : LaneState) (given : List Bool) (words : ℕ) (before after : List LaneStep) : Type 0 where
+  pub taken : w.taken ≡ v.taken + 67 * words
+  pub at : w.at ≡ v.at + 67 * words
+  pub few : length after ≤ length before + words
+  pub batch : BringsBatch v w (take (67 * words) given) before after
+
+pub ran_none : (v : LaneState) (given : List Bool) (before : List LaneStep) → Ran v v given 0 before before
+ran_none v given before = record { taken = omega arith; at = omega arith; few = omega arith; batch = batch_none v before }
+
+pub ran_more : (u v w : LaneState) (given : List Bool) (words code : ℕ) (x : LaneStep) (before between after : List LaneStep) → Ran u v given words before between →
+    w.taken ≡ v.taken + 67 → w.at ≡ v.at + 67 → bits_of 67 code ≡ take 67 (drop (67 * words) given) → is_low x → after ≡ between ++ shown_in (x ∷ []) →
+    Brings v w (bits_of 67 code) (replicate 66 steps.Nothing ++ x ∷ []) → Ran u w given (words + 1) before after
+ran_more u v w given words code x before between after r taken at is low e brings = record {
+  taken = (let t = r.taken in omega (arith, t, taken));
+  at = (let t = r.at in omega (arith, t, at));
+  few = (
+      let l : length after ≡ length between + length (shown_in (x ∷ [])) = ap length e ∙ length-append between (shown_in (x ∷ [])) in
+      let m = shown_most x in
+      let f = r.few in
+      omega (arith, l, m, f));
+  batch = (
+      let n : 67 * words + 67 ≡ 67 * (words + 1) = omega arith in
+      batch_same u w (take (67 * words) given ++ take 67 (drop (67 * words) given)) (take (67 * (words + 1)) given) before after
+      (sym (take-add (67 * words) 67 given) ∙ ap (λ (m : ℕ). take m given) n)
+      (batch_both u v w (take (67 * words) given) (take 67 (drop (67 * words) given)) before between after r.batch (batch_whole v w code (take 67 (drop (67 * words) given)) x between after is low e brings)));
+}
+
+pub sparse_run : (v w : LaneState) (given : List Bool) (words : ℕ) (before after : List LaneStep) → Ran v w given words before after → (1 ≤ words → v.at ≡ v.taken) →
+    StaysSparse v (length before) w (length after)
+sparse_run v w given zero before after r begins first had early sparse =
+    let a = r.at in
+    let f = r.few in
+    omega (arith, a, f, sparse)
+sparse_run v w given (suc words) before after r begins first had early sparse =
+    let a = r.at in
+    let f = r.few in
+    let b = begins (omega arith) in
+    omega (arith, a, f, b, early, sparse)
 
 -- ---- the first bits of a batch
 
