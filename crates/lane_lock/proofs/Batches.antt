@@ -146,18 +146,6 @@ ran_more u v w given words code x before between after r taken at is low e bring
       (batch_both u v w (take (67 * words) given) (take 67 (drop (67 * words) given)) before between after r.batch (batch_whole v w code (take 67 (drop (67 * words) given)) x between after is low e brings)));
 }
 
-pub sparse_run : (v w : LaneState) (given : List Bool) (words : ℕ) (before after : List LaneStep) → Ran v w given words before after → (1 ≤ words → v.at ≡ v.taken) →
-    StaysSparse v (length before) w (length after)
-sparse_run v w given zero before after r begins first had early sparse =
-    let a = r.at in
-    let f = r.few in
-    omega (arith, a, f, sparse)
-sparse_run v w given (suc words) before after r begins first had early sparse =
-    let a = r.at in
-    let f = r.few in
-    let b = begins (omega arith) in
-    omega (arith, a, f, b, early, sparse)
-
 -- ---- the first bits of a batch
 
 -- the first n of these bits were taken
