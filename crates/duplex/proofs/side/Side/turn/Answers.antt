@@ -32,4 +32,4 @@ step_open-requires c =
 pub returns : goal.returns
 returns c settings ends packets own sent keeps long side listed marks drain =
     let taken = c.take-joined.ensures settings ends packets own sent keeps long side in
-    side_turned c.take-joined.new.self _ settings ends packets own sent c.take-joined.result c.args.drains c.args.mark c.turn.new.scheduler c.step_open.result keeps long taken listed marks drain c.turn.ensures.queues c.turn.ensures.turned c.turn.ensures.tells c.step_open.ensures refl refl refl
+    side_turned c.take-joined.new.self _ settings ends packets own sent c.take-joined.result c.args.drains c.args.mark c.turn.new.scheduler c.step_open.result keeps long taken listed marks drain c.turn.ensures.queues c.turn.ensures.turned c.turn.ensures.tells c.step_open.ensures.words refl refl refl
