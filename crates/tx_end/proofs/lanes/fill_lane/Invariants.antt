@@ -1,0 +1,7 @@
+use Rattle.std.proofs.Common.{◌+◌, ◌*◌}
+use Rattle.lane_model.specs.Striping.{lane_payload}
+use Rattle.tx_end.proofs.LanePlaces.{Making}
+use Rattle.tx_end.proofs.lanes.fill_lane.Given as goal
+
+abbrev pub invariant-loop-place : goal.invariant-loop-place
+invariant-loop-place l = Making l.lane l.link l.number (lane_payload l.lanes l.words l.number) l.taken (l.made * l.link.metaframe + l._place) l.file.items
