@@ -1,4 +1,4 @@
-use Rattle.std.proofs.Common.{ℕ, ◌+◌, ◌<◌, sym, subst, map, List, arith}
+use Rattle.std.proofs.Common.{ℕ, ◌+◌, sym, subst, map, List, arith}
 use Rattle.std.proofs.lemmas.List.{map-set}
 use Rattle.std.proofs.Math.ListN.{set}
 use Rattle.tx_end.proofs.LaneFiles.{Filled, InTurn, one_turn, turn_begins, turn_ends}

@@ -1,4 +1,4 @@
-use Rattle.std.proofs.Common.{ℕ, ◌≡◌, ◌+◌, ◌<◌, [], ◌∙◌, ap, sym, subst, map, length, get_or, List, arith}
+use Rattle.std.proofs.Common.{ℕ, ◌+◌, ◌<◌, [], ◌∙◌, sym, subst, map, length, get_or, List, arith}
 use Rattle.std.proofs.lemmas.List.{get_or-map, length-map, map-set}
 use Rattle.std.proofs.Math.ListN.{set}
 use Rattle.tx_end.specs.declared.lane.Lane.{Lane}

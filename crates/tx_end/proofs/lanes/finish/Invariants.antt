@@ -1,4 +1,4 @@
-use Rattle.std.proofs.Common.{◌≡◌, length, map, get_or, []}
+use Rattle.std.proofs.Common.{length, map}
 use Rattle.tx_end.proofs.LaneFiles.{Ended, InTurn, Waits}
 use Rattle.tx_end.proofs.lanes.finish.Given as goal
 
