@@ -11,12 +11,13 @@ use Rattle.link_commands.specs.Link.{link_work}
 use Rattle.link_commands.specs.Linked.{IsLinkedBy}
 use Rattle.link_commands.proofs.AllSent.{sends_all}
 use Rattle.link_commands.proofs.Delivers.{clean_delivers, delivers, never_when_off}
+use Rattle.link_commands.proofs.Lacks.{lacks_a_packet}
 use Rattle.link_commands.proofs.Missed.{tells_missing}
 use Rattle.link_commands.proofs.Narrow.{narrow_spans}
 use Rattle.interlaken.specs.declared.request.Request.TheVariants.{Link}
 use Rattle.interlaken.specs.Request.{request_of}
 use Rattle.interlaken.specs.Run.{OutcomeOf}
-use Rattle.interlaken.specs.Delivery.{Delivers, DeliversClean, IsLinkRun, LinksWhenOn, MissingAreTold, OfLinks, SendsAllPackets, SpansAreNarrow}
+use Rattle.interlaken.specs.Delivery.{Delivers, DeliversClean, HeldLacksAPacket, IsLinkRun, LinksWhenOn, MissingAreTold, OfLinks, SendsAllPackets, SpansAreNarrow}
 use Rattle.interlaken.proofs.Told.{asked_for, is_answered, told}
 
 module _ (words : List (List ℕ)) (status : Status) (u : Files) (x y : Option Files) (found : IsAnswer status → Found (OutcomeOf words u) status) (settled : (o : Outcome) → OutcomeOf words u o → Settles o status x y) where
@@ -44,6 +45,9 @@ module _ (words : List (List ℕ)) (status : Status) (u : Files) (x y : Option F
   sends_at : SendsAllPackets words u status x y
   sends_at bytes = of_links _ (λ name i stream o is s h done. sends_all u name i stream o bytes is h (sym s ∙ done))
 
+  lacks_at : HeldLacksAPacket words u status x y
+  lacks_at = of_links _ (λ name i stream o is s h held. lacks_a_packet i stream o h (sym s ∙ held))
+
   narrow_at : SpansAreNarrow words u status x y
   narrow_at bytes = of_links _ (λ name i stream o is s h none kept. narrow_spans u name i stream o bytes is h none kept)
 
@@ -62,6 +66,9 @@ module _ (words : List (List ℕ)) (status : Status) (x y : Option Files) (found
 
   pub run_sends_all : IfSome x (λ files. SendsAllPackets words files status x y)
   run_sends_all = told (λ u z. SendsAllPackets words u status z y) words status x y (λ u f s. sends_at words status u x y f s) found settled
+
+  pub run_held_lacks : IfSome x (λ files. HeldLacksAPacket words files status x y)
+  run_held_lacks = told (λ u z. HeldLacksAPacket words u status z y) words status x y (λ u f s. lacks_at words status u x y f s) found settled
 
   pub run_narrow_spans : IfSome x (λ files. SpansAreNarrow words files status x y)
   run_narrow_spans = told (λ u z. SpansAreNarrow words u status z y) words status x y (λ u f s. narrow_at words status u x y f s) found settled

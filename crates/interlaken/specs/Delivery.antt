@@ -5,12 +5,12 @@ use Rattle.lane_model.specs.Damage.{IsWithinDepth}
 use Rattle.link_laws.specs.Accidents.{no_accidents}
 use Rattle.lk_outside.specs.Files.{Files, AreBytes, Told}
 use Rattle.run_shell.specs.declared.status.Status.{Status}
-use Rattle.run_shell.specs.declared.status.Status.TheVariants.{Done}
+use Rattle.run_shell.specs.declared.status.Status.TheVariants.{Done, Held}
 use Rattle.run_shell.specs.Outcome.{Outcome, IsAnswer, Holds}
 use Rattle.stream_commands.specs.Off.{NoBurstWhenOff}
 use Rattle.link_commands.specs.Inputs.{LinkReading, linked_in}
 use Rattle.link_commands.specs.Linked.{IsLinkedBy}
-use Rattle.link_commands.specs.Delivery.{AllUndamaged, DeliversAll, DeliversUnmet, LosesNoLock, NarrowSpans, SendsAll, TellsMissing}
+use Rattle.link_commands.specs.Delivery.{AllUndamaged, DeliversAll, DeliversUnmet, LacksAPacket, LosesNoLock, NarrowSpans, SendsAll, TellsMissing}
 use Rattle.interlaken.specs.declared.request.Request.TheVariants.{Link}
 use Rattle.interlaken.specs.Request.{request_of}
 use Rattle.interlaken.specs.Run.{OutcomeOf}
@@ -50,6 +50,10 @@ DeliversClean words files status old new = AreBytes files →
 -- Over files of bytes, with the status `Done` the sent packets of each channel are all packets of its captures, in order.
 abbrev pub SendsAllPackets : List (List ℕ) → Files → Status → Option Files → Option Files → Type 0
 SendsAllPackets words files status old new = AreBytes files → OfLinks (λ i stream o h. status ≡ Done → SendsAll i stream o h) words files status old new
+
+-- With the status `Held` the last line of the text names a channel, and of this one fewer packets are sent than its captures have.
+abbrev pub HeldLacksAPacket : List (List ℕ) → Files → Status → Option Files → Option Files → Type 0
+HeldLacksAPacket words files status old new = OfLinks (λ i stream o h. status ≡ Held → LacksAPacket i stream o h) words files status old new
 
 -- Over files of bytes, where no accident was counted and no declared lock was lost, each fault span that has both ends holds a
 -- damaged word strictly between them. And where two control words or more behind the last of those were received as they were sent,
