@@ -51,7 +51,8 @@ DeliversClean words files status old new = AreBytes files →
 abbrev pub SendsAllPackets : List (List ℕ) → Files → Status → Option Files → Option Files → Type 0
 SendsAllPackets words files status old new = AreBytes files → OfLinks (λ i stream o h. status ≡ Done → SendsAll i stream o h) words files status old new
 
--- With the status `Held` the last line of the text names a channel, and of this one fewer packets are sent than its captures have.
+-- With the status `Held` the last line of the outcome's text names the least channel with bytes left at the finish, and of this one
+-- fewer packets are sent than its capture has.
 abbrev pub HeldLacksAPacket : List (List ℕ) → Files → Status → Option Files → Option Files → Type 0
 HeldLacksAPacket words files status old new = OfLinks (λ i stream o h. status ≡ Held → LacksAPacket i stream o h) words files status old new
 

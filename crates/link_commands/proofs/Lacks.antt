@@ -26,7 +26,7 @@ use Rattle.link_reports.specs.Lines.{held_line}
 use Rattle.run_shell.specs.Outcome.{Outcome}
 use Rattle.link_commands.specs.Delivery.{LacksAPacket, LinkLacksAPacket, captured_on, sent_on}
 use Rattle.link_commands.specs.Inputs.{LinkReading}
-use Rattle.link_commands.specs.Linked.{IsEndedBy, IsLinkedBy, sent_over}
+use Rattle.link_commands.specs.Linked.{IsEndedBy, IsLinkedBy, link_text, missing_among, missing_lines, sent_over}
 use Rattle.link_commands.proofs.AllSent.{captured}
 
 -- ---- no bursts behind the finish
@@ -103,22 +103,25 @@ lacks_one place source channel z w stream finish left =
 -- ---- a link with the status `Held`
 
 module _ (i : LinkReading) (stream : List Word) (o : Outcome) (h : IsLinkedBy i stream o) where
-  lacks_on : (lines : List ℕ) (channel : ℕ) → IsHeldOn h.source stream channel → o.text ≡ lines ++ held_line channel → LacksAPacket i stream o h
-  lacks_on lines channel (z, finish, least) text = record {
+  abbrev lines : List ℕ
+  lines = link_text h.source stream h.reports h.setting h.events h.counts (missing_lines h.sent (missing_among (sent_over i stream) h.events h.sent))
+
+  lacks_on : (channel : ℕ) → IsHeldOn h.source stream channel → o.text ≡ lines ++ held_line channel → LacksAPacket i stream o h
+  lacks_on channel (z, finish, least) text = record {
     channel = channel;
-    lines = lines;
+    held_on = (z, finish, least);
     named = text;
     fewer = subst (λ (ps : List (List ℕ)). length (sent_on i stream o h channel) < length ps) (captured i stream o h channel)
         (lacks_one (slot_place (sent_over i stream)) h.source channel z stream h.is_stream finish least.0.1);
   }
 
-  ended : (lines : List ℕ) → IsHeld h.source stream → IsEndedBy h.source stream lines o.text → LacksAPacket i stream o h
-  ended lines held (inl (channel, on, text)) = lacks_on lines channel on text
-  ended lines held (inr (free, text)) = absurd (free held)
+  ended : IsHeld h.source stream → IsEndedBy h.source stream lines o.text → LacksAPacket i stream o h
+  ended held (inl (channel, on, text)) = lacks_on channel on text
+  ended held (inr (free, text)) = absurd (free held)
 
   is_held : (status : Status) → IsStatusOf h.source stream status → status ≡ Held → IsHeld h.source stream
   is_held status (inl (e, held)) s = held
   is_held status (inr (e, free)) s = absurd cc
 
 pub lacks_a_packet : LinkLacksAPacket
-lacks_a_packet i stream o h status = ended i stream o h _ (is_held i stream o h o.status h.status status) h.text
+lacks_a_packet i stream o h status = ended i stream o h (is_held i stream o h o.status h.status status) h.text
