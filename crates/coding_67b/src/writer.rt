@@ -1,6 +1,7 @@
 ghost use Rattle.std.specs.Prelude.{◌≡◌, ◌↔◌, ◌+◌, ◌-◌, ◌^◌, ◌<◌, ◌≤◌, List, [], ◌++◌, false, length, replicate, IsNone, IfSome, IfNone};
 ghost use Rattle.lk_base.specs.Checksum.{bits_of};
 
+use lane_model::CODE_BITS;
 use std::marker::Model;
 
 /// Bits on their way into bytes. It is seen as the list of the bits that wait, the first of them first.
@@ -37,8 +38,8 @@ impl BitWriter {
         ensures bits { self.new ≡ self.old ++ bits_of 67 code }
         ensures count { length self.new ≡ length self.old + 67 }
     {
-        self.bits = self.bits << 67 | code;
-        self.count += 67;
+        self.bits = self.bits << CODE_BITS | code;
+        self.count += CODE_BITS;
     }
 
     /// Takes the next 8 waiting bits, the first of them as the byte's highest. `None` exactly where fewer than 8 wait,
