@@ -3,7 +3,7 @@ ghost use Rattle.byteorder.specs.Endian.{little_bytes};
 ghost use Rattle.pcap_files.specs.Written.{header_bytes, record_head, record_bytes};
 
 use byteorder::{ByteOrder, LittleEndian};
-use lk_base::OutOfMemory;
+use lk_base::{LONGEST_PACKET, OutOfMemory};
 use std::alloc::Global;
 
 // Writes a number of two bytes behind what was written.
@@ -32,7 +32,7 @@ fn put_header(bytes: &mut [u8], link_type: u32)
     put_u16(bytes, 6, 4);
     put_u32(bytes, 8, 0);
     put_u32(bytes, 12, 0);
-    put_u32(bytes, 16, 262144);
+    put_u32(bytes, 16, LONGEST_PACKET);
     put_u32(bytes, 20, link_type);
 }
 
