@@ -1,16 +1,15 @@
 -- What one more row tells.
-use Rattle.std.proofs.Common.{◌≡◌, ℕ, zero, suc, ◌+◌, ◌-◌, ◌*◌, ◌/◌, ◌%◌, ◌^◌, ◌<◌, min, true, false, List, [], ◌∷◌, ◌++◌, length, map, reverse, take, drop, ◌==◌, get_or, Some, None, refl, sym, ap, ap₂, ◌∙◌, arith, append_assoc, append-nil, subst}
+use Rattle.std.proofs.Common.{◌≡◌, ℕ, zero, suc, ◌+◌, ◌-◌, ◌*◌, ◌<◌, min, true, false, List, [], ◌∷◌, ◌++◌, length, map, reverse, take, drop, ◌==◌, get_or, Some, None, refl, sym, ap, ap₂, ◌∙◌, arith, append_assoc, append-nil, subst}
 use Rattle.std.specs.List.{range_with_len}
 use Rattle.std.specs.Option.{option_map}
 use Rattle.std.specs.Int.{bit_at}
 use Rattle.std.proofs.lemmas.List.{reverse-append, get_or-take, length-take, length-drop}
-use Rattle.std.proofs.lemmas.Nat.{shr-shr, shr_split}
-use Rattle.std.proofs.lemmas.Nat.Bits.{bit_at_cat_low}
 use Rattle.stream_model.specs.Calendar.{is_valid, word_number, told_by_row, told_by_word, told_from, told_by}
 use Rattle.lk_base.specs.Fields.{flow_field, reset_field}
 use Rattle.stream_model.specs.declared.rows.FlowRow.{FlowRow}
 use Rattle.calendar.specs.Changes.{words_back, told_back, told_by_bits}
 use Rattle.calendar.proofs.Told.{range_more}
+use Rattle.stream_model.proofs.OneStream.{flow_bit}
 
 -- ---- the number of a word
 
@@ -58,11 +57,6 @@ map_range_same f g zero h = refl
 map_range_same f g (suc n) h =
     let e : suc n ≡ n + 1 = omega arith in
     subst (λ m. map f (range_with_len 0 m) ≡ map g (range_with_len 0 m)) (sym e) (range_more f n ∙ ap₂ (λ xs x. xs ++ x ∷ []) (map_range_same f g n (λ i l. h i (omega arith))) (h n (omega arith)) ∙ sym (range_more g n))
-
-flow_bit : (x i : ℕ) → i < 16 → bit_at (flow_field x) i ≡ bit_at x (40 + i)
-flow_bit x i h =
-    let n : ℕ = x / 2 ^ 40 in
-    sym (bit_at_cat_low (n / 2 ^ 16) 16 (n % 2 ^ 16) i h) ∙ ap (λ m. bit_at m i) (shr_split n 16) ∙ ap (λ m. m % 2) (shr-shr x 40 i)
 
 get_or-drop : (xs : List ℕ) (n i : ℕ) → get_or (drop n xs) i 0 ≡ get_or xs (n + i) 0
 get_or-drop xs zero i = let e : i ≡ 0 + i = omega arith in ap (λ n. get_or xs n 0) e

@@ -3,7 +3,7 @@ use Rattle.std.proofs.Common.{◌≡◌, ℕ, suc, ◌≤◌, Bool, true, false,
 use Rattle.std.specs.List.{range_with_len}
 use Rattle.std.specs.Option.{option_map_or}
 use Rattle.std.proofs.lemmas.List.{take-append-le, take_all, reverse-append}
-use Rattle.std.proofs.lemmas.List.Elements.{All-cons, All-append, filter-append}
+use Rattle.std.proofs.lemmas.List.Elements.{All-cons, All-append, filter-append, All-nil}
 use Rattle.std.proofs.lemmas.Bool.Decides.{nat_tests}
 use Rattle.stream_model.specs.Calendar.{Told, told_by, told_from, told_by_row, told_by_word, told_of, word_number}
 use Rattle.stream_model.specs.declared.rows.FlowRow.{FlowRow}
@@ -28,9 +28,6 @@ filter_reverse p (x ∷ xs) =
         by true = refl
         by false = refl
 
-none : {X : Type 0} (P : X → Type 0) → All P []
-none P k d h = absurd (omega arith)
-
 pub first : {X : Type 0} (P : X → Type 0) (x : X) (xs : List X) → All P (x ∷ xs) → P x
 first P x xs h = h 0 x (omega arith)
 
@@ -39,18 +36,18 @@ rest P x xs h k d l = h (suc k) d (omega arith)
 
 pub all_reverse : {X : Type 0} (P : X → Type 0) (xs : List X) → All P xs → All P (reverse xs)
 all_reverse P [] h = h
-all_reverse P (x ∷ xs) h = subst (All P) (sym (reverse-append (x ∷ []) xs)) (All-append P (reverse xs) (x ∷ []) (all_reverse P xs (rest P x xs h)) (All-cons P x [] (first P x xs h) (none P)))
+all_reverse P (x ∷ xs) h = subst (All P) (sym (reverse-append (x ∷ []) xs)) (All-append P (reverse xs) (x ∷ []) (all_reverse P xs (rest P x xs h)) (All-cons P x [] (first P x xs h) (All-nil P)))
 
-all_range : {X : Type 0} (P : X → Type 0) (f : ℕ → X) (ns : List ℕ) → ((n : ℕ) → P (f n)) → All P (map f ns)
-all_range P f [] h = none P
+pub all_range : {X : Type 0} (P : X → Type 0) (f : ℕ → X) (ns : List ℕ) → ((n : ℕ) → P (f n)) → All P (map f ns)
+all_range P f [] h = All-nil P
 all_range P f (n ∷ ns) h = All-cons P (f n) (map f ns) (h n) (all_range P f ns h)
 
 told_row : (entries : List ℕ) (t r : ℕ) (row : FlowRow) (k : Option ℕ) → row.slot ≤ t → All (λ (e : Told). e.slot ≤ t) (option_map_or (told_by_word entries row.slot r row.word) k [])
-told_row entries t r row None h = none (λ (e : Told). e.slot ≤ t)
+told_row entries t r row None h = All-nil (λ (e : Told). e.slot ≤ t)
 told_row entries t r row (Some d) h = all_range (λ (e : Told). e.slot ≤ t) _ (range_with_len 0 _) (λ n. h)
 
 all_told : (entries : List ℕ) (t r : ℕ) (earlier : List ℕ) (rows : List FlowRow) → All (λ (row : FlowRow). row.slot ≤ t) rows → All (λ (e : Told). e.slot ≤ t) (told_from entries r earlier rows)
-all_told entries t r earlier [] h = none (λ (e : Told). e.slot ≤ t)
+all_told entries t r earlier [] h = All-nil (λ (e : Told). e.slot ≤ t)
 all_told entries t r earlier (row ∷ rows) h = All-append (λ (e : Told). e.slot ≤ t) (told_by_row entries r earlier row) (told_from entries (r + 1) (row.word ∷ earlier) rows) (told_row entries t r row (word_number (row.word ∷ earlier)) (first (λ (q : FlowRow). q.slot ≤ t) row rows h)) (all_told entries t (r + 1) (row.word ∷ earlier) rows (rest (λ (q : FlowRow). q.slot ≤ t) row rows h))
 
 same_filter : (channel t : ℕ) (es : List Told) → All (λ (e : Told). e.slot ≤ t) es → filter (λ (e : Told). (e.channel == channel) && nat_le e.slot t) es ≡ filter (λ (e : Told). e.channel == channel) es
