@@ -1,26 +1,20 @@
 -- The ring of the ready channels is one: what stands in it, in the order of keys, leaves no choice.
 use Rattle.std.proofs.Common.{◌≡◌, ◌≢◌, ℕ, suc, ◌<◌, List, [], ◌∷◌, length, slice_index, Contains, refl, sym, ap, ap₂, subst, ◌∙◌, arith, inl, inr}
-use Rattle.std.specs.declared.cmp.Ordering.TheVariants.{Less, Greater}
-use Rattle.std.specs.Ordering.{ordering_reverse}
+use Rattle.std.specs.declared.cmp.Ordering.TheVariants.{Less}
 use Rattle.std.proofs.lemmas.Bool.{cases_eq}
 use Rattle.std.proofs.lemmas.List.Elements.{All-contains}
 use Rattle.stream_model.specs.BurstStream.{Mark, Source, IsReady, key, mark_cmp}
-use Rattle.stream_model.proofs.OneStream.{mark_total}
+use Rattle.stream_model.proofs.OneStream.{one_less}
 use Rattle.lk_base.specs.declared.word.Word.{Word}
 use Rattle.lk_index_lists.specs.Held.{Held}
 use Rattle.burst_scheduler.specs.Ring.{HoldsReady, OneReadyList, ring_list}
 use Rattle.burst_scheduler.proofs.Lines.{IsOrdered, head_in, head_least, in_cases, none_in, tail_in}
 
-less_once : (a b : Mark) → mark_cmp a b ≡ Less → mark_cmp b a ≡ Less → ⊥
-less_once a b h k =
-    let turned : Less ≡ Greater = sym h ∙ mark_total.antisymm a b ∙ ap ordering_reverse k in
-    cc
-
 -- the list after its head
 after_head : (P : ℕ → Type 0) (key : ℕ → Mark) (x : ℕ) (xs : List ℕ) → IsOrdered P key (x ∷ xs) → IsOrdered (λ c. P c × (c ≢ x)) key xs
 after_head P key x xs o = record {
   exact = λ c. (
-    (λ h. ((o.exact c).0 (tail_in x c xs h), λ e. less_once (key x) (key c) (later c h) (subst (λ n. mark_cmp (key c) (key n) ≡ Less) e (subst (λ n. mark_cmp (key n) (key c) ≡ Less) (sym e) (later c h))))),
+    (λ h. ((o.exact c).0 (tail_in x c xs h), λ e. one_less (key x) (key c) (later c h) (subst (λ n. mark_cmp (key c) (key n) ≡ Less) e (subst (λ n. mark_cmp (key n) (key c) ≡ Less) (sym e) (later c h))))),
     (λ h. elim (in_cases x c xs ((o.exact c).1 h.0)) [ inl e ↦ absurd (h.1 (sym e)) | inr i ↦ i ]),
   );
   ordered = λ i j d h l. (let a : suc i < suc j = omega (arith, h) in let b : suc j < length (x ∷ xs) = omega (arith, l) in o.ordered (suc i) (suc j) d a b);
@@ -42,7 +36,7 @@ ordered_once P key (x ∷ xs) (y ∷ ys) o q =
     let b = head_least P key y ys q in
     elim (cases_eq x y) [
       | inl e ↦ ap₂ (λ z zs. z ∷ zs) e (ordered_once (λ c. P c × (c ≢ x)) key xs ys (after_head P key x xs o) (subst (λ z. IsOrdered (λ c. P c × (c ≢ z)) key ys) (sym e) (after_head P key y ys q)))
-      | inr ne ↦ absurd (less_once (key x) (key y) (a.1 y b.0 (λ z. ne (sym z))) (b.1 x a.0 ne))
+      | inr ne ↦ absurd (one_less (key x) (key y) (a.1 y b.0 (λ z. ne (sym z))) (b.1 x a.0 ne))
     ]
 
 -- the places of a ring that holds the ready channels

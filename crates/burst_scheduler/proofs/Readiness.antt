@@ -15,7 +15,8 @@ use Rattle.burst_scheduler.specs.Ring.{IsLine, turned, key_by, ring_list, channe
 use Rattle.burst_scheduler.specs.Asked.{Asked}
 use Rattle.burst_scheduler.specs.Gives.{HasWords, Holds, HasBegun, to_come, line_in}
 use Rattle.burst_scheduler.specs.declared.scheduler.Scheduler.{Scheduler}
-use Rattle.burst_scheduler.proofs.Blocks.{no_bursts, last_step, last_old}
+use Rattle.stream_model.proofs.Growing.{no_bursts}
+use Rattle.burst_scheduler.proofs.Blocks.{last_step, last_old}
 use Rattle.burst_scheduler.proofs.Due.{ready_by, ready_of, key_same}
 use Rattle.burst_scheduler.proofs.Refit.{holds}
 use Rattle.burst_scheduler.proofs.Rings.{apart_at, at_place, place_at}
