@@ -1,9 +1,8 @@
 -- Idle words: their fields, and the states that their flow bits tell.
-use Rattle.std.proofs.Common.{◌≡◌, ℕ, zero, suc, ◌+◌, ◌-◌, ◌*◌, ◌/◌, ◌%◌, ◌^◌, ◌<◌, ◌==◌, Bool, true, false, List, [], ◌∷◌, ◌++◌, length, take, get_or, replicate, refl, sym, ap, ap₂, ◌∙◌, subst, inl, inr, eq-eqb, arith}
+use Rattle.std.proofs.Common.{◌≡◌, ℕ, zero, suc, ◌+◌, ◌-◌, ◌*◌, ◌/◌, ◌^◌, ◌<◌, ◌==◌, Bool, true, false, List, [], ◌∷◌, ◌++◌, length, take, get_or, replicate, refl, sym, ap, ap₂, ◌∙◌, subst, inl, inr, eq-eqb, arith}
 use Rattle.std.specs.Int.{bit_at}
 use Rattle.std.proofs.lemmas.Bool.{cases_lt}
 use Rattle.std.proofs.Math.Nat.{add-mul, mul_comm, mul_assoc, pow-suc}
-use Rattle.std.proofs.lemmas.Nat.{shr-shr, shr_split}
 use Rattle.std.proofs.lemmas.Nat.Bits.{bit_at_cat_low, bit_at_cat_high}
 use Rattle.std.proofs.lemmas.List.{length-append, length-take-le, get_or-take, get_or_append_left, get_or-append_right, get_or-replicate, get_or_past}
 use Rattle.lk_base.specs.Checksum.{control_crc, crc24, bits_of, bits_of_words}
@@ -14,6 +13,8 @@ use Rattle.control_words.specs.declared.fields.Eop.TheVariants.{Going}
 use Rattle.control_words.proofs.SameControl.{word_is_control}
 use Rattle.stream_model.specs.Calendar.{is_valid}
 use Rattle.oob_flow.specs.Words.{spelled, spelled_from, flow_bits, bare_idle, idle_word}
+use Rattle.stream_model.proofs.OneStream.{flow_bit}
+use Rattle.stream_model.proofs.MadeControl.{crc_small}
 
 -- ---- the number that bits spell
 
@@ -116,9 +117,6 @@ flow_at states i h k =
     ∙ get_or-take 16 (states ++ replicate 16 true) i false h ∙ get_or_append_left states (replicate 16 true) false i k
 
 -- ---- the fields of an idle word
-
-crc_small : (bits : List Bool) → crc24 bits < 2 ^ 24
-crc_small bits = omega arith
 
 -- a number in its fields
 put : ℕ → ℕ → ℕ → ℕ
@@ -233,14 +231,9 @@ idle_flow : (b : Bool) (f : ℕ) → f < 2 ^ 16 → flow_field (idle_word b f) �
 unfolding idle_control
 idle_flow b f h = (own_word b f h).flow
 
-field_bit : (x i : ℕ) → i < 16 → bit_at (flow_field x) i ≡ bit_at x (40 + i)
-field_bit x i h =
-    let n : ℕ = x / 2 ^ 40 in
-    sym (bit_at_cat_low (n / 2 ^ 16) 16 (n % 2 ^ 16) i h) ∙ ap (λ (m : ℕ). bit_at m i) (shr_split n 16) ∙ ap (λ (m : ℕ). m % 2) (shr-shr x 40 i)
-
 -- the word of states tells the state at a place
 pub idle_tells : (b : Bool) (states : List Bool) (i : ℕ) → i < 16 → i < length states → (bit_at (idle_word b (flow_bits states)) (55 - i) == 1) ≡ get_or states i false
 idle_tells b states i h k =
     let place : 40 + (15 - i) ≡ 55 - i = omega arith in
-    ap (λ (n : ℕ). n == 1) (ap (bit_at (idle_word b (flow_bits states))) (sym place) ∙ sym (field_bit (idle_word b (flow_bits states)) (15 - i) (omega arith)) ∙ ap (λ (m : ℕ). bit_at m (15 - i)) (idle_flow b (flow_bits states) (flow_small states)))
+    ap (λ (n : ℕ). n == 1) (ap (bit_at (idle_word b (flow_bits states))) (sym place) ∙ sym (flow_bit (idle_word b (flow_bits states)) (15 - i) (omega arith)) ∙ ap (λ (m : ℕ). bit_at m (15 - i)) (idle_flow b (flow_bits states) (flow_small states)))
     ∙ flow_at states i h k
