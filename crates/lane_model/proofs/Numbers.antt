@@ -1,7 +1,8 @@
 -- Bits and numbers are read back from one another.
-use Rattle.std.proofs.Common.{ℕ, zero, suc, ◌≡◌, refl, sym, ap, ◌∙◌, ◌+◌, ◌*◌, ◌/◌, ◌%◌, ◌^◌, ◌<◌, ◌==◌, Bool, true, false, List, [], ◌∷◌, ◌++◌, length, reverse, arith, take, get_or}
+use Rattle.std.proofs.Common.{ℕ, zero, suc, ◌≡◌, refl, sym, ap, ◌∙◌, ◌+◌, ◌*◌, ◌/◌, ◌%◌, ◌^◌, ◌<◌, ◌==◌, Bool, true, false, List, [], ◌∷◌, ◌++◌, length, reverse, arith, take, get_or, ◌-◌, subst}
 use Rattle.std.proofs.Math.Nat.{pow-succ', div-div-eq-div-mul}
-use Rattle.std.proofs.Math.Pow.{pow_pos}
+use Rattle.std.proofs.Math.Pow.{pow_pos, mod-mod-pow}
+use Rattle.std.proofs.lemmas.Nat.{field_of}
 use Rattle.std.proofs.lemmas.List.{reverse-append, reverse-reverse, length-reverse}
 use Rattle.std.proofs.lemmas.Bool.{eqb-true, eqb-false}
 use Rattle.std.proofs.lemmas.Nat.Bits.{bit_at-zero, bit_at-suc}
@@ -40,6 +41,13 @@ get_or-low_bits (suc n) x zero h = let e : x / 2 ^ 0 ≡ x = omega arith in rw e
 get_or-low_bits (suc n) x (suc i) h =
     let p : 2 ^ suc i ≡ 2 * 2 ^ i = pow-succ' 2 i in
     rw (p, ← div-div-eq-div-mul x 2 (2 ^ i)) (get_or-low_bits n (x / 2) i (omega arith))
+
+cut : (x m i : ℕ) → bit_at (x % 2 ^ (m + 1 + i)) i ≡ bit_at x i
+cut x m i = ap (λ y. y % 2) (field_of x (m + 1) i) ∙ mod-mod-pow (x / 2 ^ i) m 1
+
+-- each of the n lowest bits of a number is that of what is left of it
+pub bit_at-mod : (x n i : ℕ) → i < n → bit_at (x % 2 ^ n) i ≡ bit_at x i
+bit_at-mod x n i h = let e : n - i - 1 + 1 + i ≡ n = omega arith in subst (λ k. bit_at (x % 2 ^ k) i ≡ bit_at x i) e (cut x (n - i - 1) i)
 
 -- the highest of the lowest bits stands behind the others
 low_bits-last : (n x : ℕ) → low_bits (suc n) x ≡ low_bits n x ++ (bit_at x n == 1) ∷ []
