@@ -1,14 +1,8 @@
 -- The bits of numbers that are cut or put together.
-use Rattle.std.proofs.Common.{ℕ, ◌≡◌, sym, ap, ◌∙◌, subst, ◌+◌, ◌-◌, ◌*◌, ◌/◌, ◌%◌, ◌^◌, ◌<◌, arith}
+use Rattle.std.proofs.Common.{ℕ, ◌≡◌, sym, ap, ◌∙◌, ◌+◌, ◌-◌, ◌*◌, ◌/◌, ◌%◌, ◌^◌, ◌<◌}
 use Rattle.std.specs.Int.{bit_at}
-use Rattle.std.proofs.Math.Pow.{mod-mod-pow}
-use Rattle.std.proofs.lemmas.Nat.{field_of, shr-shr, shr_high, mod_low, mul-add-lt, pow-add}
-
-cut : (x m i : ℕ) → bit_at (x % 2 ^ (m + 1 + i)) i ≡ bit_at x i
-cut x m i = ap (λ y. y % 2) (field_of x (m + 1) i) ∙ mod-mod-pow (x / 2 ^ i) m 1
-
-pub bit_at-mod : (x n i : ℕ) → i < n → bit_at (x % 2 ^ n) i ≡ bit_at x i
-bit_at-mod x n i h = let e : n - i - 1 + 1 + i ≡ n = omega arith in subst (λ k. bit_at (x % 2 ^ k) i ≡ bit_at x i) e (cut x (n - i - 1) i)
+use Rattle.std.proofs.lemmas.Nat.{shr-shr, shr_high, mod_low, mul-add-lt, pow-add}
+pub use Rattle.lane_model.proofs.Numbers.{bit_at-mod}
 
 pub bit_at-shr : (x n i : ℕ) → bit_at (x / 2 ^ n) i ≡ bit_at x (n + i)
 bit_at-shr x n i = ap (λ y. y % 2) (shr-shr x n i)

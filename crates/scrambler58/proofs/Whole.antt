@@ -9,11 +9,11 @@ use Rattle.lk_base.specs.Checksum.{differ}
 use Rattle.lane_model.specs.Bits.{digit}
 use Rattle.lane_model.specs.Key.{key_until, start_of, state_before, key_word}
 use Rattle.lane_model.specs.KeyLaw.{key_back, key_bit}
-use Rattle.lane_model.proofs.Numbers.{below-take, bit-low_number, length-low_bits, low_bits-number}
+use Rattle.lane_model.proofs.Numbers.{below-take, bit-low_number, length-low_bits, low_bits-number, bit_at-mod}
 use Rattle.lane_model.proofs.Keys.{length-key_until, key_until-add, key_until-take}
 use Rattle.lane_model.proofs.KeyHolds.{step, later, earlier, back_by, state_before-bit, state_before-below, key_word-bit, key_word-below}
 use Rattle.scrambler58.specs.Strides.{bits_after, state_after}
-use Rattle.scrambler58.proofs.Joined.{bit_at-mod, bit_at-shr, bit_at-low, bit_at-high, joined_below}
+use Rattle.scrambler58.proofs.Joined.{bit_at-shr, bit_at-low, bit_at-high, joined_below}
 
 pub bits_after-below : (s n : ℕ) → bits_after s n < 2 ^ n
 unfolding bits_after
