@@ -1,12 +1,11 @@
 -- The bits of a number in two parts.
-use Rattle.std.proofs.Common.{ℕ, zero, suc, ◌≡◌, refl, sym, ap, ◌∙◌, ◌+◌, ◌-◌, ◌*◌, ◌/◌, ◌%◌, ◌^◌, ◌<◌, ◌≤◌, ◌==◌, false, [], ◌∷◌, ◌++◌, length, replicate, arith, subst, bit_and, bit_or}
+use Rattle.std.proofs.Common.{ℕ, zero, suc, ◌≡◌, refl, sym, ap, ◌∙◌, ◌+◌, ◌-◌, ◌*◌, ◌/◌, ◌%◌, ◌^◌, ◌<◌, ◌≤◌, ◌==◌, false, [], ◌∷◌, ◌++◌, length, replicate, arith, bit_and, bit_or}
 use Rattle.std.specs.Int.{bit_at, byte_at, bytes_high_first}
-use Rattle.std.proofs.Math.Pow.{mod-mod-pow}
 use Rattle.std.proofs.Math.Nat.{div-one, pow-suc}
-use Rattle.std.proofs.lemmas.Nat.{field_of, shr-shr, shr_high, mod_low, mod-pow-add, shl-shr, and_mask, or_shifted, pow-add, pow_pos}
+use Rattle.std.proofs.lemmas.Nat.{shr-shr, shr_high, mod_low, mod-pow-add, shl-shr, and_mask, or_shifted, pow-add, pow_pos}
 use Rattle.std.proofs.lemmas.Nat.Bits.{bit_at-zero}
 use Rattle.lk_base.specs.Checksum.{bits_of, bits_of_bytes}
-use Rattle.lane_model.proofs.Numbers.{length-bits_of}
+use Rattle.lane_model.proofs.Numbers.{length-bits_of, bit_at-mod}
 
 one_bit : (n x : ℕ) → bits_of (suc n) x ≡ (bit_at x n == 1) ∷ bits_of n x
 unfolding bits_of
@@ -28,12 +27,6 @@ bits-cut (suc n) m x =
     let f : n + m ≡ m + n = omega arith in
     let g : bit_at x (n + m) ≡ bit_at (x / 2 ^ m) n = ap (bit_at x) f ∙ ap (λ y. y % 2) (sym (shr-shr x m n)) in
     rw (e, one_bit (n + m) x, one_bit n (x / 2 ^ m), g) (ap (λ r. (bit_at (x / 2 ^ m) n == 1) ∷ r) (bits-cut n m x))
-
-cut : (x m i : ℕ) → bit_at (x % 2 ^ (m + 1 + i)) i ≡ bit_at x i
-cut x m i = ap (λ y. y % 2) (field_of x (m + 1) i) ∙ mod-mod-pow (x / 2 ^ i) m 1
-
-bit_at-mod : (x n i : ℕ) → i < n → bit_at (x % 2 ^ n) i ≡ bit_at x i
-bit_at-mod x n i h = let e : n - i - 1 + 1 + i ≡ n = omega arith in subst (λ k. bit_at (x % 2 ^ k) i ≡ bit_at x i) e (cut x (n - i - 1) i)
 
 pub bits-mod : (n k x : ℕ) → n ≤ k → bits_of n (x % 2 ^ k) ≡ bits_of n x
 bits-mod zero k x h = no_bits (x % 2 ^ k) ∙ sym (no_bits x)
