@@ -1,5 +1,5 @@
 -- The channels whose queues are not empty.
-use Rattle.std.proofs.Common.{◌≡◌, ◌≢◌, ◌⊎◌, inl, inr, ℕ, zero, suc, ◌+◌, ◌-◌, ◌<◌, ◌≤◌, Bool, true, false, not, List, [], ◌∷◌, ◌++◌, length, replicate, take, filter, get_or, nat_lt, ◌==◌, if◌then◌else◌, Contains, refl, sym, ap, ◌∙◌, subst, arith, ltb-true, lt-ltb, eq-eqb, ne_eqb}
+use Rattle.std.proofs.Common.{◌≡◌, ◌≢◌, inl, inr, ℕ, zero, suc, ◌+◌, ◌-◌, ◌<◌, ◌≤◌, Bool, true, not, List, [], ◌∷◌, ◌++◌, length, replicate, take, filter, get_or, nat_lt, Contains, refl, sym, ap, ◌∙◌, subst, arith, ltb-true, lt-ltb}
 use Rattle.std.specs.List.{AllPairs, range_with_len}
 use Rattle.std.proofs.Math.ListN.{set}
 use Rattle.std.proofs.lemmas.Bool.{cases_lt, cases_eq}
@@ -12,67 +12,10 @@ use Rattle.std.proofs.lemmas.List.Quantifiers.{all_pairs_push}
 use Rattle.std.proofs.Math.Seq.{take-suc-set}
 use Rattle.duplex.specs.Queues.{empty_queue, queue_at, drained_by, AreFilled}
 use Rattle.duplex.specs.declared.queue.Queue.{Queue}
+use Rattle.burst_scheduler.proofs.Rings.{filter_in, filter_out}
+use Rattle.burst_scheduler.proofs.Lines.{at_most}
 
 -- ---- lists of distinct numbers
-
-head_in : (x : ℕ) (xs : List ℕ) → Contains (x ∷ xs) x
-head_in x xs = (0, omega arith, refl)
-
-tail_in : (x c : ℕ) (xs : List ℕ) → Contains xs c → Contains (x ∷ xs) c
-tail_in x c xs h = (suc h.0, omega (arith, h.1), h.2)
-
-in_cases : (x c : ℕ) (xs : List ℕ) → Contains (x ∷ xs) c → (x ≡ c) ⊎ Contains xs c
-in_cases x c xs (zero, h, e) = inl e
-in_cases x c xs (suc k, h, e) = inr (k, omega (arith, h), e)
-
--- what a filter keeps
-pub kept_in : (p : ℕ → Bool) (xs : List ℕ) (c : ℕ) → Contains xs c → p c ≡ true → Contains (filter p xs) c
-kept_in p [] c h e = absurd (omega (arith, h.1))
-kept_in p (x ∷ xs) c h e = elim (in_cases x c xs h) [
-  | inl same ↦ (rw (ap p same ∙ e) (subst (λ k. Contains (x ∷ filter p xs) k) same (head_in x (filter p xs))))
-  | inr later ↦ by (p x) (kept_in p xs c later e)
-]
-  where
-    by : (b : Bool) → Contains (filter p xs) c → Contains (if b then x ∷ filter p xs else filter p xs) c
-    by true h = tail_in x c (filter p xs) h
-    by false h = h
-
-pub was_in : (p : ℕ → Bool) (xs : List ℕ) (c : ℕ) → Contains (filter p xs) c → Contains xs c × (p c ≡ true)
-was_in p [] c h = absurd (omega (arith, h.1))
-was_in p (x ∷ xs) c h = by (p x) refl (was_in p xs c) h
-  where
-    by : (b : Bool) → p x ≡ b → (Contains (filter p xs) c → Contains xs c × (p c ≡ true)) → Contains (if b then x ∷ filter p xs else filter p xs) c → Contains (x ∷ xs) c × (p c ≡ true)
-    by true e rest h = elim (in_cases x c (filter p xs) h) [
-      | inl same ↦ (subst (λ k. Contains (x ∷ xs) k) same (head_in x xs), ap p (sym same) ∙ e)
-      | inr later ↦ (let r = rest later in (tail_in x c xs r.0, r.1))
-    ]
-    by false e rest h = let r = rest h in (tail_in x c xs r.0, r.1)
-
-fewer : (x : ℕ) (ys : List ℕ) → Contains ys x → length (filter (λ y. not (y == x)) ys) < length ys
-fewer x [] h = absurd (omega (arith, h.1))
-fewer x (y ∷ ys) h = elim (cases_eq y x) [
-  | inl e ↦ (rw (eq-eqb y x e) (let n = no_more x ys in omega (arith, n)))
-  | inr ne ↦ elim (in_cases y x ys h) [
-    | inl e ↦ absurd (ne e)
-    | inr later ↦ (rw (ne_eqb y x ne) (let n = fewer x ys later in omega (arith, n)))
-  ]
-]
-  where
-    no_more : (x : ℕ) (ys : List ℕ) → length (filter (λ y. not (y == x)) ys) ≤ length ys
-    no_more x [] = omega arith
-    no_more x (y ∷ ys) = by (y == x) (no_more x ys)
-      where
-        by : (b : Bool) → length (filter (λ z. not (z == x)) ys) ≤ length ys → length (if not b then y ∷ filter (λ z. not (z == x)) ys else filter (λ z. not (z == x)) ys) ≤ suc (length ys)
-        by true h = omega (arith, h)
-        by false h = omega (arith, h)
-
-at_most : (xs ys : List ℕ) → AllPairs (λ (x y : ℕ). x ≢ y) xs → ((c : ℕ) → Contains xs c → Contains ys c) → length xs ≤ length ys
-at_most [] ys d h = omega arith
-at_most (x ∷ xs) ys d h =
-    let small = fewer x ys (h x (head_in x xs)) in
-    let apart : (c : ℕ) → Contains xs c → c ≢ x = λ c i z. (let k : ℕ = i.0 in let low : 0 < suc k = omega arith in let high : suc k < length (x ∷ xs) = omega (arith, i.1) in d 0 (suc k) c low high (sym (i.2 ∙ z))) in
-    let r = at_most xs (filter (λ y. not (y == x)) ys) (λ i j e l k. d (suc i) (suc j) e (omega (arith, l)) (omega (arith, k))) (λ c i. kept_in (λ y. not (y == x)) ys c (h c (tail_in x c xs i)) (rw (ne_eqb c x (apart c i)) refl)) in
-    omega (arith, small, r)
 
 -- distinct numbers below n are at most n
 pub at_most_below : (xs : List ℕ) (n : ℕ) → AllPairs (λ (x y : ℕ). x ≢ y) xs → ((c : ℕ) → Contains xs c → c < n) → length xs ≤ n
@@ -250,14 +193,14 @@ module _ (old now : List Queue) (filled : List ℕ) (count : ℕ) (f : AreFilled
       record {
         within = (let b = p.behind in let w = p.within in let l = p.long in omega (arith, b, w, l));
         only = λ c at.
-            let r = was_in (keeps_one old) (take count filled) c (subst (λ (xs : List ℕ). Contains xs c) is at) in
+            let r = filter_out (keeps_one old) (take count filled) c (subst (λ (xs : List ℕ). Contains xs c) is at) in
             let two : 1 < (queue_at old c).words = ltb-true 1 (queue_at old c).words r.1 in
             let e : (queue_at now c).words ≡ (queue_at old c).words - 1 = ap (λ (q : Queue). q.words) (all_drained c) in
             omega (arith, two, e);
         all = λ c some.
             let e : (queue_at now c).words ≡ (queue_at old c).words - 1 = ap (λ (q : Queue). q.words) (all_drained c) in
             let two : 1 < (queue_at old c).words = omega (arith, some, e) in
-            subst (λ (xs : List ℕ). Contains xs c) (sym is) (kept_in (keeps_one old) (take count filled) c (f.all c (omega (arith, two))) (lt-ltb 1 (queue_at old c).words two));
+            subst (λ (xs : List ℕ). Contains xs c) (sym is) (filter_in (keeps_one old) (take count filled) c (f.all c (omega (arith, two))) (lt-ltb 1 (queue_at old c).words two));
         distinct = subst (AllPairs (λ (x y : ℕ). x ≢ y)) (sym is) (AllPairs-filter (λ (x y : ℕ). x ≢ y) (keeps_one old) (take count filled) f.distinct);
       }
 

@@ -1,20 +1,18 @@
 -- All packets that were given are those that came: the outputs of the words that arrived are those of a words file but for
 -- its end, which delivers nothing.
-use Rattle.std.proofs.Common.{◌≡◌, ℕ, ◌-◌, true, false, ◌==◌, Bool, cond, if◌then◌else◌, List, [], ◌∷◌, ◌++◌, map, flat_map, take, Option, Some, None, refl, sym, ap, ap₂, ◌∙◌, append_assoc, append-nil}
+use Rattle.std.proofs.Common.{◌≡◌, ℕ, ◌-◌, true, false, ◌==◌, if◌then◌else◌, List, [], ◌∷◌, ◌++◌, map, flat_map, take, Option, Some, None, refl, sym, ap, ap₂, ◌∙◌, append_assoc, append-nil}
 use Rattle.std.specs.List.{cons_option}
 use Rattle.lk_base.specs.Words.{as_sent}
 use Rattle.lk_base.specs.declared.position.Pos.{Pos}
 use Rattle.lk_base.specs.declared.fault.Why.{Why}
-use Rattle.lk_base.specs.declared.fault.DropWhy.{DropWhy}
 use Rattle.lk_base.specs.declared.word.Word.{Word}
 use Rattle.lk_base.specs.declared.word.RxWord.{RxWord}
 use Rattle.receive_model.specs.Lists.{last_of}
 use Rattle.receive_model.specs.Positions.{Placed, placed_from}
-use Rattle.receive_model.specs.declared.span.Span.{Span}
 use Rattle.receive_model.specs.Stretches.{Item, OfStretch, Break, Verified, stretches, verified, items_of}
 use Rattle.receive_model.specs.Spans.{last_span}
-use Rattle.receive_model.specs.Pieces.{Packet, Burst, pieces}
-use Rattle.receive_model.specs.Events.{Event, Setting, Delivered, Dropped, FaultSpan, Flow, is_listed, delivered, delivered_on, run_at_end, open_drop, drop_why, at_fault, outputs_from, outputs_at, no_word_span, events_of_items, word_events, words_epoch}
+use Rattle.receive_model.specs.Pieces.{Packet, pieces}
+use Rattle.receive_model.specs.Events.{Event, Setting, Delivered, Dropped, FaultSpan, Flow, is_listed, delivered, delivered_on, run_at_end, drop_why, at_fault, outputs_from, outputs_at, no_word_span, events_of_items, word_events, words_epoch}
 use Rattle.reassembly.specs.SoFar.{ended_epochs, open_words, items_so_far, outputs_so_far, aligned_word}
 use Rattle.reassembly.specs.SoFarLaws.{words_put}
 use Rattle.delivery_laws.specs.LawOnWords.{EachIsPacket, NumbersFit}
@@ -25,6 +23,9 @@ use Rattle.duplex.specs.Inboxes.{packets_in, on_channel, GaveAll}
 use Rattle.duplex.specs.Duplexes.{Runs, HasGotAll}
 use Rattle.duplex.specs.declared.duplex.Duplex.{Duplex}
 use Rattle.duplex.proofs.Opens.{is_run}
+use Rattle.receive_model.proofs.AllEvents.{faulty-none, no_word_span-none}
+use Rattle.receive_model.proofs.EventPackets.{open_drop-none}
+use Rattle.reassembly.proofs.SoFarHold.{outputs-append}
 
 -- ---- what is delivered
 
@@ -36,33 +37,10 @@ pub delivered-append : (channel : ℕ) (xs ys : List Event) → delivered channe
 delivered-append channel [] ys = refl
 delivered-append channel (x ∷ xs) ys = ap (cons_option (delivered_on channel x)) (delivered-append channel xs ys) ∙ cons_front (delivered_on channel x) (delivered channel xs) (delivered channel ys)
 
-no_spans : (channel : ℕ) (spans : List Span) → delivered channel (map FaultSpan spans) ≡ []
-no_spans channel [] = refl
-no_spans channel (x ∷ rest) = no_spans channel rest
-
-no_span : (channel : ℕ) (o : Option Verified) → delivered channel (no_word_span o) ≡ []
-no_span channel None = refl
-no_span channel (Some v) = refl
-
-no_drop : (channel other : ℕ) (why : DropWhy) (o : Option (List Burst)) → delivered channel (open_drop other why o) ≡ []
-no_drop channel other why None = refl
-no_drop channel other why (Some piece) = by _
-  where
-    by : (b : Bool) → delivered channel (cond b (Dropped other why ∷ []) []) ≡ []
-    by true = refl
-    by false = refl
-
 no_drops : (s : Setting) (channel : ℕ) (run : List Verified) (why : Why) (channels : List ℕ) → delivered channel (flat_map (at_fault s run why) channels) ≡ []
 no_drops s channel run why [] = refl
 no_drops s channel run why (c ∷ channels) =
-    delivered-append channel (at_fault s run why c) (flat_map (at_fault s run why) channels) ∙ ap₂ (λ (xs : List Packet) ys. xs ++ ys) (no_drop channel c (drop_why why) (last_of (pieces s.wide c run None))) (no_drops s channel run why channels)
-
-outputs-append : (s : Setting) (before xs ys : List Item) → outputs_from s before (xs ++ ys) ≡ outputs_from s before xs ++ outputs_from s (before ++ xs) ys
-outputs-append s before [] ys = ap (λ b. outputs_from s b ys) (sym (append-nil before))
-outputs-append s before (x ∷ xs) ys =
-    ap (λ es. outputs_at s before x ++ es) (outputs-append s (before ++ x ∷ []) xs ys)
-    ∙ sym (append_assoc (outputs_at s before x) (outputs_from s (before ++ x ∷ []) xs) (outputs_from s ((before ++ x ∷ []) ++ xs) ys))
-    ∙ ap (λ b. (outputs_at s before x ++ outputs_from s (before ++ x ∷ []) xs) ++ outputs_from s b ys) (append_assoc before (x ∷ []) xs)
+    delivered-append channel (at_fault s run why c) (flat_map (at_fault s run why) channels) ∙ ap₂ (λ (xs : List Packet) ys. xs ++ ys) (open_drop-none channel c (drop_why why) (last_of (pieces s.wide c run None))) (no_drops s channel run why channels)
 
 -- the end of the words delivers nothing
 with_end : (s : Setting) (channel : ℕ) (items : List Item) (at : Pos) (why : Why) → delivered channel (events_of_items s (items ++ Break at why ∷ [])) ≡ delivered channel (outputs_from s [] items)
@@ -72,9 +50,9 @@ with_end s channel items at why =
     let none : delivered channel break ≡ [] =
     delivered-append channel (outputs_at s items (Break at why)) [] ∙ ap (λ (ps : List Packet). ps ++ []) (no_drops s channel (run_at_end items) why s.channels) in
     delivered-append channel (outputs_from s [] all ++ no_word_span (last_of (verified all))) (map FaultSpan (last_span all (last_of (verified all))))
-    ∙ ap₂ (λ (ps : List Packet) qs. ps ++ qs) (delivered-append channel (outputs_from s [] all) (no_word_span (last_of (verified all)))) (no_spans channel (last_span all (last_of (verified all))))
+    ∙ ap₂ (λ (ps : List Packet) qs. ps ++ qs) (delivered-append channel (outputs_from s [] all) (no_word_span (last_of (verified all)))) (faulty-none channel (last_span all (last_of (verified all))))
     ∙ append-nil (delivered channel (outputs_from s [] all) ++ delivered channel (no_word_span (last_of (verified all))))
-    ∙ ap (λ (ps : List Packet). delivered channel (outputs_from s [] all) ++ ps) (no_span channel (last_of (verified all)))
+    ∙ ap (λ (ps : List Packet). delivered channel (outputs_from s [] all) ++ ps) (no_word_span-none channel (last_of (verified all)))
     ∙ append-nil (delivered channel (outputs_from s [] all))
     ∙ ap (delivered channel) (outputs-append s [] items (Break at why ∷ []))
     ∙ delivered-append channel (outputs_from s [] items) break
