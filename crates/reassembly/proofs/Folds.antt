@@ -1,21 +1,23 @@
 -- What data words do one after another is what they do at once.
-use Rattle.std.proofs.Common.{ℕ, zero, suc, ◌≡◌, ◌+◌, ◌-◌, ◌*◌, ◌/◌, ◌%◌, ◌<◌, ◌≤◌, refl, sym, ap, ◌∙◌, subst, Bool, true, false, cond, ◌||◌, ◌&&◌, not, nat_lt, List, [], ◌∷◌, ◌++◌, append_assoc, append-nil, length, set, take, get_or, flat_map, Option, Some, None, is_some, arith, length-append}
+use Rattle.std.proofs.Common.{ℕ, zero, suc, ◌≡◌, ◌+◌, ◌-◌, ◌/◌, ◌%◌, ◌<◌, ◌≤◌, refl, sym, ap, ◌∙◌, Bool, true, false, cond, ◌||◌, ◌&&◌, not, ◌==◌, nat_lt, List, [], ◌∷◌, ◌++◌, append_assoc, append-nil, length, set, flat_map, Option, Some, None, is_some, arith, length-append}
 use Rattle.std.specs.Int.{w64, to_be_bytes}
-use Rattle.std.proofs.lemmas.Bool.{lt-ltb}
-use Rattle.std.proofs.lemmas.List.{set-get_or, take_more}
+use Rattle.std.proofs.lemmas.Bool.{false≢true, lt-ltb, ne_eqb}
+use Rattle.std.proofs.lemmas.List.{set-get_or}
+use Rattle.lk_base.specs.Checksum.{bits_of, bits_of_words, register_after}
 use Rattle.lk_base.specs.declared.position.Pos.{Pos}
+use Rattle.lk_crc.proofs.Registers.{register_after-append}
 use Rattle.cell_pool.specs.Stored.{bytes_at}
 use Rattle.reassembly.specs.declared.channel.Channel.{Channel}
 use Rattle.reassembly.specs.declared.piece.Piece.{Piece}
 use Rattle.reassembly.specs.declared.piece.Piece.TheVariants as kinds
 use Rattle.reassembly.specs.declared.stretch.Stretch.{Stretch}
+use Rattle.reassembly.specs.declared.word_at.WordAt.{WordAt}
 use Rattle.reassembly.specs.Folds.{are_kept, grown_by, with_all_data, with_data_at_once, with_data_words, with_words}
-use Rattle.reassembly.specs.Packets.{grown, most}
+use Rattle.reassembly.specs.Packets.{grown}
 use Rattle.reassembly.specs.Parts.{open_burst}
 use Rattle.reassembly.specs.States.{Row, State, row_at, unlisted_row}
 use Rattle.reassembly.specs.Steps.{change, with_data, with_data_word, with_word}
 use Rattle.reassembly.specs.Tables.{channel_as, channel_row}
-use Rattle.reassembly.proofs.Outs.{length-bytes}
 
 -- ---- the bytes
 
@@ -145,17 +147,34 @@ at_once (x ∷ xs) r =
     ∙ ap (state_with r (with_all_data xs (with_data x r.stretch)))
     (table-both (is_some r.stretch.opened) (open_burst r.wide r.run) (with_words r.max_packet xs) (with_word r.max_packet x) r.table)
 
--- ---- one word more
+-- ---- the stretch
 
-data-more : (xs : List ℕ) (x : ℕ) (s : Stretch) → with_all_data (xs ++ x ∷ []) s ≡ with_data x (with_all_data xs s)
-data-more [] x s = refl
-data-more (y ∷ ys) x s = data-more ys x (with_data y s)
+abbrev stretch_as : Option WordAt → ℕ → Bool → Bool → Stretch
+stretch_as opened register some bad = record { opened = opened; register = register; some = some; bad = bad }
 
-pub data-next : (words : List ℕ) (i x : ℕ) (old now then : Stretch) → i < length words → x ≡ get_or words i 0 → now ≡ with_all_data (take i words) old → then ≡ with_data x now → then ≡ with_all_data (take (i + 1) words) old
-data-next words i x old now then h read was is =
-    is ∙ ap (with_data x) was ∙ sym (data-more (take i words) x old)
-    ∙ ap (λ (y : ℕ). with_all_data (take i words ++ y ∷ []) old) read
-    ∙ ap (λ (ys : List ℕ). with_all_data ys old) (sym (take_more words i 0 h))
+or_again : (a b : Bool) → ((a || true) || b) ≡ (a || true)
+or_again true b = refl
+or_again false b = refl
+
+-- where no stretch goes on, words change nothing
+pub data-off : (words : List ℕ) (s : Stretch) → is_some s.opened ≡ false → s ≡ with_all_data words s
+data-off [] s h = refl
+data-off (x ∷ xs) s h =
+    let one : s ≡ with_data x s = rw h (ap (λ (b : Bool). stretch_as s.opened s.register b s.bad) (sym (or_false s.some))) in
+    data-off xs s h ∙ ap (with_all_data xs) one
+
+-- a stretch goes on with the bits of the words
+pub data-on : (words : List ℕ) (opened : Option WordAt) (register : ℕ) (some bad : Bool) → is_some opened ≡ true →
+    stretch_as opened (register_after 24 0x328B63 register (bits_of_words words)) (some || not (length words == 0)) bad ≡ with_all_data words (stretch_as opened register some bad)
+unfolding register_after
+data-on words None register some bad h = absurd (false≢true h)
+data-on [] (Some at) register some bad h = ap (λ (b : Bool). stretch_as (Some at) register b bad) (or_false some)
+data-on (x ∷ xs) (Some at) register some bad h =
+    let more : (length (x ∷ xs) == 0) ≡ false = ne_eqb (length (x ∷ xs)) 0 (λ e. omega (arith, e)) in
+    ap (λ (q : ℕ). stretch_as (Some at) q (some || not (length (x ∷ xs) == 0)) bad) (register_after-append 24 0x328B63 register (bits_of 64 x) (bits_of_words xs))
+    ∙ ap (λ (b : Bool). stretch_as (Some at) (register_after 24 0x328B63 (register_after 24 0x328B63 register (bits_of 64 x)) (bits_of_words xs)) b bad)
+    (ap (λ (b : Bool). some || not b) more ∙ sym (or_again some (not (length xs == 0))))
+    ∙ data-on xs (Some at) (register_after 24 0x328B63 register (bits_of 64 x)) (some || true) bad refl
 
 -- ---- what a channel shows
 
