@@ -1,6 +1,6 @@
 -- The steps of many ticks, taken lane by lane.
-use Rattle.std.proofs.Common.{ℕ, zero, suc, ◌≡◌, refl, sym, ap, ◌∙◌, subst, ◌+◌, ◌<◌, ◌≤◌, true, false, List, [], ◌∷◌, ◌++◌, length, map, take, get_or, set, arith}
-use Rattle.std.specs.List.{range_with_len}
+use Rattle.std.proofs.Common.{ℕ, zero, suc, ◌≡◌, refl, sym, ap, ◌∙◌, subst, ◌+◌, ◌*◌, ◌<◌, ◌≤◌, true, false, List, [], ◌∷◌, ◌++◌, length, map, take, get_or, set, arith}
+use Rattle.std.specs.List.{list_all, range_with_len}
 use Rattle.std.proofs.lemmas.List.{length-map, take_all, take_more}
 use Rattle.std.proofs.lemmas.List.FromFn.{length-map-range_with_len, map-range_with_len_more}
 use Rattle.lk_base.specs.declared.word.Aligned.{Aligned}
@@ -12,11 +12,11 @@ use Rattle.epoch_model.specs.SoFar.{LaneSoFar}
 use Rattle.deskew.specs.States.{LaneState, State}
 use Rattle.deskew.specs.Lanes.{fresh_lane, lane_after}
 use Rattle.deskew.specs.Steps.{lane_after_all, lanes_after, steps_taken, ticked, with_settled}
-use Rattle.deskew.specs.Ticks.{lane_shown, lanes_shown, steps_in, tick_at, ticks_of}
-use Rattle.deskew.specs.Stands.{StandsWith, kept_lanes, most_ahead, ring_of}
-use Rattle.deskew.specs.Ahead.{AreWhole, ticked_all}
+use Rattle.deskew.specs.Ticks.{AreTicks, lane_shown, lanes_shown, steps_in, tick_at, ticks_of}
+use Rattle.deskew.specs.Stands.{Stands, StandsWith, kept_lanes, most_ahead, ring_of}
+use Rattle.deskew.specs.Ahead.{AreWhole, can_run_ahead, keeps_lock, ticked_all}
 use Rattle.deskew.specs.Columns.{AreLong, BatchOfColumns, ColumnsAreTicks, columns_taken}
-use Rattle.deskew.proofs.Running.{batch_runs_ahead}
+use Rattle.deskew.proofs.Running.{batch_keeps_locks, batch_runs_ahead}
 
 -- ---- one lane
 
@@ -186,6 +186,13 @@ batch_of_columns d s ticks given columns n can few count long are stands =
     subst (λ (x : State). StandsWith most_ahead x s (ticks ++ ticks_of columns n) given) (sym is)
     (unsettled_stands most_ahead (ticked_all d (ticks_of columns n)) s (ticks ++ ticks_of columns n) given
     (batch_runs_ahead d s ticks given (ticks_of columns n) can (omega (arith, few, l)) (whole_ticks columns 0 n s.lanes count) are stands))
+
+-- and none of their steps declares a lock
+pub columns_keep_locks : (d : State) (s : Settings) (ticks : List (List LaneStep)) (given : List Aligned) (columns : List (List LaneStep)) (n : ℕ) → can_run_ahead d ≡ true → n ≤ 67 * most_ahead →
+    length columns ≡ s.lanes → AreTicks s (ticks ++ ticks_of columns n) → Stands d s ticks given → list_all (list_all keeps_lock) (ticks_of columns n) ≡ true
+columns_keep_locks d s ticks given columns n can few count are stands =
+    let l = length-map-range_with_len (tick_at columns) 0 n in
+    batch_keeps_locks d s ticks given (ticks_of columns n) can (omega (arith, few, l)) (whole_ticks columns 0 n s.lanes count) are stands
 
 -- one column more
 pub columns_more : (k : ℕ) (columns : List (List LaneStep)) (column : List LaneStep) (d : State) →
