@@ -1,19 +1,45 @@
 -- The first of the words that wait.
-use Rattle.std.proofs.Common.{◌≡◌, sym, ap, subst, false, arith}
+use Rattle.std.proofs.Common.{◌≡◌, ◌≤◌, ◌∙◌, sym, ap, subst, false, length, arith}
+use Rattle.std.proofs.lemmas.List.{length-take-le}
+use Rattle.lk_base.specs.Positions.{words_from}
+use Rattle.rx_front.specs.Standing.{items_left}
 use Rattle.rx_end.specs.Stages.{is_closed}
 use Rattle.rx_end.specs.States.{State}
-use Rattle.rx_end.specs.Standing.{Stands, items_left}
-use Rattle.rx_end.proofs.Putting.{words_put}
+use Rattle.rx_end.specs.Standing.{Stands}
+use Rattle.rx_end.proofs.Putting.{run_most, run_some, words_put}
 use Rattle.rx_end.proofs.receiver.Receiver.put_words.Goals as goal
+
+pub put_run-count-requires-clause-places : goal.put_run-count-requires-clause-places
+put_run-count-requires-clause-places c = (let a = c.at-at.ensures.fits in let w = c.words.ensures.count in omega (arith, a, w))
+
+pub pass-requires : goal.pass-requires
+pass-requires c = (let m = run_most c.words.result.now in let r = c.put_run-count.ensures.run in let w = c.words.ensures.count in omega (arith, m, r, w))
 
 pub returns-clause-stands : goal.returns-clause-stands
 returns-clause-stands c = λ s setting fed given st.
-    words_put _ c.put.new.reassembly c.put.new.self s setting fed given
-    (subst (λ (v : State). is_closed v.stage ≡ false) (sym c.self.view_is) c.requires.open) c.put.ensures
+    let ws = c.words.result.now in
+    let n = c.put_run-count.result in
+    let m = run_most ws in
+    let r = c.put_run-count.ensures.run in
+    let some = subst (λ (v : State). 1 ≤ length v.front.waiting) (sym c.self.view_is) c.requires.some in
+    let w = c.words.ensures.count in
+    let o = run_some ws (omega (arith, some, w)) in
+    let l = length-take-le n ws (omega (arith, m, r)) in
+    words_put _ c.pass.new.self c.put_run-count.new.self c.at-at.result.group c.at-at.result.index n ws s setting fed given
+    (subst (λ (v : State). is_closed v.stage ≡ false) (sym c.self.view_is) c.requires.open)
+    (c.at-at.ensures.waiting ∙ ap (words_from c.at-at.result.group c.at-at.result.index) (sym c.words.ensures.value))
+    (omega (arith, l, r, o))
+    (λ items t here. c.pass.ensures.stands s fed items t here) c.put_run-count.ensures.stands
     (subst (λ (v : State). Stands v s setting fed given) (sym c.self.view_is) st)
 
 pub returns-clause-fewer : goal.returns-clause-fewer
 returns-clause-fewer c =
-    let f = c.put.ensures.fewer in
-    let e = ap items_left c.self.view_is in
-    omega (arith, e, f)
+    let ws = c.words.result.now in
+    let some = c.requires.some in
+    let v = ap (λ (v : State). length v.front.waiting) c.self.view_is in
+    let w = c.words.ensures.count in
+    let o = run_some ws (omega (arith, some, w, v)) in
+    let r = c.put_run-count.ensures.run in
+    let f = c.pass.ensures.fewer in
+    let e = ap (λ (v : State). items_left v.front) c.self.view_is in
+    omega (arith, o, r, f, e)

@@ -1,0 +1,108 @@
+-- The bits of bytes as a number.
+use Rattle.std.proofs.Common.{ℕ, zero, suc, ◌≡◌, refl, sym, ap, ◌∙◌, subst, ◌+◌, ◌-◌, ◌*◌, ◌/◌, ◌^◌, ◌<◌, ◌≤◌, List, [], ◌∷◌, ◌++◌, length, get_or, take, drop, append-nil, arith}
+use Rattle.std.proofs.Math.Pow.{pow_mono}
+use Rattle.std.specs.Int.{from_be_bytes, w64}
+use Rattle.std.proofs.Math.Nat.{div-lt_iff_lt-mul}
+use Rattle.std.proofs.lemmas.List.{take_more, take_all, take-append-le, take-take}
+use Rattle.std.proofs.lemmas.Nat.{mod_low, pow-add, pow_pos, shr_high}
+use Rattle.circular_buffer.specs.Buffer.{Buffer, buffer}
+use Rattle.lk_base.specs.Checksum.{bits_of, bits_of_bytes}
+use Rattle.lk_crc.proofs.Pieces.{bits_low, bits_split}
+use Rattle.lane_model.proofs.Numbers.{length-bits_of}
+use Rattle.receiver_model.proofs.Clocks.{bits-append}
+use Rattle.rx_front.proofs.Rounds.{bits_taken, drop_one}
+
+no_bits : (x : ℕ) → bits_of 0 x ≡ []
+unfolding bits_of
+no_bits x = refl
+
+bits_joined : (n a b : ℕ) → b < 256 → bits_of (n + 8) (a * 256 + b) ≡ bits_of n a ++ bits_of 8 b
+bits_joined n a b low =
+    bits_split n 8 (a * 256 + b)
+    ∙ ap (λ (x : ℕ). bits_of n x ++ bits_of 8 (a * 256 + b)) (shr_high a 8 b low)
+    ∙ ap (λ bits. bits_of n a ++ bits) (sym (bits_low 8 8 (a * 256 + b) (omega arith)) ∙ ap (bits_of 8) (mod_low a 8 b low))
+
+-- so many bytes were taken from a ring, and these are their bits
+pub record Gathered (before now : Buffer ℕ) (k bits : ℕ) : Type 0 where
+  pub ring : now ≡ buffer (drop k before.items) before.capacity
+  pub are : bits_of (8 * k) bits ≡ bits_of_bytes (take k before.items)
+  pub below : bits < 2 ^ (8 * k)
+
+pub none_gathered : (ring : Buffer ℕ) → Gathered ring ring 0 0
+none_gathered ring = record { ring = refl; are = no_bits 0; below = omega arith }
+
+first_of : (k : ℕ) (xs : List ℕ) → get_or (drop k xs) 0 0 ≡ get_or xs k 0
+first_of zero xs = refl
+first_of (suc k) [] = refl
+first_of (suc k) (x ∷ xs) = first_of k xs
+
+pub one_gathered : (before now later : Buffer ℕ) (k bits byte : ℕ) → k < length before.items → byte < 256 → Gathered before now k bits → byte ≡ get_or now.items 0 0 → later ≡ buffer (drop 1 now.items) now.capacity →
+    Gathered before later (k + 1) (bits * 256 + byte)
+one_gathered before now later k bits byte lt low g is rest =
+    let items : now.items ≡ drop k before.items = ap (λ (b : Buffer ℕ). b.items) g.ring in
+    let here : byte ≡ get_or before.items k 0 = is ∙ ap (λ (xs : List ℕ). get_or xs 0 0) items ∙ first_of k before.items in
+    let e : 8 * (k + 1) ≡ 8 * k + 8 = omega arith in
+    let p : 2 ^ (8 * (k + 1)) ≡ 2 ^ (8 * k) * 256 = ap (λ (n : ℕ). 2 ^ n) e ∙ pow-add 2 (8 * k) 8 in
+    let b = g.below in
+    record {
+      ring = rest ∙ ap (λ (b : Buffer ℕ). buffer (drop 1 b.items) b.capacity) g.ring ∙ ap (λ (xs : List ℕ). buffer xs before.capacity) (drop_one k before.items);
+      are = ap (λ (n : ℕ). bits_of n (bits * 256 + byte)) e ∙ bits_joined (8 * k) bits byte low ∙ ap (λ b. b ++ bits_of 8 byte) g.are
+          ∙ sym (ap bits_of_bytes (take_more before.items k 0 lt ∙ ap (λ (x : ℕ). take k before.items ++ x ∷ []) (sym here)) ∙ bits-append (take k before.items) (byte ∷ [])
+          ∙ ap (λ b. bits_of_bytes (take k before.items) ++ b) (append-nil (bits_of 8 byte)));
+      below = omega (arith, p, b, low);
+    }
+
+-- it stays small
+pub gathered_low : (before now : Buffer ℕ) (k bits : ℕ) → k ≤ 6 → Gathered before now k bits → bits < 2 ^ 48
+gathered_low before now k bits le g = (let b = g.below in let m : 2 ^ (8 * k) ≤ 2 ^ 48 = pow_mono {i = 8 * k} {j = 48} (omega (arith, le)) in omega (arith, b, m))
+
+-- ---- eight bytes at once
+
+byte_more : (bytes : List ℕ) (k a b : ℕ) → k < length bytes → b < 256 → b ≡ get_or bytes k 0 → bits_of (8 * k) a ≡ bits_of_bytes (take k bytes) →
+    bits_of (8 * (k + 1)) (a * 256 + b) ≡ bits_of_bytes (take (k + 1) bytes)
+byte_more bytes k a b lt low is h =
+    let e : 8 * (k + 1) ≡ 8 * k + 8 = omega arith in
+    ap (λ (n : ℕ). bits_of n (a * 256 + b)) e ∙ bits_joined (8 * k) a b low ∙ ap (λ z. z ++ bits_of 8 b) h
+    ∙ sym (ap bits_of_bytes (take_more bytes k 0 lt ∙ ap (λ (x : ℕ). take k bytes ++ x ∷ []) (sym is)) ∙ bits-append (take k bytes) (b ∷ [])
+    ∙ ap (λ z. bits_of_bytes (take k bytes) ++ z) (append-nil (bits_of 8 b)))
+
+-- the number of eight bytes
+abbrev pub eight_at_once : ℕ → ℕ → ℕ → ℕ → ℕ → ℕ → ℕ → ℕ → ℕ
+eight_at_once a b c d e f g h = ((((((a * 256 + b) * 256 + c) * 256 + d) * 256 + e) * 256 + f) * 256 + g) * 256 + h
+
+pub eight_bits : (bytes : List ℕ) (a b c d e f g h : ℕ) → 8 ≤ length bytes → a < 256 → b < 256 → c < 256 → d < 256 → e < 256 → f < 256 → g < 256 → h < 256 →
+    a ≡ get_or bytes 0 0 → b ≡ get_or bytes 1 0 → c ≡ get_or bytes 2 0 → d ≡ get_or bytes 3 0 → e ≡ get_or bytes 4 0 → f ≡ get_or bytes 5 0 → g ≡ get_or bytes 6 0 → h ≡ get_or bytes 7 0 →
+    bits_of 64 (eight_at_once a b c d e f g h) ≡ bits_of_bytes (take 8 bytes)
+eight_bits bytes a b c d e f g h long la lb lc ld le lf lg lh ia ib ic id ie if_ ig ih =
+    let z : 0 * 256 + a ≡ a = omega arith in
+    let one = ap (bits_of 8) (sym z) ∙ byte_more bytes 0 0 a (omega (arith, long)) la ia (no_bits 0) in
+    let two = byte_more bytes 1 a b (omega (arith, long)) lb ib one in
+    let three = byte_more bytes 2 (a * 256 + b) c (omega (arith, long)) lc ic two in
+    let four = byte_more bytes 3 ((a * 256 + b) * 256 + c) d (omega (arith, long)) ld id three in
+    let five = byte_more bytes 4 (((a * 256 + b) * 256 + c) * 256 + d) e (omega (arith, long)) le ie four in
+    let six = byte_more bytes 5 ((((a * 256 + b) * 256 + c) * 256 + d) * 256 + e) f (omega (arith, long)) lf if_ five in
+    let seven = byte_more bytes 6 (((((a * 256 + b) * 256 + c) * 256 + d) * 256 + e) * 256 + f) g (omega (arith, long)) lg ig six in
+    byte_more bytes 7 ((((((a * 256 + b) * 256 + c) * 256 + d) * 256 + e) * 256 + f) * 256 + g) h (omega (arith, long)) lh ih seven
+
+pub number_of_eight : (a b c d e f g h : ℕ) → from_be_bytes w64 (a ∷ b ∷ c ∷ d ∷ e ∷ f ∷ g ∷ h ∷ []) ≡ eight_at_once a b c d e f g h
+number_of_eight a b c d e f g h = omega arith
+
+-- the highest bits of eight bytes are those of the first of them
+pub first_of_eight : (front behind items : List ℕ) (x n : ℕ) → 8 ≤ length front → n ≤ 7 → front ++ behind ≡ items → bits_of 64 x ≡ bits_of_bytes (take 8 front) →
+    bits_of (8 * n) (x / 2 ^ (64 - 8 * n)) ≡ bits_of_bytes (take n items)
+first_of_eight front behind items x n long few are h =
+    let e : 8 * n + (64 - 8 * n) ≡ 64 = omega (arith, few) in
+    let l = length-bits_of (8 * n) (x / 2 ^ (64 - 8 * n)) in
+    let split = sym (bits_split (8 * n) (64 - 8 * n) x) ∙ ap (λ (m : ℕ). bits_of m x) e ∙ h in
+    let whole : take (8 * n) (bits_of (8 * n) (x / 2 ^ (64 - 8 * n))) ≡ bits_of (8 * n) (x / 2 ^ (64 - 8 * n)) = take_all (8 * n) (bits_of (8 * n) (x / 2 ^ (64 - 8 * n))) (omega (arith, l)) in
+    sym whole ∙ sym (take-append-le (8 * n) (bits_of (8 * n) (x / 2 ^ (64 - 8 * n))) (bits_of (64 - 8 * n) x) (omega (arith, l))) ∙ ap (take (8 * n)) split
+    ∙ bits_taken n (take 8 front) ∙ ap bits_of_bytes (take-take n 8 front (omega (arith, few)) ∙ sym (take-append-le n front behind (omega (arith, long, few))) ∙ ap (take n) are)
+
+pub below_of_eight : (x n : ℕ) → x < 2 ^ 64 → n ≤ 7 → x / 2 ^ (64 - 8 * n) < 2 ^ (8 * n)
+below_of_eight x n low few =
+    let e : 8 * n + (64 - 8 * n) ≡ 64 = omega (arith, few) in
+    let whole : x < 2 ^ (8 * n) * 2 ^ (64 - 8 * n) = subst (λ (m : ℕ). x < m) (sym (ap (λ (m : ℕ). 2 ^ m) e) ∙ pow-add 2 (8 * n) (64 - 8 * n)) low in
+    (div-lt_iff_lt-mul {k = 2 ^ (64 - 8 * n)} {x = x} {y = 2 ^ (8 * n)} (pow_pos (64 - 8 * n))).1 whole
+
+pub kept_behind : (xs : List ℕ) (n : ℕ) → n ≤ length xs → drop (length xs - (length xs - n)) xs ≡ drop n xs
+kept_behind xs n le = (let e : length xs - (length xs - n) ≡ n = omega (arith, le) in ap (λ (m : ℕ). drop m xs) e)

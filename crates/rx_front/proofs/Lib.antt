@@ -1,0 +1,16 @@
+pub mod Rounds
+pub mod Taking
+pub mod Clocked
+pub mod Places
+pub mod Feeding
+pub mod Known
+pub mod Locks
+pub mod Ticking
+pub mod RoundsMade
+pub mod Resting
+pub mod Gathering
+pub mod Covering
+pub mod Waiting
+pub mod Batching
+pub mod Slices
+pub mod Seen

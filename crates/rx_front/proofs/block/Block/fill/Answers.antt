@@ -1,0 +1,22 @@
+-- All words of a block wait.
+use Rattle.std.proofs.Common.{sym, subst, ap, ◌++◌, List, length, arith}
+use Rattle.lk_base.specs.declared.word.Aligned.{Aligned}
+use Rattle.deskew.specs.Stands.{StandsAhead}
+use Rattle.rx_front.proofs.Waiting.{all_wait, length-words}
+use Rattle.rx_front.proofs.block.Block.fill.Goals as goal
+
+pub returns-clause-ahead : goal.returns-clause-ahead
+returns-clause-ahead c = λ s ticks given st.
+    let at = c.next_block-self-inside.result in
+    let words = c.next_block-self-inside.new.block.items in
+    subst (λ (items : List Aligned). StandsAhead c.next_block-self-inside.new.self s ticks (given ++ items)) (sym (all_wait at.group at.index words))
+    (c.next_block-self-inside.ensures.ahead s ticks given st)
+
+pub returns-clause-fewer : goal.returns-clause-fewer
+returns-clause-fewer c =
+    let at = c.next_block-self-inside.result in
+    let words = c.next_block-self-inside.new.block.items in
+    let e = ap length (all_wait at.group at.index words) in
+    let l = length-words at.group at.index words in
+    let f = c.next_block-self-inside.ensures.fewer in
+    omega (arith, e, l, f)

@@ -1,0 +1,10 @@
+-- The report of a lane.
+use Rattle.std.proofs.Common.{ap, ◌∙◌, sym, subst, List}
+use Rattle.rx_front.specs.States.{Lane, State}
+use Rattle.rx_front.specs.Lanes.{AllStand}
+use Rattle.rx_front.proofs.front.Front.lane_report.Goals as goal
+
+pub returns : goal.returns
+returns c = λ s fed items t st.
+    c.report_at.ensures s t.rounds fed t.columns
+    (subst (λ (vs : List Lane). AllStand vs s t.rounds fed t.columns) (ap (λ (v : State). v.lanes) (sym c.self.view_is) ∙ sym c.deref.ensures.value) st.lanes)

@@ -1,0 +1,386 @@
+ghost use Rattle.std.specs.Prelude.{◌≡◌, ◌<◌, ◌≤◌, ◌+◌, ◌*◌, ◌^◌, ◌==◌, ◌++◌, [], ◌⊎◌, true, false, None, List, ℕ, min, length, take, drop, All, IfOk, IfSome, IfNone, OnSome};
+ghost use Rattle.std.specs.Bool.{OnFalse, OnTrue};
+ghost use Rattle.lk_base.specs.Link.{Settings};
+ghost use Rattle.lk_base.specs.Positions.{words_from};
+ghost use Rattle.lk_base.specs.declared.word.Aligned.{Aligned as Item};
+ghost use Rattle.receiver_model.specs.Fed.{Fed};
+ghost use Rattle.deskew.specs.Ahead.{can_run_ahead};
+ghost use Rattle.deskew.specs.Steps.{start_at};
+ghost use Rattle.rx_front.specs.Calls.{IsReportOf, count_at, fed_more, finished_at, is_open, lanes_fed, lanes_finished, nothing_fed, room_at};
+ghost use Rattle.rx_front.specs.Lanes.{HasBytes, are_ready as can_be_taken};
+ghost use Rattle.rx_front.specs.Locks.{declared_at};
+ghost use Rattle.rx_front.specs.Standing.{GivesItem, MovesOn, MovesQuietly, Progress, Stands, begun, is_over, items_left, weight};
+ghost use Rattle.rx_front.specs.States.{with_lanes};
+ghost use Rattle.rx_front.specs.Waiting.{words_in};
+
+use crate::batch::{Batch, MOST_BYTES};
+use crate::block::Block;
+use crate::lane::{Lane, lock_of};
+use crate::lanes::{
+    are_empty, are_ready, feed_at, finish_at, fresh_lanes, report_at, show_steps, take_all,
+    take_batches, take_rounds, whole_rounds, zeros_from,
+};
+use deskew::Deskew;
+use lk_base::{Aligned, Link, OutOfMemory, Pos, RxWord};
+use lock_model::LaneReport;
+use std::alloc::Global;
+use std::marker::Model;
+
+/// The front of a receiver of the lanes of a link: from the bytes of the lanes to the words of all lanes in one order.
+///
+/// It has a ring of 4,096 bytes for each lane, and takes bytes from them in rounds, one byte of every lane that is not at its
+/// end. A bit of every lane that is not at its end moves the clock of all lanes on by one.
+#[derive(Drop)]
+pub struct Front {
+    lanes: Vec<Lane>,
+    /// The bits of the last rounds by which the clock has not moved yet.
+    left: u32,
+    /// How many bits of each lane they took: 8 times 1..=7; none where they were more, since no bit of theirs is left then.
+    width: u32,
+    /// At which of these some lane may show something: bit k of the number is 0 only where no lane shows anything at bit k.
+    shows: u64,
+    deskew: Deskew,
+    /// The steps of one lane in many bytes.
+    batch: Batch,
+    /// The words that the deskew gave and that are still to be taken.
+    block: Block,
+    /// The last round found all lanes at their end.
+    over: bool,
+}
+
+impl Model for Front {
+    ghost use Rattle.std.specs.Prelude.{◌≡◌, ◌≤◌, length};
+    ghost use Rattle.rx_front.specs.States.{State};
+    ghost use Rattle.rx_front.specs.Lanes.{AreCovered, AreWide};
+
+    ghost Value = { State };
+
+    ghost view = { λ a. record { lanes = a.lanes.items; left = a.left; deskew = a.deskew; waiting = a.block; over = a.over } };
+
+    ghost invariant = { λ a. (length a.lanes.items ≡ a.deskew.settings.lanes) × (length a.lanes.items ≤ 64) × (1 ≤ length a.lanes.items) × (a.left ≤ a.width) × (a.width ≤ 56) × AreWide a.width a.lanes.items × AreCovered a.shows a.lanes.items };
+}
+
+// How many bytes of each lane make it worth to take them at once.
+const LEAST_BYTES: usize = 16;
+
+impl Front {
+    /// A front for a link, to which nothing was fed. It answers `OutOfMemory` where memory ran out, and nowhere else; no later
+    /// call takes memory.
+    pub fn make(alloc: Global, link: &Link) -> Result<Front, OutOfMemory>
+        ensures { IfOk result (λ v. Stands v link.now (nothing_fed link.now.lanes) [] (begun link.now.lanes) × (v.waiting ≡ []) × (v.over ≡ false) × (v.deskew.settled ≡ true)) }
+    {
+        let lanes = fresh_lanes(alloc, link)?;
+        let deskew = Deskew::make(alloc, link)?;
+        let batch = Batch::make(alloc)?;
+        let block = Block::make(alloc)?;
+        link.keeps_limits();
+        Ok(Front {
+            lanes,
+            left: 0,
+            width: 8,
+            shows: u64::MAX,
+            deskew,
+            batch,
+            block,
+            over: false,
+        })
+    }
+
+    /// Takes the longest prefix of the piece that the lane's ring has room for, and tells how many bytes that are. The lane is
+    /// below the link's lanes and not finished. Fewer than 2^57 bytes come of a lane. It is less than the piece's length exactly
+    /// where the piece is longer than the room; the ring is then full.
+    pub fn feed(&mut self, lane: u32, piece: &[u8]) -> usize
+        requires unfinished { is_open lane self.old.lanes ≡ true }
+        requires few { count_at lane self.old.lanes + length piece.now < 2 ^ 57 }
+        ensures count { result ≡ min (length piece.now) (room_at lane self.old.lanes) }
+        ensures state { self.new ≡ with_lanes (lanes_fed lane (take result piece.now) self.old.lanes) self.old }
+        ensures stands { (s : Settings) (fed : List Fed) (items : List Item) (t : Progress) →
+            Stands self.old s fed items t → Stands self.new s (fed_more lane (take result piece.now) fed) items t }
+        ensures room { room_at lane self.new.lanes + result ≡ room_at lane self.old.lanes }
+    {
+        feed_at(&mut self.lanes, lane, piece)
+    }
+
+    /// No further byte of this lane comes. The lane is below the link's lanes and not finished.
+    pub fn finish(&mut self, lane: u32)
+        requires { is_open lane self.old.lanes ≡ true }
+        ensures state { self.new ≡ with_lanes (lanes_finished lane self.old.lanes) self.old }
+        ensures stands { (s : Settings) (fed : List Fed) (items : List Item) (t : Progress) →
+            Stands self.old s fed items t → Stands self.new s (finished_at lane fed) items t }
+    {
+        finish_at(&mut self.lanes, lane);
+    }
+
+    /// The report of a lane over the bytes that the rounds took from its ring. The lane is below the link's lanes.
+    pub fn lane_report(&self, lane: u32) -> LaneReport
+        requires { lane < length self.now.lanes }
+        ensures { (s : Settings) (fed : List Fed) (items : List Item) (t : Progress) → Stands self.now s fed items t →
+            IsReportOf s t.rounds lane fed result }
+    {
+        report_at(&self.lanes, lane)
+    }
+
+    /// Whether the last round found all lanes at their end, and the clock has passed all its bits.
+    pub fn is_over(&self) -> bool
+        ensures { result ≡ is_over self.now }
+    {
+        self.over && self.left == 0
+    }
+
+    /// Whether no words wait.
+    pub fn is_empty(&self) -> bool
+        ensures { result ≡ (length self.now.waiting == 0) }
+    {
+        self.block.is_empty()
+    }
+
+    /// Takes words of the deskew, where none wait: the next block of whole rows, which may have none.
+    pub fn fill(&mut self)
+        ensures stands { (s : Settings) (fed : List Fed) (items : List Item) (t : Progress) →
+            Stands self.old s fed items t → Stands self.new s fed items t }
+        ensures fewer { items_left self.new ≤ items_left self.old }
+        ensures lanes { self.new.lanes ≡ self.old.lanes }
+        ensures left { self.new.left ≡ self.old.left }
+        ensures over { self.new.over ≡ self.old.over }
+    {
+        if !self.block.is_empty() {
+            return;
+        }
+        self.block.fill(&mut self.deskew);
+    }
+
+    /// The place of the first of the words that wait; where none wait it means nothing. They stand one after another in its group.
+    pub fn at(&self) -> Pos
+        ensures waiting { self.now.waiting ≡ words_from result.group result.index (words_in self.now.waiting) }
+        ensures fits { result.index + length self.now.waiting < 2 ^ 32 }
+        ensures low { result.group < 2 ^ 60 }
+    {
+        self.block.at()
+    }
+
+    /// The words that wait.
+    pub fn words(&self) -> &[RxWord]
+        ensures value { result.now ≡ words_in self.now.waiting }
+        ensures count { length result.now ≡ length self.now.waiting }
+    {
+        self.block.words()
+    }
+
+    /// So many of the words that wait, the first of them, were taken.
+    pub fn pass(&mut self, count: usize)
+        requires { count ≤ length self.old.waiting }
+        ensures stands { (s : Settings) (fed : List Fed) (items : List Item) (t : Progress) →
+            Stands self.old s fed items t → Stands self.new s fed (items ++ take count self.old.waiting) t }
+        ensures waiting { self.new.waiting ≡ drop count self.old.waiting }
+        ensures fewer { items_left self.new + count ≡ items_left self.old }
+        ensures lanes { self.new.lanes ≡ self.old.lanes }
+        ensures left { self.new.left ≡ self.old.left }
+        ensures deskew { self.new.deskew ≡ self.old.deskew }
+        ensures over { self.new.over ≡ self.old.over }
+    {
+        self.block.pass(count);
+    }
+
+    /// The next item that the clock has shown, where no words wait. `None` exactly where all items that are known of what the
+    /// clock has shown were taken.
+    pub fn item(&mut self) -> Option<Aligned>
+        requires { length self.old.waiting ≡ 0 }
+        ensures gives { (s : Settings) (fed : List Fed) (items : List Item) (t : Progress) →
+            Stands self.old s fed items t → GivesItem result self.new s fed items t }
+        ensures settled { IfNone result (self.new.deskew.settled ≡ true) }
+        ensures fewer { OnSome result (items_left self.new < items_left self.old) }
+        ensures waiting { self.new.waiting ≡ self.old.waiting }
+        ensures lanes { self.new.lanes ≡ self.old.lanes }
+        ensures left { self.new.left ≡ self.old.left }
+        ensures over { self.new.over ≡ self.old.over }
+    {
+        self.deskew.next()
+    }
+
+    /// Moves the clock on, where nothing is left to be taken: by the bits of many bytes where they can be taken at once, or up to
+    /// and by the next bit at which a lane may show something. False where neither can be: all bits of the rounds were passed, and
+    /// no further round can be made, since the last one found all lanes at their end or a lane that is not finished lacks a byte.
+    pub fn go_on(&mut self) -> bool
+        requires settled { self.old.deskew.settled ≡ true }
+        ensures moves { OnTrue result ((s : Settings) (fed : List Fed) (items : List Item) (t : Progress) →
+            Stands self.old s fed items t → MovesOn self.new s fed items t) }
+        ensures less { OnTrue result (weight self.new < weight self.old) }
+        ensures same { OnFalse result (self.new ≡ self.old) }
+        ensures stuck { OnFalse result (self.old.left ≡ 0 × ((self.old.over ≡ true) ⊎ (can_be_taken self.old.lanes ≡ false))) }
+    {
+        let count = self.batch_bytes();
+        if count == 0 {
+            return self.advance();
+        }
+        self.take_batch(count);
+        true
+    }
+
+    /// The bit position of the lock that this lane declared at the bit that the clock passed last, if it declared one there: below
+    /// 2^60. The lane is below the link's lanes.
+    pub fn declared(&self, lane: u32) -> Option<u64>
+        requires { lane < length self.now.lanes }
+        ensures value { result ≡ declared_at lane self.now }
+        ensures low { IfSome result (λ at. at < 2 ^ 60) }
+    {
+        if self.left >= self.width {
+            return None;
+        }
+        lock_of(self.lanes[lane as usize].step(self.width - self.left - 1))
+    }
+
+    /// The bit position of the lane's Sync in the group that was given last: below 2^60. The lane is below the link's lanes.
+    pub fn start(&self, lane: u32) -> u64
+        requires { lane < length self.now.lanes }
+        ensures value { result ≡ start_at lane self.now.deskew }
+        ensures low { result < 2 ^ 60 }
+    {
+        self.deskew.start(lane)
+    }
+
+    // Moves the clock on by a bit; false where it can't be.
+    fn advance(&mut self) -> bool
+        requires settled { self.old.deskew.settled ≡ true }
+        ensures moves { OnTrue result ((s : Settings) (fed : List Fed) (items : List Item) (t : Progress) →
+            Stands self.old s fed items t → MovesOn self.new s fed items t) }
+        ensures less { OnTrue result (weight self.new < weight self.old) }
+        ensures same { OnFalse result (self.new ≡ self.old) }
+        ensures stuck { OnFalse result (self.old.left ≡ 0 × ((self.old.over ≡ true) ⊎ (can_be_taken self.old.lanes ≡ false))) }
+    {
+        if self.left == 0 && !self.round() {
+            return false;
+        }
+        self.rest();
+        if self.left > 0 {
+            self.tick();
+        }
+        true
+    }
+
+    // How many rounds can be made at once: some only where all their bits may be taken before an item is given, since an epoch goes
+    // on in which each lane is in a declared lock, and where they are enough to be worth it.
+    fn batch_bytes(&self) -> usize
+        ensures most { result ≤ 536 }
+        ensures there { All (HasBytes result) self.now.lanes }
+        ensures left { 1 ≤ result → self.now.left ≡ 0 }
+        ensures running { 1 ≤ result → self.now.over ≡ false }
+        ensures ahead { 1 ≤ result → can_run_ahead self.now.deskew ≡ true }
+    {
+        if self.left > 0 || self.over || !self.deskew.can_run_ahead() {
+            return 0;
+        }
+        let count = whole_rounds(&self.lanes, MOST_BYTES);
+        if count < LEAST_BYTES { 0 } else { count }
+    }
+
+    // So many rounds at once, each of which finds a byte of every lane. The clock moves on by all their bits.
+    fn take_batch(&mut self, count: usize)
+        requires some { 1 ≤ count }
+        requires most { count ≤ 536 }
+        requires there { All (HasBytes count) self.old.lanes }
+        requires left { self.old.left ≡ 0 }
+        requires running { self.old.over ≡ false }
+        requires ahead { can_run_ahead self.old.deskew ≡ true }
+        ensures moves { (s : Settings) (fed : List Fed) (items : List Item) (t : Progress) →
+            Stands self.old s fed items t → MovesOn self.new s fed items t }
+        ensures less { weight self.new < weight self.old }
+    {
+        take_batches(&mut self.lanes, count, &mut self.batch, &mut self.deskew);
+        self.width = 0;
+        self.shows = 0;
+    }
+
+    // Rounds, where one can be made: as many as find a byte of every lane each, or else one.
+    fn round(&mut self) -> bool
+        requires { self.old.left ≡ 0 }
+        ensures moves { OnTrue result ((s : Settings) (fed : List Fed) (items : List Item) (t : Progress) →
+            Stands self.old s fed items t → MovesQuietly self.new s fed items t) }
+        ensures less { OnTrue result (weight self.new ≤ weight self.old) }
+        ensures left { OnTrue result (1 ≤ self.new.left) }
+        ensures deskew { self.new.deskew ≡ self.old.deskew }
+        ensures same { OnFalse result (self.new ≡ self.old) }
+        ensures stuck { OnFalse result ((self.old.over ≡ true) ⊎ (can_be_taken self.old.lanes ≡ false)) }
+    {
+        if self.over {
+            return false;
+        }
+        let count = whole_rounds(&self.lanes, 7);
+        if count > 0 {
+            self.rounds(count as u32);
+            return true;
+        }
+        self.one_round()
+    }
+
+    // So many rounds, which find a byte of every lane each.
+    fn rounds(&mut self, count: u32)
+        requires none { self.old.left ≡ 0 }
+        requires running { self.old.over ≡ false }
+        requires some { 1 ≤ count }
+        requires most { count ≤ 7 }
+        requires there { All (HasBytes count) self.old.lanes }
+        ensures moves { (s : Settings) (fed : List Fed) (items : List Item) (t : Progress) →
+            Stands self.old s fed items t → MovesQuietly self.new s fed items t }
+        ensures less { weight self.new ≤ weight self.old }
+        ensures left { self.new.left ≡ 8 * count }
+        ensures deskew { self.new.deskew ≡ self.old.deskew }
+    {
+        self.shows = take_rounds(&mut self.lanes, count);
+        self.left = 8 * count;
+        self.width = 8 * count;
+    }
+
+    // A round in which lanes may be at their end, where it can be made.
+    fn one_round(&mut self) -> bool
+        requires none { self.old.left ≡ 0 }
+        requires running { self.old.over ≡ false }
+        ensures moves { OnTrue result ((s : Settings) (fed : List Fed) (items : List Item) (t : Progress) →
+            Stands self.old s fed items t → MovesQuietly self.new s fed items t) }
+        ensures less { OnTrue result (weight self.new ≤ weight self.old) }
+        ensures left { OnTrue result (self.new.left ≡ 8) }
+        ensures deskew { self.new.deskew ≡ self.old.deskew }
+        ensures same { OnFalse result (self.new ≡ self.old) }
+        ensures stuck { OnFalse result (can_be_taken self.old.lanes ≡ false) }
+    {
+        if !are_ready(&self.lanes) {
+            return false;
+        }
+        self.over = are_empty(&self.lanes);
+        take_all(&mut self.lanes);
+        self.left = 8;
+        self.width = 8;
+        self.shows = u64::MAX;
+        true
+    }
+
+    // The clock moves on by the bits of the last rounds that show nothing, up to the next that shows something.
+    fn rest(&mut self)
+        requires left { 1 ≤ self.old.left }
+        requires settled { self.old.deskew.settled ≡ true }
+        ensures moves { (s : Settings) (fed : List Fed) (items : List Item) (t : Progress) →
+            Stands self.old s fed items t → MovesQuietly self.new s fed items t }
+        ensures none { self.new.left ≡ 0 → (lane : ℕ) → declared_at lane self.new ≡ None }
+        ensures left { self.new.left ≤ self.old.left }
+        ensures lanes { self.new.lanes ≡ self.old.lanes }
+        ensures over { self.new.over ≡ self.old.over }
+        ensures deskew { self.new.deskew ≡ self.old.deskew }
+    {
+        let quiet = zeros_from(self.shows, self.width - self.left, self.width);
+        self.left -= quiet;
+    }
+
+    // The clock moves on by a bit of the last rounds.
+    fn tick(&mut self)
+        requires left { 1 ≤ self.old.left }
+        requires settled { self.old.deskew.settled ≡ true }
+        ensures moves { (s : Settings) (fed : List Fed) (items : List Item) (t : Progress) →
+            Stands self.old s fed items t → MovesOn self.new s fed items t }
+        ensures left { self.new.left + 1 ≡ self.old.left }
+        ensures lanes { self.new.lanes ≡ self.old.lanes }
+        ensures over { self.new.over ≡ self.old.over }
+    {
+        let k = self.width - self.left;
+        show_steps(&self.lanes, k, &mut self.deskew);
+        self.left -= 1;
+    }
+}

@@ -1,0 +1,252 @@
+ghost use Rattle.std.specs.Prelude.{◌≡◌, ◌<◌, ◌≤◌, ◌+◌, ◌-◌, ◌*◌, ◌^◌, true, List, ℕ, min, length, take, drop, slice_index, IfOk, IfSome};
+ghost use Rattle.circular_buffer.specs.Buffer.{buffer};
+ghost use Rattle.lk_base.specs.Checksum.{bits_of, bits_of_bytes};
+ghost use Rattle.lk_base.specs.Link.{Settings};
+ghost use Rattle.lock_model.specs.declared.types.LaneStep.{LaneStep as Step};
+ghost use Rattle.lock_model.specs.Low.{is_low};
+ghost use Rattle.lane_lock.specs.Standing.{IsReport};
+ghost use Rattle.receiver_model.specs.Fed.{Fed, first_bits};
+ghost use Rattle.rx_front.specs.Batches.{IsBatchOf};
+ghost use Rattle.rx_front.specs.Locks.{lock_of};
+ghost use Rattle.rx_front.specs.Lanes.{Covers, HasBytes, IsFresh, IsTaken, LaneStands, fed_lane, finished_lane, is_empty as has_no_byte, is_ready as can_take, step_at};
+
+use crate::batch::Batch;
+use circular_buffer::HeapCircularBuffer;
+use deskew::Deskew;
+use lane_steps::LaneSteps;
+use lk_base::{Link, OutOfMemory};
+use lock_model::{LaneReport, LaneStep};
+use std::alloc::Global;
+use std::marker::Model;
+
+/// The bytes that a lane's ring has room for.
+const ROOM: usize = 4096;
+
+/// One lane of a receiver.
+#[derive(Drop)]
+pub struct Lane {
+    /// The bytes that no round took.
+    ring: HeapCircularBuffer<u8>,
+    /// No further byte comes.
+    finished: bool,
+    /// How many bytes were fed: fewer than 2^57.
+    fed: u64,
+    /// The locks of the bytes that rounds took, and what the last rounds found.
+    steps: LaneSteps,
+}
+
+impl Model for Lane {
+    ghost use Rattle.std.specs.Prelude.{◌≡◌, ◌<◌, ◌+◌, ◌*◌, ◌^◌, length};
+    ghost use Rattle.rx_front.specs.States.{Lane as LaneState};
+
+    ghost Value = { LaneState };
+
+    ghost view = { λ a. record { ring = a.ring.items; finished = a.finished; fed = a.fed; lock = a.steps.lock; steps = a.steps.shown } };
+
+    ghost invariant = { λ a. (a.ring.capacity ≡ 4096) × (a.fed < 2 ^ 57) × (a.steps.lock.taken + 8 * length a.ring.items ≡ 8 * a.fed) };
+}
+
+// The next byte of a ring.
+fn next_byte(ring: &mut HeapCircularBuffer<u8>) -> u8
+    requires { 0 < length ring.old.items }
+    ensures value { result ≡ slice_index ring.old.items 0 }
+    ensures ring { ring.new ≡ buffer (drop 1 ring.old.items) ring.old.capacity }
+{
+    ring.pop_front().unwrap_or(0)
+}
+
+// The first eight of some bytes as a number, the first of them highest.
+fn first_eight(bytes: &[u8]) -> u64
+    requires { 8 ≤ length bytes.now }
+    ensures { bits_of 64 result ≡ bits_of_bytes (take 8 bytes.now) }
+{
+    u64::from_be_bytes([
+        bytes[0], bytes[1], bytes[2], bytes[3], bytes[4], bytes[5], bytes[6], bytes[7],
+    ])
+}
+
+// The number of the bits of so many first bytes of a ring, where its first eight lie together.
+fn bits_ahead(ring: &HeapCircularBuffer<u8>, count: u32) -> Option<u64>
+    requires some { 1 ≤ count }
+    requires most { count ≤ 7 }
+    ensures bits { IfSome result (λ bits. bits_of (8 * count) bits ≡ bits_of_bytes (take count ring.now.items)) }
+    ensures below { IfSome result (λ bits. bits < 2 ^ (8 * count)) }
+{
+    let (front, _behind) = ring.as_slices();
+    if front.len() < 8 {
+        return None;
+    }
+    Some(first_eight(front) >> (64 - 8 * count))
+}
+
+// Takes so many bytes from a ring, and tells the number of their bits, the first of them highest.
+fn take_bits(ring: &mut HeapCircularBuffer<u8>, count: u32) -> u64
+    requires some { 1 ≤ count }
+    requires most { count ≤ 7 }
+    requires there { count ≤ length ring.old.items }
+    ensures ring { ring.new ≡ buffer (drop count ring.old.items) ring.old.capacity }
+    ensures bits { bits_of (8 * count) result ≡ bits_of_bytes (take count ring.old.items) }
+    ensures below { result < 2 ^ (8 * count) }
+{
+    match bits_ahead(ring, count) {
+        Some(bits) => {
+            let rest = ring.len() - count as usize;
+            ring.truncate_front(rest);
+            bits
+        }
+        None => gathered(ring, count),
+    }
+}
+
+// The same byte by byte.
+fn gathered(ring: &mut HeapCircularBuffer<u8>, count: u32) -> u64
+    requires most { count ≤ 7 }
+    requires there { count ≤ length ring.old.items }
+    ensures ring { ring.new ≡ buffer (drop count ring.old.items) ring.old.capacity }
+    ensures bits { bits_of (8 * count) result ≡ bits_of_bytes (take count ring.old.items) }
+    ensures below { result < 2 ^ (8 * count) }
+{
+    let mut bits = 0;
+    for k in 0..count {
+        bits = bits * 256 + next_byte(ring) as u64;
+    }
+    bits
+}
+
+// Passes over so many bytes of a ring.
+fn pass_bytes(ring: &mut HeapCircularBuffer<u8>, count: usize)
+    requires { count ≤ length ring.old.items }
+    ensures { ring.new ≡ buffer (drop count ring.old.items) ring.old.capacity }
+{
+    let rest = ring.len() - count;
+    ring.truncate_front(rest);
+}
+
+/// The bit position of the lock that a step declares, if it declares one: below 2^60.
+pub fn lock_of(step: LaneStep) -> Option<u64>
+    requires { is_low step }
+    ensures value { result ≡ lock_of step }
+    ensures low { IfSome result (λ at. at < 2 ^ 60) }
+{
+    match step {
+        LaneStep::Locked(at) => Some(at),
+        LaneStep::Nothing => None,
+        LaneStep::Word(_, _, _) => None,
+        LaneStep::Lost(_, _) => None,
+        LaneStep::Ended => None,
+    }
+}
+
+impl Lane {
+    /// A lane of which no byte came.
+    pub fn make(alloc: Global, link: &Link) -> Result<Lane, OutOfMemory>
+        ensures { IfOk result (λ v. IsFresh link.now v × (length v.steps ≡ 8)) }
+    {
+        let ring = match HeapCircularBuffer::with_capacity(alloc, ROOM) {
+            Ok(ring) => ring,
+            Err(_) => return Err(OutOfMemory),
+        };
+        let steps = LaneSteps::make(alloc, link)?;
+        Ok(Lane {
+            ring,
+            finished: false,
+            fed: 0,
+            steps,
+        })
+    }
+
+    /// Takes as many bytes as its ring has room for, and tells how many. Fewer than 2^57 bytes come in all.
+    pub fn feed(&mut self, piece: &[u8]) -> usize
+        requires { self.old.fed + length piece.now < 2 ^ 57 }
+        ensures count { result ≡ min (length piece.now) (4096 - length self.old.ring) }
+        ensures lane { self.new ≡ fed_lane (take result piece.now) self.old }
+    {
+        let count = self.ring.fill_from_slice(piece);
+        self.fed += count as u64;
+        count
+    }
+
+    /// No further byte comes.
+    pub fn finish(&mut self)
+        ensures { self.new ≡ finished_lane self.old }
+    {
+        self.finished = true;
+    }
+
+    /// Whether a round can take a byte of it, or finds it at its end.
+    pub fn is_ready(&self) -> bool
+        ensures { result ≡ can_take self.now }
+    {
+        let empty = self.ring.is_empty();
+        self.finished || !empty
+    }
+
+    /// Whether a round finds no byte.
+    pub fn is_empty(&self) -> bool
+        ensures { result ≡ has_no_byte self.now }
+    {
+        self.ring.is_empty()
+    }
+
+    /// A round takes its next byte, or finds it at its end.
+    pub fn take(&mut self)
+        requires { can_take self.old ≡ true }
+        ensures { IsTaken 1 self.old self.new }
+    {
+        match self.ring.pop_front() {
+            Some(byte) => self.steps.byte(byte),
+            None => self.steps.end(),
+        }
+    }
+
+    /// How many rounds at once find a byte of it each.
+    pub fn bytes_there(&self) -> usize
+        ensures { (n : ℕ) → n ≤ result → HasBytes n self.now }
+    {
+        self.ring.len()
+    }
+
+    /// So many rounds take a byte of it each. It tells at which of their bits it may show something: bit k of the number is 0 only
+    /// where bit k of the rounds shows nothing.
+    pub fn take_bytes(&mut self, count: u32) -> u64
+        requires some { 1 ≤ count }
+        requires most { count ≤ 7 }
+        requires there { HasBytes count self.old }
+        ensures taken { IsTaken count self.old self.new }
+        ensures shown { Covers result self.new }
+    {
+        let bits = take_bits(&mut self.ring, count);
+        self.steps.take(bits, count);
+        self.steps.shows()
+    }
+
+    /// So many rounds, at most 536, take a byte of it each, and the deskew takes the steps that their bits show, as those of this
+    /// lane. No step is kept.
+    pub fn take_batch(&mut self, lane: u32, count: usize, batch: &mut Batch, deskew: &mut Deskew)
+        requires some { 1 ≤ count }
+        requires most { count ≤ 536 }
+        requires there { HasBytes count self.old }
+        requires lane { lane < deskew.old.settings.lanes }
+        ensures { IsBatchOf count lane self.old self.new deskew.old deskew.new }
+    {
+        batch.take(&mut self.steps, &self.ring, count);
+        pass_bytes(&mut self.ring, count);
+        deskew.take_steps(lane, batch.steps());
+    }
+
+    /// The step of bit k of the last rounds.
+    pub fn step(&self, k: u32) -> LaneStep
+        ensures value { result ≡ step_at k self.now }
+        ensures low { is_low result }
+    {
+        self.steps.step(k)
+    }
+
+    /// The report over the bytes that rounds took.
+    pub fn report(&self) -> LaneReport
+        ensures { (s : Settings) (rounds : ℕ) (fed : Fed) (column : List Step) → LaneStands self.now s rounds fed column →
+            IsReport s (first_bits (8 * rounds) fed) result }
+    {
+        self.steps.report()
+    }
+}

@@ -1,0 +1,159 @@
+ghost use Rattle.std.specs.Prelude.{◌≡◌, ◌<◌, ◌≤◌, true, length, map, All, IfOk};
+ghost use Rattle.std.specs.Prelude.{◌+◌, ◌^◌, min, take, List, ℕ};
+ghost use Rattle.lk_base.specs.Link.{Settings};
+ghost use Rattle.lock_model.specs.declared.types.LaneStep.{LaneStep as Step};
+ghost use Rattle.std.specs.Int.{bit_at};
+ghost use Rattle.receiver_model.specs.Fed.{Fed};
+ghost use Rattle.rx_front.specs.Calls.{IsReportOf, count_at, is_open, lanes_fed, lanes_finished, room_at};
+ghost use Rattle.rx_front.specs.Lanes.{AllStand, AreCovered, AreTaken, AreWide, HasBytes, IsFresh, are_empty as have_no_byte, are_ready as can_be_taken, step_at};
+ghost use Rattle.rx_front.specs.Batches.{TookBatch};
+ghost use Rattle.deskew.specs.Steps.{ticked};
+
+use crate::batch::Batch;
+use crate::lane::Lane;
+use deskew::Deskew;
+use lk_base::{Link, OutOfMemory};
+use lock_model::LaneReport;
+use std::alloc::Global;
+
+/// The lanes of a link, of which no byte came.
+pub fn fresh_lanes(alloc: Global, link: &Link) -> Result<Vec<Lane>, OutOfMemory>
+    ensures count { IfOk result (λ lanes. length lanes.items ≡ link.now.lanes) }
+    ensures each { IfOk result (λ lanes. All (λ v. IsFresh link.now v) lanes.items) }
+    ensures wide { IfOk result (λ lanes. AreWide 8 lanes.items) }
+{
+    let mut lanes = Vec::new(alloc);
+    for _lane in 0..link.lanes() {
+        let lane = Lane::make(alloc, link)?;
+        match lanes.push(lane) {
+            Ok(()) => {}
+            Err(_) => return Err(OutOfMemory),
+        }
+    }
+    Ok(lanes)
+}
+
+/// Whether a round can be made: no lane that is not finished lacks a byte.
+pub fn are_ready(lanes: &[Lane]) -> bool
+    ensures { result ≡ can_be_taken lanes.now }
+{
+    for lane in lanes {
+        if !lane.is_ready() {
+            return false;
+        }
+    }
+    true
+}
+
+/// Whether a round finds no byte of any lane.
+pub fn are_empty(lanes: &[Lane]) -> bool
+    ensures { result ≡ have_no_byte lanes.now }
+{
+    for lane in lanes {
+        if !lane.is_empty() {
+            return false;
+        }
+    }
+    true
+}
+
+/// A round: it takes one byte of every lane that is not at its end.
+pub fn take_all(lanes: &mut [Lane])
+    requires { can_be_taken lanes.old ≡ true }
+    ensures { AreTaken 1 lanes.old lanes.new }
+{
+    for i in 0..lanes.len() {
+        lanes[i].take();
+    }
+}
+
+/// The deskew takes the steps of bit k of the last rounds, one of each lane.
+pub fn show_steps(lanes: &[Lane], k: u32, deskew: &mut Deskew)
+    requires some { 0 < length lanes.now }
+    requires few { length lanes.now ≤ 64 }
+    requires count { length lanes.now ≡ deskew.old.settings.lanes }
+    ensures { deskew.new ≡ ticked deskew.old (map (step_at k) lanes.now) }
+{
+    for i in 0..lanes.len() {
+        deskew.take_step(i as u32, lanes[i].step(k));
+    }
+}
+
+/// How many bits of a number are 0 from bit k on, up to the next that is 1, or to this end.
+pub fn zeros_from(number: u64, k: u32, end: u32) -> u32
+    requires order { k ≤ end }
+    requires end { end ≤ 56 }
+    ensures most { result + k ≤ end }
+    ensures zeros { (j : ℕ) → k ≤ j → j < result + k → bit_at number j ≡ 0 }
+{
+    (number >> k).trailing_zeros().min(end - k)
+}
+
+/// How many rounds at once find a byte of every lane each: at most so many.
+pub fn whole_rounds(lanes: &[Lane], most: usize) -> usize
+    ensures most { result ≤ most }
+    ensures there { All (HasBytes result) lanes.now }
+{
+    let mut count = most;
+    for lane in lanes {
+        count = count.min(lane.bytes_there());
+    }
+    count
+}
+
+/// So many rounds, at most 536, take a byte of every lane each, and the deskew takes the steps that their bits show, lane by lane.
+/// No step is kept.
+pub fn take_batches(lanes: &mut [Lane], count: usize, batch: &mut Batch, deskew: &mut Deskew)
+    requires some { 1 ≤ count }
+    requires most { count ≤ 536 }
+    requires there { All (HasBytes count) lanes.old }
+    requires few { length lanes.old ≤ 64 }
+    requires count { length lanes.old ≡ deskew.old.settings.lanes }
+    ensures { TookBatch count lanes.old lanes.new deskew.old deskew.new }
+{
+    for i in 0..lanes.len() {
+        lanes[i].take_batch(i as u32, count, batch, deskew);
+    }
+}
+
+/// So many rounds take a byte of every lane each. It tells at which of their bits some lane may show something: bit k of the number
+/// is 0 only where no lane shows anything at bit k.
+pub fn take_rounds(lanes: &mut [Lane], count: u32) -> u64
+    requires some { 1 ≤ count }
+    requires most { count ≤ 7 }
+    requires there { All (HasBytes count) lanes.old }
+    ensures taken { AreTaken count lanes.old lanes.new }
+    ensures shown { AreCovered result lanes.new }
+{
+    let mut shows = 0;
+    for i in 0..lanes.len() {
+        shows |= lanes[i].take_bytes(count);
+    }
+    shows
+}
+
+/// Feeds a lane, which is not finished, and tells how many bytes it took.
+pub fn feed_at(lanes: &mut [Lane], lane: u32, piece: &[u8]) -> usize
+    requires unfinished { is_open lane lanes.old ≡ true }
+    requires few { count_at lane lanes.old + length piece.now < 2 ^ 57 }
+    ensures count { result ≡ min (length piece.now) (room_at lane lanes.old) }
+    ensures lanes { lanes.new ≡ lanes_fed lane (take result piece.now) lanes.old }
+{
+    lanes[lane as usize].feed(piece)
+}
+
+/// No further byte of this lane comes, which is not finished.
+pub fn finish_at(lanes: &mut [Lane], lane: u32)
+    requires { is_open lane lanes.old ≡ true }
+    ensures { lanes.new ≡ lanes_finished lane lanes.old }
+{
+    lanes[lane as usize].finish();
+}
+
+/// The report of a lane over the bytes that the rounds took of it.
+pub fn report_at(lanes: &[Lane], lane: u32) -> LaneReport
+    requires { lane < length lanes.now }
+    ensures { (s : Settings) (rounds : ℕ) (fed : List Fed) (columns : List (List Step)) → AllStand lanes.now s rounds fed columns → IsReportOf s rounds lane fed result }
+{
+    lanes[lane as usize].report()
+}

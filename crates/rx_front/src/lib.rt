@@ -1,0 +1,11 @@
+//! The front of a receiver of the lanes of a link: it takes their bytes in whatever pieces and order they come, and gives their
+//! words, groups and breaks in one order.
+#![tactic(auto)]
+
+mod batch;
+mod block;
+mod front;
+mod lane;
+mod lanes;
+
+pub use front::Front;
