@@ -1,0 +1,130 @@
+ghost use Rattle.std.specs.Prelude.{◌≡◌, ◌==◌, ◌<◌, ◌^◌, ◌++◌, ◌∷◌, [], length, OnOk, OnErr};
+ghost use Rattle.lk_base.specs.Words.{is_control, payload, word_at};
+ghost use Rattle.word_list.specs.Parts.{word_of};
+
+use lk_base::{OutOfMemory, Word};
+use std::alloc::Global;
+use std::marker::Model;
+
+/// A list of words: their numbers, of eight bytes, and their kinds, of one. A list of `Word` takes sixteen bytes for each.
+#[derive(Drop)]
+pub struct WordList {
+    numbers: Vec<u64>,
+    // Which of the words are control words.
+    controls: Vec<bool>,
+}
+
+impl Model for WordList {
+    ghost use Rattle.std.specs.Prelude.{◌≡◌, List, length};
+    ghost use Rattle.lk_base.specs.declared.word.Word.{Word};
+    ghost use Rattle.word_list.specs.Parts.{words_of};
+
+    ghost Value = { List Word };
+
+    ghost view = { λ a. words_of a.numbers.items a.controls.items };
+
+    ghost invariant = { λ a. length a.controls.items ≡ length a.numbers.items };
+}
+
+// The number of a word.
+fn number_of(word: Word) -> u64
+    ensures { result ≡ payload word }
+{
+    match word {
+        Word::Data(x) => x,
+        Word::Control(x) => x,
+    }
+}
+
+// Whether a word is a control word.
+fn is_control(word: Word) -> bool
+    ensures { result ≡ is_control word }
+{
+    match word {
+        Word::Data(_) => false,
+        Word::Control(_) => true,
+    }
+}
+
+// The word of this number and this kind.
+fn word_of(number: u64, control: bool) -> Word
+    ensures { result ≡ word_of number control }
+{
+    if control {
+        Word::Control(number)
+    } else {
+        Word::Data(number)
+    }
+}
+
+// Puts a number and a kind after the others. After `OutOfMemory` both lists are as they were.
+fn push_parts(
+    numbers: &mut Vec<u64>,
+    controls: &mut Vec<bool>,
+    number: u64,
+    control: bool,
+) -> Result<(), OutOfMemory>
+    ensures numbers { OnOk result (numbers.new.items ≡ numbers.old.items ++ number ∷ []) }
+    ensures controls { OnOk result (controls.new.items ≡ controls.old.items ++ control ∷ []) }
+    ensures err { OnErr result (numbers.new.items ≡ numbers.old.items) }
+    ensures same { OnErr result (controls.new.items ≡ controls.old.items) }
+{
+    numbers.push(number)?;
+    if controls.push(control).is_err() {
+        numbers.pop();
+        return Err(OutOfMemory);
+    }
+    Ok(())
+}
+
+impl WordList {
+    /// An empty list, which takes its memory from this allocator.
+    pub fn new(alloc: Global) -> WordList
+        ensures { result ≡ [] }
+    {
+        WordList {
+            numbers: Vec::new(alloc),
+            controls: Vec::new(alloc),
+        }
+    }
+
+    /// Puts a word after the others. After `OutOfMemory` the list is as it was.
+    ///
+    /// # Errors
+    ///
+    /// `OutOfMemory` where memory ran out, and nowhere else.
+    pub fn push(&mut self, word: Word) -> Result<(), OutOfMemory>
+        ensures ok { OnOk result (self.new ≡ self.old ++ word ∷ []) }
+        ensures err { OnErr result (self.new ≡ self.old) }
+    {
+        push_parts(
+            &mut self.numbers,
+            &mut self.controls,
+            number_of(word),
+            is_control(word),
+        )
+    }
+
+    /// How many words it has: fewer than 2^60.
+    pub fn len(&self) -> usize
+        ensures value { result ≡ length self.now }
+        ensures few { length self.now < 2 ^ 60 }
+    {
+        self.numbers.as_slice().len()
+    }
+
+    /// Whether it has no word.
+    pub fn is_empty(&self) -> bool
+        ensures { result ≡ (length self.now == 0) }
+    {
+        self.numbers.is_empty()
+    }
+
+    /// The word number `i`, from 0.
+    pub fn get(&self, i: usize) -> Word
+        requires { i < length self.now }
+        ensures { result ≡ word_at self.now i }
+    {
+        word_of(self.numbers[i], self.controls[i])
+    }
+}
