@@ -1,4 +1,4 @@
-use Rattle.std.proofs.Common.{ℕ, ◌≡◌, ◌+◌, ◌-◌, ◌*◌, ◌^◌, ◌<◌, ◌≤◌, refl, subst, length, List, take, rules, arith}
+use Rattle.std.proofs.Common.{ℕ, ◌≡◌, ◌+◌, ◌-◌, ◌*◌, ◌<◌, ◌≤◌, refl, subst, length, List, take, arith}
 use Rattle.lk_base.specs.declared.word.Word.{Word}
 use Rattle.lk_base.specs.Link.{group_of}
 use Rattle.lane_model.specs.Framing.{payloads}
@@ -9,10 +9,9 @@ use Rattle.tx_end.proofs.lanes.fill_lane.Goals as goal
 
 pub overflow_mul-taken : goal.overflow_mul-taken
 overflow_mul-taken c =
-    let few : length c.args.words.now < 2 ^ 59 = search rules in
     let e : c.args.made * (c.metaframe.result - c.skips.result - 3) ≡ c.args.made * payloads c.args.link.now = rw (c.metaframe.ensures, c.skips.ensures) refl in
     let group : c.args.made * group_of c.args.link.now ≤ length c.args.words.now = (let t = c.requires.there in omega (arith, t)) in
-    omega (arith, e, few, lane_below c.args.link.now c.args.made (length c.args.words.now) c.requires.limits group)
+    omega (arith, e, c.len-few.ensures.few, lane_below c.args.link.now c.args.made (length c.args.words.now) c.requires.limits group)
 
 pub loop-place-init : goal.loop-place-init
 loop-place-init c =
