@@ -1,17 +1,18 @@
 -- What stands of the words file while it is filled.
 use Rattle.std.proofs.Common.{◌≡◌, ℕ, suc, false, List, [], ◌∷◌, ◌++◌, length, refl, sym, ap, ◌∙◌, subst, Option, Ok, Err, Contains, append-nil}
 use Rattle.lk_outside.specs.Files.{Files, Told}
-use Rattle.run_shell.specs.declared.stop.Stop.{Stop}
-use Rattle.run_shell.specs.declared.stop.Stop.TheVariants as stop
-use Rattle.run_shell.specs.declared.stop.Finished.{Finished}
+use Rattle.run_stops.specs.declared.stop.Stop.{Stop}
+use Rattle.run_stops.specs.declared.stop.Stop.TheVariants as stop
+use Rattle.run_shell.specs.declared.finished.Finished.{Finished}
 use Rattle.run_shell.specs.Outcome.{Output, Outcome, Holds, HoldsPart}
-use Rattle.run_shell.specs.Stops.{StoreStops, held_status}
+use Rattle.run_stops.specs.Stops.{StoreStops}
+use Rattle.run_shell.specs.Ends.{held_status}
 use Rattle.run_shell.specs.Open.{Open}
 use Rattle.run_shell.specs.Outputs.{outs, blank, Prefixes, open_names, IsOpen, Grown}
 use Rattle.run_shell.specs.Writing.{Writes, Begin}
 use Rattle.run_shell.proofs.Writing.{stop_writes, none_writes, done_writes}
 use Rattle.stream_commands.proofs.PartsOfStreams.{open_part, part_of_more, same_prefixes, blank_alike}
-use Rattle.stream_commands.specs.Outputs.{words_name}
+use Rattle.run_shell.specs.Names.{words_name}
 use Rattle.resend_commands.specs.Plan.{ResendReading, IsPlanResent}
 use Rattle.resend_commands.specs.Carried.{IsWritten, FilledWords, written}
 use Rattle.resend_commands.proofs.PlanResent.{one_outcome, is_written}

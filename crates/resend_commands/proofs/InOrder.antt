@@ -6,7 +6,7 @@ use Rattle.lk_base.specs.declared.word.Word.{Word}
 use Rattle.lk_base.specs.declared.word.Word.TheVariants.{Data}
 use Rattle.lk_outside.specs.Files.{Files}
 use Rattle.run_shell.specs.Outcome.{Outcome}
-use Rattle.run_shell.proofs.Readings.{behind_ok}
+use Rattle.run_stops.proofs.Readings.{behind_ok}
 use Rattle.plan_inputs.specs.Inputs.{inputs_in}
 use Rattle.plan_inputs.proofs.SomeSource.{plan_keeps}
 use Rattle.resend_events.specs.declared.event.Event.{Event}

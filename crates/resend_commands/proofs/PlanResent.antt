@@ -86,15 +86,15 @@ module _ (i : ResendReading) (start : Carried) (begun : IsBegun i.reading i.wind
 -- ---- the stream
 
 -- where it was taken from a stream of theirs, it was begun
-pub stream_begun : {E : Type 0} (i : Reading) (window : ℕ) (s : PayloadStream) (words : List Word) → words ≡ s.words.items → IsStreamOfPlan i s → (r : Result Carried E) → IfOk r (IsFresh words window) → IfOk r (IsBegun i window)
-stream_begun i window s words same is (Ok c) h = record {
+pub stream_begun : {E : Type 0} (i : Reading) (window : ℕ) (s : PayloadStream) → IsStreamOfPlan i s → (r : Result Carried E) → IfOk r (IsFresh s.words window) → IfOk r (IsBegun i window)
+stream_begun i window s is (Ok c) h = record {
   source = is.source;
   is_source = is.is_source;
-  words = words;
-  stream = subst (IsBurstStream is.source) (sym same) is.is.stream;
+  words = s.words;
+  stream = is.is.stream;
   fresh = h;
 }
-stream_begun i window s words same is (Err e) h = tt
+stream_begun i window s is (Err e) h = tt
 
 -- the channels of a plan that is not wide have eight bits
 narrow_source : (plan : Plan) (inputs : Inputs) (source : Source) → plan.wide ≡ false → IsSourceOf (plan_value plan) inputs source → All (λ channel. channel < 256) source.channels
@@ -106,6 +106,5 @@ narrow_source plan inputs source narrow is =
     subst (All (λ channel. channel < 256)) (sym same) (λ k d lt. let h = low k d lt in omega arith)
 
 -- so its stream is sealed
-pub sealed_plan : (r : PlanReading) (s : PayloadStream) (words : List Word) → r.plan.wide ≡ false → words ≡ s.words.items → IsStreamOfPlan (reading_value r) s → AreSealed words
-sealed_plan r s words narrow same is =
-    subst AreSealed (sym same) (streams_are_sealed is.source s.words.items (narrow_source r.plan (inputs_value r.inputs) is.source narrow is.is_source) is.is.stream)
+pub sealed_plan : (r : PlanReading) (s : PayloadStream) → r.plan.wide ≡ false → IsStreamOfPlan (reading_value r) s → AreSealed s.words
+sealed_plan r s narrow is = streams_are_sealed is.source s.words (narrow_source r.plan (inputs_value r.inputs) is.source narrow is.is_source) is.is.stream

@@ -7,9 +7,9 @@ use Rattle.link_plan.specs.declared.error.PlanError.{PlanError}
 use Rattle.stream_model.specs.BurstStream.{Source, IsBurstStream}
 use Rattle.run_shell.specs.Meaning.{IsMeaning}
 use Rattle.run_shell.specs.Outcome.{Outcome}
-use Rattle.run_shell.specs.Reading.{IsWork}
+use Rattle.run_shell.specs.Work.{IsWork}
 use Rattle.run_shell.proofs.Works.{is_meaning}
-use Rattle.run_shell.proofs.Readings.{behind_ok}
+use Rattle.run_stops.proofs.Readings.{behind_ok}
 use Rattle.plan_inputs.specs.Inputs.{plan_in, inputs_in}
 use Rattle.plan_inputs.specs.Sources.{IsSourceOf}
 use Rattle.plan_inputs.proofs.SomeSource.{some_source}

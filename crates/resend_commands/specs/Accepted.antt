@@ -9,7 +9,7 @@ use Rattle.retransmit.specs.Pieces.{Piece, IsCutInto}
 use Rattle.retransmit.specs.Resending.{Setting, State, accepted_after}
 use Rattle.retransmit.specs.Rows.{events_of}
 use Rattle.run_shell.specs.Outcome.{Outcome}
-use Rattle.run_shell.specs.Reading.{IsWork}
+use Rattle.run_shell.specs.Work.{IsWork}
 use Rattle.resend_commands.specs.Resent.{outcome_of, state_of, accepted_words}
 use Rattle.resend_commands.specs.Plan.{ResendReading, IsPlanResent}
 use Rattle.resend_commands.specs.Reading.{resend_in}

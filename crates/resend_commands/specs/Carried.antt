@@ -11,11 +11,11 @@ use Rattle.resend_events.specs.declared.event.Event.{Event}
 use Rattle.plan_inputs.specs.Inputs.{Reading}
 use Rattle.plan_inputs.specs.Sources.{IsSourceOf}
 use Rattle.run_shell.specs.declared.status.Status.TheVariants.{Done}
-use Rattle.run_shell.specs.declared.stop.Stop.{Stop}
+use Rattle.run_stops.specs.declared.stop.Stop.{Stop}
 use Rattle.run_shell.specs.Outcome.{Outcome, HoldsPart}
 use Rattle.run_shell.specs.Open.{Open}
 use Rattle.run_shell.specs.Outputs.{outs, open_names, IsOpen}
-use Rattle.stream_commands.specs.Outputs.{words_name}
+use Rattle.run_shell.specs.Names.{words_name}
 use Rattle.resend_commands.specs.Resent.{accepted_words, state_line}
 use Rattle.resend_commands.specs.Plan.{ResendReading, IsPlanResent}
 

@@ -1,8 +1,8 @@
 -- What `resend FILE` means.
 use Rattle.std.specs.Prelude.{◌≡◌, ℕ, List}
 use Rattle.run_shell.specs.Meaning.{Meaning}
-use Rattle.run_shell.specs.Reading.{Work, meaning_by}
-use Rattle.stream_commands.specs.Outputs.{words_name}
+use Rattle.run_shell.specs.Work.{Work, meaning_by}
+use Rattle.run_shell.specs.Names.{words_name}
 use Rattle.resend_commands.specs.Plan.{ResendReading, IsPlanResent}
 use Rattle.resend_commands.specs.Reading.{resend_in, IsResendRead}
 

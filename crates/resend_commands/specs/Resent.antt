@@ -9,7 +9,7 @@ use Rattle.retransmit.specs.Rows.{events_of}
 use Rattle.resend_events.specs.declared.event.Event.{Event}
 use Rattle.run_shell.specs.declared.status.Status.TheVariants.{Done}
 use Rattle.run_shell.specs.Outcome.{Outcome}
-use Rattle.stream_commands.specs.Outputs.{words_name}
+use Rattle.run_shell.specs.Names.{words_name}
 
 -- the state of these pieces, with this window, after the events of these rows
 abbrev pub state_of : List Piece → ℕ → List (Event × ℕ) → State

@@ -2,7 +2,7 @@
 ghost use Rattle.std.specs.Prelude.{◌≡◌, ◌+◌, ◌<◌, ◌≤◌, ◌^◌, [], ◌∷◌, length, replicate, Contains, OnOk, Option};
 ghost use Rattle.lk_outside.specs.Files.{Files};
 ghost use Rattle.retransmit.specs.Rows.{count_of, events_of};
-ghost use Rattle.run_shell.specs.Stops.{StopCount, StoreStops};
+ghost use Rattle.run_stops.specs.Stops.{StopCount, StoreStops};
 ghost use Rattle.run_shell.specs.Outputs.{Differ, open_names, IsOpen, Grown};
 ghost use Rattle.resend_commands.specs.Carried.{accepted_file, events_done};
 
@@ -10,7 +10,8 @@ use crate::words::do_event;
 use lk_outside::Store;
 use resend_events::Event;
 use retransmit::Resend;
-use run_shell::{Outputs, Stop};
+use run_shell::Outputs;
+use run_stops::Stop;
 use std::alloc::Global;
 
 // Does an event n times, and gives the one output the words of the pieces that are accepted, as they are. They take the room

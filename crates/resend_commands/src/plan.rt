@@ -3,7 +3,7 @@ ghost use Rattle.std.specs.Prelude.{◌≡◌, ◌<◌, ◌≤◌, ◌^◌, fals
 ghost use Rattle.lk_outside.specs.Files.{Files};
 ghost use Rattle.link_plan.specs.Listing.{numbers_of};
 ghost use Rattle.plan_inputs.specs.Values.{inputs_value, reading_value, FitPlan};
-ghost use Rattle.run_shell.specs.Stops.{StopCount, StoreStops};
+ghost use Rattle.run_stops.specs.Stops.{StopCount, StoreStops};
 ghost use Rattle.run_shell.specs.Outputs.{Differ, open_names, IsOpen, blank};
 ghost use Rattle.retransmit.specs.Rows.{count_of};
 ghost use Rattle.resend_commands.specs.Carried.{IsBegun, FilledWords, line_of};
@@ -15,7 +15,8 @@ use lk_outside::Store;
 use plan_inputs::PlanReading;
 use resend_events::Event;
 use retransmit::Resend;
-use run_shell::{Outputs, Stop};
+use run_shell::Outputs;
+use run_stops::Stop;
 use std::alloc::Global;
 use stream_commands::plan_stream;
 

@@ -5,8 +5,8 @@ ghost use Rattle.link_plan.specs.Views.{plan_value};
 ghost use Rattle.plan_inputs.specs.Inputs.{rows_in};
 ghost use Rattle.plan_inputs.specs.Values.{inputs_value, FitPlan};
 ghost use Rattle.resend_events.specs.Events.{events_of, count_of, most_events};
-ghost use Rattle.run_shell.specs.Reading.{Reads};
-ghost use Rattle.run_shell.specs.Stops.{StopCount};
+ghost use Rattle.run_stops.specs.Reading.{Reads};
+ghost use Rattle.run_stops.specs.Stops.{StopCount};
 ghost use Rattle.resend_commands.specs.Reading.{refusal_of, resend_plan_in, resend_in, events_in, IsResendRead};
 ghost use Rattle.resend_commands.specs.Values.{resend_value};
 
@@ -15,7 +15,7 @@ use lk_base::ROWS_LIMIT;
 use lk_outside::Store;
 use plan_inputs::{PlanReading, read_inputs, read_plan_file, rows_stop};
 use resend_events::{Event, read_events};
-use run_shell::{Stop, read_input};
+use run_stops::{Stop, read_input};
 use std::alloc::Global;
 
 /// A plan with its inputs, and the rows of its events.

@@ -4,7 +4,7 @@ ghost use Rattle.lk_base.specs.declared.word.Word.{Word as SentWord};
 ghost use Rattle.lk_outside.specs.Files.{Files};
 ghost use Rattle.words_files.specs.WordsFile.{words_file};
 ghost use Rattle.retransmit.specs.Carried.{Carried};
-ghost use Rattle.run_shell.specs.Stops.{StopCount, StoreStops};
+ghost use Rattle.run_stops.specs.Stops.{StopCount, StoreStops};
 ghost use Rattle.run_shell.specs.Outputs.{Differ, open_names, IsOpen, Grown};
 ghost use Rattle.resend_commands.specs.Carried.{accepted_file, events_done};
 
@@ -12,7 +12,8 @@ use lk_base::Word;
 use lk_outside::Store;
 use resend_events::Event;
 use retransmit::Resend;
-use run_shell::{Outputs, Stop};
+use run_shell::Outputs;
+use run_stops::Stop;
 use std::alloc::Global;
 use words_files::append_words;
 

@@ -2,28 +2,22 @@
 ghost use Rattle.std.specs.Prelude.{◌≡◌, ◌<◌, ◌≤◌, ◌^◌, [], ◌∷◌, false, map, string_bytes, IfOk};
 ghost use Rattle.link_plan.specs.Listing.{numbers_of};
 ghost use Rattle.plan_inputs.specs.Values.{inputs_value, reading_value, FitPlan};
-ghost use Rattle.run_shell.specs.Stops.{StopCount};
+ghost use Rattle.run_stops.specs.Stops.{StopCount};
 ghost use Rattle.run_shell.specs.Outputs.{Differ};
 ghost use Rattle.run_shell.specs.Writing.{Writes};
 ghost use Rattle.retransmit.specs.Rows.{count_of};
-ghost use Rattle.stream_commands.specs.Outputs.{words_name};
+ghost use Rattle.run_shell.specs.Names.{words_name};
 ghost use Rattle.resend_commands.specs.Plan.{IsPlanResent};
 
 use crate::plan::fill_words;
 use lk_outside::Store;
 use plan_inputs::PlanReading;
 use resend_events::Event;
-use run_shell::{Finished, Outputs, Stop};
+use run_shell::{Finished, Outputs, words_name};
+use run_stops::Stop;
 use std::alloc::{AllocError, Global};
 
-// The name of the words file of this prefix.
-fn words_name(alloc: Global, prefix: &str) -> Result<String, AllocError>
-    ensures { IfOk result (λ s. string_bytes s ≡ words_name prefix.now) }
-{
-    format!(in alloc; "{prefix}.words")
-}
-
-// That name, as the only one.
+// The name of the words file of this prefix, as the only one.
 fn output_names(alloc: Global, prefix: &str) -> Result<Vec<String>, AllocError>
     ensures names { IfOk result (λ v. map string_bytes v.items ≡ words_name prefix.now ∷ []) }
     ensures differ { IfOk result (λ v. Differ (map string_bytes v.items)) }

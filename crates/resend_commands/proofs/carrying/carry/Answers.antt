@@ -1,7 +1,7 @@
 use Rattle.std.proofs.Common.{◌<◌, ◌^◌, ◌∙◌, ◌+◌, refl, sym, ap, subst, arith, replicate, get_or, take, drop, List, ℕ, [], ◌∷◌, Contains, Err}
 use Rattle.std.proofs.lemmas.Result.{err_from_is_err_and}
 use Rattle.std.proofs.lemmas.List.{take_all}
-use Rattle.run_shell.specs.Stops.{StoreStops, StopCount}
+use Rattle.run_stops.specs.Stops.{StoreStops, StopCount}
 use Rattle.run_shell.specs.Outputs.{IsOpen, Differ}
 use Rattle.resend_events.specs.declared.event.Event.{Event}
 use Rattle.resend_events.specs.declared.event.Event.TheVariants.{Send}

@@ -1,7 +1,7 @@
 use Rattle.std.proofs.Common.{◌<◌, ◌^◌, ◌∙◌, ◌-◌, ◌+◌, ◌≡◌, sym, ap, subst, arith, replicate, List, ℕ, [], ◌∷◌, Contains, Err}
 use Rattle.std.proofs.lemmas.Result.{err_from_is_err_and}
 use Rattle.std.proofs.lemmas.List.{replicate-append-replicate}
-use Rattle.run_shell.specs.Stops.{StoreStops, StopCount}
+use Rattle.run_stops.specs.Stops.{StoreStops, StopCount}
 use Rattle.run_shell.specs.Outputs.{IsOpen, Differ}
 use Rattle.resend_events.specs.declared.event.Event.{Event}
 use Rattle.retransmit.proofs.Runs.{list_more, replicate_more}

@@ -1,6 +1,6 @@
 use Rattle.std.proofs.Common.{◌∙◌, refl, sym, ap, subst, arith, List, ℕ, [], ◌∷◌}
 use Rattle.std.proofs.lemmas.Result.{err_from_is_err_and}
-use Rattle.run_shell.specs.declared.stop.Stop.TheVariants as stop
+use Rattle.run_stops.specs.declared.stop.Stop.TheVariants as stop
 use Rattle.run_shell.specs.Outputs.{IsOpen}
 use Rattle.retransmit.specs.Rows.{events_of}
 use Rattle.plan_inputs.specs.Values.{reading_value}

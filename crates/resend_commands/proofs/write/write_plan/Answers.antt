@@ -3,9 +3,9 @@ use Rattle.std.proofs.lemmas.Result.{err_from_is_err_and}
 use Rattle.std.proofs.lemmas.List.{length-map}
 use Rattle.plan_inputs.specs.Values.{reading_value}
 use Rattle.run_shell.specs.Open.{Open}
-use Rattle.run_shell.specs.Stops.{StopCount}
+use Rattle.run_stops.specs.Stops.{StopCount}
 use Rattle.run_shell.specs.Outputs.{IsOpen, blank}
-use Rattle.stream_commands.specs.Outputs.{words_name}
+use Rattle.run_shell.specs.Names.{words_name}
 use Rattle.resend_commands.specs.Plan.{ResendReading}
 use Rattle.resend_commands.proofs.Filling.{no_names, not_created, not_filled, all_filled, whole_begins}
 use Rattle.resend_commands.proofs.write.write_plan.Goals as goal

@@ -2,14 +2,14 @@ use Rattle.std.proofs.Common.{subst, List, ℕ, IfSome, Err, [], ◌∷◌, stri
 use Rattle.std.proofs.lemmas.Result.{err_from_is_err_and}
 use Rattle.lk_outside.specs.Files.{Told}
 use Rattle.run_shell.specs.Outcome.{LeavesOthers}
-use Rattle.run_shell.specs.Stops.{Comes}
+use Rattle.run_shell.specs.Ends.{Comes}
 use Rattle.run_shell.specs.Writing.{Writes}
 use Rattle.plan_inputs.specs.Values.{reading_value}
 use Rattle.resend_events.specs.declared.event.Event.{Event}
 use Rattle.run_shell.proofs.Writing.{writes_comes, writes_leaves}
-use Rattle.run_shell.proofs.Readings.{reading_ends}
-use Rattle.stream_commands.proofs.OutputNames.{one_name}
-use Rattle.stream_commands.specs.Outputs.{words_name}
+use Rattle.run_shell.proofs.Works.{reading_ends}
+use Rattle.run_shell.proofs.OutputNames.{one_name}
+use Rattle.run_shell.specs.Names.{words_name}
 use Rattle.resend_commands.specs.Reading.{IsResendRead}
 use Rattle.resend_commands.specs.Values.{resend_value}
 use Rattle.resend_commands.specs.Plan.{IsPlanResent}
