@@ -1,0 +1,26 @@
+-- The slots of a group.
+use Rattle.std.proofs.Common.{ℕ, ◌≡◌, sym, ap, ◌∙◌, subst, ◌+◌, ◌*◌, ◌/◌, ◌%◌, ◌<◌, refl, Some, None, arith}
+use Rattle.lk_base.specs.declared.position.Pos.{Pos}
+use Rattle.lk_base.specs.Link.{Settings, IsLink, group_of}
+use Rattle.link_replay.specs.Places.{AreOwn, IsGroupSlot, IsSlot, place_of}
+use Rattle.link_replay.proofs.Numbers.{metaframe-few, places-own, slot-at, slot-below, step-times, whole-below}
+
+group-some : (s : Settings) → IsLink s → 0 < group_of s
+group-some s link = (let few = metaframe-few s link in let long = link.metaframe.0 in omega (arith, few, long))
+
+pub places_own : (s : Settings) (skew : ℕ) → IsLink s → AreOwn (place_of s skew)
+places_own s skew link = (let long = link.metaframe.0 in places-own skew (67 * s.metaframe) (group_of s) (omega (arith, long)) (group-some s link))
+
+pub slot_none : (s : Settings) (skew count : ℕ) (at : Pos) → IsLink s → count % group_of s ≡ 0 → IsGroupSlot s count skew at.group None → IsSlot (place_of s skew) count at None
+slot_none s skew count at link whole none = λ n below e. (
+    let w = whole-below (group_of s) count n (group-some s link) whole below in
+    let g : at.group ≡ skew + 67 * s.metaframe * (n / group_of s) = ap (λ (p : Pos). p.group) e in
+    none (n / group_of s) w.0 (g ∙ step-times skew (n / group_of s) s.metaframe))
+
+pub slot_some : (s : Settings) (skew count first : ℕ) (at : Pos) → at.index < group_of s → IsGroupSlot s count skew at.group (Some first) → IsSlot (place_of s skew) count at (Some (first + at.index))
+slot_some s skew count first at inside g =
+    let m = g.0 in
+    let e : first + at.index ≡ m * group_of s + at.index = ap (λ k. k + at.index) g.2 in (
+      subst (λ k. k < count) (sym e) (slot-below (group_of s) count m at.index inside g.1.0),
+      slot-at at skew s.metaframe (group_of s) (group_of s) m refl g.1.1 inside ∙ ap (place_of s skew) (sym e),
+    )

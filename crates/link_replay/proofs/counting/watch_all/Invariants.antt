@@ -1,0 +1,12 @@
+-- Turn by turn.
+use Rattle.std.proofs.Common.{◌≡◌, ◌-◌, ◌+◌, map}
+use Rattle.receiver_model.specs.Fed.{longest, whole}
+use Rattle.link_replay.specs.Fronts.{IsTurn, Received}
+use Rattle.link_replay.proofs.Turns.{Turn}
+use Rattle.link_replay.proofs.counting.watch_all.Given as goal
+
+abbrev pub invariant-loop-front : goal.invariant-loop-front
+invariant-loop-front l = (r : Received) → r.lanes ≡ map (λ b. b.items) l.received → IsTurn r 0 l.sent l.fn.front l.fn.watch → Turn r l.at l.sent l.front l.watch
+
+abbrev pub decreases-loop-front : goal.decreases-loop-front
+decreases-loop-front l = longest (map whole (map (λ b. b.items) l.received)) + 1 - l.at

@@ -1,0 +1,17 @@
+-- The first words were taken.
+use Rattle.std.proofs.Common.{ℕ, ◌≡◌, ◌≤◌, ◌+◌, List, ◌++◌, take}
+use Rattle.lk_base.specs.declared.word.Aligned.{Aligned}
+use Rattle.lk_base.specs.Positions.{words_from}
+use Rattle.epoch_model.specs.SoFar.{LaneSoFar}
+use Rattle.link_replay.specs.Standing.{IsSame, Watches}
+use Rattle.link_replay.proofs.watch.Watch.words.Given as goal
+
+abbrev pub invariant-loop-word : goal.invariant-loop-word
+invariant-loop-word l = record {
+  index : l.index ≡ l.fn.at.index + l.word-index;
+  same : IsSame l.fn.self l.self;
+  skew : l.self.skew ≡ l.fn.self.skew;
+  room : l.self.stretches ≤ l.fn.self.stretches + l.word-index;
+  watches : (lanes : List LaneSoFar) (locks : ℕ → List ℕ) (items : List Aligned) → Watches l.fn.self l.sent lanes locks items →
+      Watches l.self l.sent lanes locks (items ++ words_from l.fn.at.group l.fn.at.index (take l.word-index l.words));
+}

@@ -1,0 +1,163 @@
+ghost use Rattle.std.specs.Prelude.{◌≡◌, ◌≤◌, ◌%◌, ◌<◌, ◌^◌, ◌+◌, ◌++◌, ◌∷◌, [], ℕ, List, IfOk, IfSome, OnOk, length};
+ghost use Rattle.std.specs.List.{cons_option};
+ghost use Rattle.lk_base.specs.Link.{group_of};
+ghost use Rattle.lk_base.specs.Positions.{words_from};
+ghost use Rattle.lk_base.specs.declared.word.Aligned.{Aligned as Item};
+ghost use Rattle.lk_base.specs.declared.word.Word.{Word as SentWord};
+ghost use Rattle.epoch_model.specs.SoFar.{LaneSoFar};
+ghost use Rattle.rx_front.specs.Locks.{declared_at};
+ghost use Rattle.link_replay.specs.Groups.{starts_of};
+ghost use Rattle.link_replay.specs.Lanes.{HaveFew, strange_sum};
+ghost use Rattle.link_replay.specs.Standing.{IsSame, ShowsItem, TakesWord, TellsGroup, TellsItem, Watches, skews_of, with_break, with_group};
+
+use crate::counts::Accidents;
+use crate::group::is_sent_group;
+use crate::lane::Lane;
+use crate::lanes::{fresh_lanes, note_locks, strange_locks};
+use crate::places::{group_slot, made, slot_in};
+use crate::stretch::Stretch;
+use lk_base::{Aligned, Link, OutOfMemory, Pos, RxWord};
+use rx_front::Front;
+use std::alloc::Global;
+use std::marker::Model;
+use word_list::WordList;
+
+/// What is counted of the front of a receiver that is not the sender's.
+#[derive(Drop)]
+pub struct Watch {
+    link: Link,
+    /// Lane 0's skew.
+    skew: u32,
+    lanes: Vec<Lane>,
+    stretch: Stretch,
+    groups: u64,
+    stretches: u64,
+}
+
+impl Model for Watch {
+    ghost use Rattle.link_replay.specs.Standing.{Watch as WatchModel};
+
+    ghost Value = { WatchModel };
+
+    ghost view = { λ a. record { settings = a.link; skew = a.skew; lanes = a.lanes.items; stretch = a.stretch; groups = a.groups; stretches = a.stretches } };
+}
+
+impl Watch {
+    /// Nothing came. There are as many skews as lanes.
+    pub fn make(alloc: Global, link: &Link, skews: &[u32]) -> Result<Watch, OutOfMemory>
+        requires { length skews.now ≡ link.now.lanes }
+        ensures same { IfOk result (λ v. (v.settings ≡ link.now) × (skews_of v.lanes ≡ skews.now)) }
+        ensures watches { IfOk result (λ v. (words : List SentWord) (lanes : List LaneSoFar) (locks : ℕ → List ℕ) →
+            length words % group_of link.now ≡ 0 → ((i : ℕ) → locks i ≡ []) → Watches v words lanes locks []) }
+    {
+        // The settings of a link are within their limits.
+        link.keeps_limits();
+        let lanes = fresh_lanes(alloc, skews)?;
+        Ok(Watch {
+            link: *link,
+            skew: skews[0],
+            lanes,
+            stretch: Stretch::make(alloc),
+            groups: 0,
+            stretches: 0,
+        })
+    }
+
+    /// The locks come that the front's lanes declared at the bit that its clock passed last.
+    pub fn locks(&mut self, front: &Front, sent: &WordList)
+        requires there { length self.old.lanes ≤ length front.now.lanes }
+        requires most { length self.old.lanes ≤ 64 }
+        requires few { HaveFew self.old.lanes }
+        ensures same { IsSame self.old self.new }
+        ensures watches { (lanes : List LaneSoFar) (before now : ℕ → List ℕ) (items : List Item) → ((i : ℕ) → now i ≡ before i ++ cons_option (declared_at i front.now) []) →
+            Watches self.old sent.now lanes before items → Watches self.new sent.now lanes now items }
+    {
+        let made = made(&self.link, sent);
+        note_locks(&mut self.lanes, &self.link, made, front);
+    }
+
+    // Counts the group that the front gave last, which has this name, where its Syncs are not of one number.
+    fn group(&mut self, front: &Front, sent: &WordList, name: u64)
+        requires room { self.old.groups < 2 ^ 63 }
+        requires there { length self.old.lanes ≤ length front.now.lanes }
+        requires told { TellsGroup self.old name (starts_of front.now) }
+        ensures { self.new ≡ with_group sent.now (starts_of front.now) self.old }
+    {
+        if !is_sent_group(&self.lanes, &self.link, sent, self.skew, front, name) {
+            self.groups += 1;
+        }
+    }
+
+    // Takes the next word, which stands at this slot, if at one, and counts the stretch that ends with it, where it passes and is
+    // no sent one.
+    fn word(
+        &mut self,
+        sent: &WordList,
+        slot: Option<usize>,
+        word: RxWord,
+    ) -> Result<(), OutOfMemory>
+        requires slot { IfSome slot (λ n. n < length sent.now) }
+        requires room { self.old.stretches < 2 ^ 63 }
+        ensures { OnOk result (TakesWord self.old self.new sent.now slot word) }
+    {
+        let strange = self.stretch.word(sent, slot, word)?;
+        if strange {
+            self.stretches += 1;
+        }
+        Ok(())
+    }
+
+    /// Takes words that stand one after another in a group, the first of them at this place.
+    pub fn words(&mut self, sent: &WordList, at: Pos, words: &[RxWord]) -> Result<(), OutOfMemory>
+        requires room { self.old.stretches + length words.now < 2 ^ 63 }
+        ensures same { OnOk result (IsSame self.old self.new) }
+        ensures watches { OnOk result ((lanes : List LaneSoFar) (locks : ℕ → List ℕ) (items : List Item) →
+            Watches self.old sent.now lanes locks items → Watches self.new sent.now lanes locks (items ++ words_from at.group at.index words.now)) }
+    {
+        let size = self.link.group_words();
+        let first = group_slot(&self.link, sent, self.skew, at.group);
+        let mut index = at.index as u64;
+        for word in words {
+            self.word(sent, slot_in(first, size, index), *word)?;
+            index += 1;
+        }
+        Ok(())
+    }
+
+    /// Takes the next item. Where it is a group, the front has given none since.
+    pub fn item(&mut self, front: &Front, sent: &WordList, item: Aligned) -> Result<(), OutOfMemory>
+        requires groups { self.old.groups < 2 ^ 63 }
+        requires stretches { self.old.stretches + 1 < 2 ^ 63 }
+        requires there { length self.old.lanes ≤ length front.now.lanes }
+        requires told { TellsItem self.old item (starts_of front.now) }
+        ensures same { OnOk result (IsSame self.old self.new) }
+        ensures watches { OnOk result ((lanes : List LaneSoFar) (locks : ℕ → List ℕ) (items : List Item) → ShowsItem self.old.settings lanes item (starts_of front.now) →
+            Watches self.old sent.now lanes locks items → Watches self.new sent.now lanes locks (items ++ item ∷ [])) }
+    {
+        match item {
+            Aligned::Group(at) => {
+                self.group(front, sent, at.group);
+                Ok(())
+            }
+            Aligned::Word(at, word) => self.words(sent, at, &[word]),
+            Aligned::Break(_, _) => {
+                self.stretch.begin(None);
+                Ok(())
+            }
+        }
+    }
+
+    /// The counts so far.
+    pub fn counts(&self) -> Accidents
+        requires { strange_sum self.now.lanes < 2 ^ 64 }
+        ensures locks { result.locks ≡ strange_sum self.now.lanes }
+        ensures groups { result.groups ≡ self.now.groups }
+        ensures stretches { result.stretches ≡ self.now.stretches }
+    {
+        Accidents {
+            locks: strange_locks(&self.lanes),
+            groups: self.groups,
+            stretches: self.stretches,
+        }
+    }
+}
