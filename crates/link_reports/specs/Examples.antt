@@ -6,15 +6,8 @@ use Rattle.receive_model.specs.Events.{word_events, shown_spans}
 use Rattle.receive_model.specs.Rows.{channel0, whole, flipped, bad}
 use Rattle.lk_base.specs.declared.word.RxWord.{RxWord}
 use Rattle.lock_model.specs.declared.types.LaneReport.{LaneReport}
-use Rattle.link_plan.specs.declared.error.PlanError.TheVariants as refusal
-use Rattle.link_plan.specs.declared.error.Key.TheVariants as key
-use Rattle.pcap_files.specs.declared.error.PcapError.TheVariants as capture
-use Rattle.word_text.specs.declared.error.TextError.TheVariants as listing
-use Rattle.link_reports.specs.declared.faults.InputError.TheVariants as cause
-use Rattle.link_reports.specs.declared.faults.Fault.TheVariants as fault
 use Rattle.link_reports.specs.declared.replay.Missing.{Missing}
 use Rattle.link_reports.specs.Lines.{line_end, sent_line, slots_line, got_line, spans_line, dropped_line, held_line, count_line, lane_line, accidents_line, missing_line, resend_line, end_line}
-use Rattle.link_reports.specs.Faults.{fault_line, input_line, store_line}
 use Rattle.link_reports.specs.Drops.{drop_counts}
 use Rattle.link_reports.specs.Table.{span_table}
 
@@ -71,22 +64,3 @@ pub record WorkedTexts : Type 0 where
   pub silent_lane : lane_line 1 silent ≡ line (codes "lane 1 locks=0 first=- lost=0 unframed=2 bad=0 sync=0 state=0 diag=0") []
   pub accidents : accidents_line 1 2 3 ≡ line (codes "accidents locks=1 groups=2 stretches=3") []
   pub missing : missing_line lost_packet ≡ line (codes "missing channel=1 packet=0 first=112 last=185 span=1") []
-  pub usage : fault_line fault.Usage ≡ line (codes "usage: interlaken COMMAND FILE, or interlaken generate NUMBER PREFIX") []
-  pub no_plan : fault_line (fault.Plan refusal.NoFile) ≡ line (codes "plan refused: no file") []
-  pub faulty_row : fault_line (fault.Plan (refusal.Clash 3)) ≡ line (codes "plan refused: row 3: clash") []
-  pub missing_key : fault_line (fault.Plan (refusal.Missing key.Metaframe)) ≡ line (codes "plan refused: missing metaframe") []
-  pub missing_samples : fault_line (fault.Plan (refusal.Missing key.Oob)) ≡ line (codes "plan refused: missing oob") []
-  pub missing_events : fault_line (fault.Plan (refusal.Missing key.Events)) ≡ line (codes "plan refused: missing events") []
-  pub missing_plan : fault_line (fault.Plan (refusal.Missing key.Plan)) ≡ line (codes "plan refused: missing plan") []
-  pub missing_delay : fault_line (fault.Plan (refusal.Missing key.Delay)) ≡ line (codes "plan refused: missing delay") []
-  pub missing_mark : fault_line (fault.Plan (refusal.Missing key.Mark)) ≡ line (codes "plan refused: missing mark") []
-  pub missing_slots : fault_line (fault.Plan (refusal.Missing key.Slots)) ≡ line (codes "plan refused: missing slots") []
-  pub no_lanes : input_line (codes "p.plan") (cause.Rows (refusal.Missing key.Lanes)) ≡ line (codes "input refused: p.plan: missing lanes") []
-  pub cut_capture : input_line (codes "a.pcap") (cause.Pcap (capture.Short 24)) ≡ line (codes "input refused: a.pcap: short at 24") []
-  pub faulty_flow : input_line (codes "f") (cause.Rows (refusal.Number 2)) ≡ line (codes "input refused: f: row 2: number") []
-  pub no_head : input_line (codes "a.txt") (cause.Text listing.Head) ≡ line (codes "input refused: a.txt: head") []
-  pub wrong_line : input_line (codes "a.txt") (cause.Text (listing.Line 12)) ≡ line (codes "input refused: a.txt: line 12") []
-  pub no_whole_bytes : input_line (codes "a.txt") (cause.Text listing.Length) ≡ line (codes "input refused: a.txt: length") []
-  pub bad_sample : input_line (codes "o.oob") (cause.Samples 11) ≡ line (codes "input refused: o.oob: sample at 11") []
-  pub store : store_line (codes "a.pcap.words") ≡ line (codes "store fault: a.pcap.words") []
-  pub memory : fault_line fault.OutOfMemory ≡ line (codes "out of memory") []

@@ -3,7 +3,7 @@ use Rattle.std.proofs.Common.{◌⊎◌, inl, inr, ◌≡◌, ◌+◌, ◌<◌, 
 use Rattle.lk_base.specs.declared.word.RxWord.{RxWord}
 use Rattle.words_files.specs.WordsOfFile.{words_of_file}
 use Rattle.words_files.specs.declared.error.WordsError.{WordsError}
-use Rattle.word_text.specs.declared.error.TextError.{TextError}
+use Rattle.words_files.specs.declared.text_error.TextError.{TextError}
 use Rattle.word_text.specs.CodeLines.{rest_lines}
 use Rattle.word_text.specs.Listings.{IsListing}
 use Rattle.word_text.specs.Refusals.{IsRefusedFor}
@@ -13,8 +13,8 @@ use Rattle.word_text.proofs.UniqueLanes.{lane-once, lane-listing-cut, lane-one-t
 use Rattle.word_text.proofs.Causes.{one-bytes, refused-never, one-cause}
 use Rattle.word_text.proofs.HasListing.{words-listing, lane-has-listing}
 use Rattle.word_text.proofs.Verdict.{verdict}
-use Rattle.link_reports.specs.declared.faults.InputError.{InputError}
-use Rattle.link_reports.specs.declared.faults.InputError.TheVariants.{Words, Text}
+use Rattle.run_stops.specs.declared.faults.InputError.{InputError}
+use Rattle.run_stops.specs.declared.faults.InputError.TheVariants.{Words, Text}
 use Rattle.run_shell.specs.Meaning.{IsMeaning}
 use Rattle.listing_commands.specs.Conversion.{IsConversion}
 use Rattle.listing_commands.specs.Listing.{is_words_name, IsTextOfWords, IsTextOfLane, RefusesWords, IsTextOf, RefusesListed, listing_of, list_meaning}

@@ -1,19 +1,20 @@
 -- A command that makes one file of another: its meaning is lawful, and its stops and ends are those of the meaning.
 use Rattle.std.proofs.Common.{◌≡◌, ◌⊎◌, ℕ, zero, suc, Bool, true, false, List, [], ◌∷◌, refl, sym, ◌∙◌, ap, subst, Option, Some, None, IfSome, Result, Ok, Err, MatchResult, inl, inr, Contains, nat_lt, length, if◌then◌else◌, string_bytes, arith}
 use Rattle.lk_outside.specs.Files.{Files, file, AreBytes, Told}
-use Rattle.link_reports.specs.declared.faults.InputError.{InputError}
-use Rattle.link_reports.specs.declared.faults.InputError.TheVariants as refused
+use Rattle.run_stops.specs.declared.faults.InputError.{InputError}
+use Rattle.run_stops.specs.declared.faults.InputError.TheVariants as refused
 use Rattle.run_shell.specs.declared.status.Status.{Status}
-use Rattle.run_shell.specs.declared.stop.Stop.{Stop}
-use Rattle.run_shell.specs.declared.stop.Stop.TheVariants as stop
-use Rattle.run_shell.specs.declared.stop.Finished.{Finished}
+use Rattle.run_stops.specs.declared.stop.Stop.{Stop}
+use Rattle.run_stops.specs.declared.stop.Stop.TheVariants as stop
+use Rattle.run_shell.specs.declared.finished.Finished.{Finished}
 use Rattle.run_shell.specs.Outcome.{Outcome, Holds, LeavesOthers}
 use Rattle.run_shell.specs.Meaning.{Cause, of_input, of_none, IsMeaning}
-use Rattle.run_shell.specs.Stops.{Comes, Ends, Answers, held_status}
-use Rattle.run_shell.specs.Reading.{Refusal, refused_outcome, IsOfInputs, Reads, IsOfInput, bytes_by, bytes_in, vec_items}
-use Rattle.run_shell.specs.Reading as reading
+use Rattle.run_shell.specs.Ends.{Comes, Ends, Answers, held_status}
+use Rattle.run_stops.specs.Reading.{Refusal, Reads, IsOfInput, bytes_by, bytes_in, vec_items}
+use Rattle.run_shell.specs.Work.{refused_outcome, IsOfInputs}
+use Rattle.run_stops.specs.Reading as reading
 use Rattle.run_shell.specs.Writing.{Fills, Writes}
-use Rattle.run_shell.proofs.Moves.{told_refl, if_told_by}
+use Rattle.run_stops.proofs.Moves.{told_refl, if_told_by}
 use Rattle.run_shell.proofs.Works.{store_stops, untouched}
 use Rattle.listing_commands.specs.Conversion.{Conversion, made_outcome, IsAccepted, IsRefused, Converts, CreatesBy, conversion_meaning, IsConversion, Gives}
 

@@ -2,11 +2,11 @@
 use Rattle.std.proofs.Common.{◌≡◌, ℕ, List, [], ◌++◌, refl, sym, ap, ◌∙◌, subst, Result, Ok, Err}
 use Rattle.words_files.specs.WordsOfFile.{words_of_file}
 use Rattle.words_files.specs.declared.error.WordsError.{WordsError}
-use Rattle.word_text.specs.declared.error.TextError.{TextError}
+use Rattle.words_files.specs.declared.text_error.TextError.{TextError}
 use Rattle.word_text.specs.declared.error.WordsAt.{WordsAt}
 use Rattle.word_text.specs.Refusals.{IsRefusedFor}
 use Rattle.word_text.specs.Answers.{words_error, ListsWords, AnswersWords, ListsLane, Assembles}
-use Rattle.link_reports.specs.declared.faults.InputError.TheVariants.{Words}
+use Rattle.run_stops.specs.declared.faults.InputError.TheVariants.{Words}
 use Rattle.listing_commands.specs.Listing.{IsTextOfWords, IsTextOfLane, RefusesWords}
 
 behind-none : (old new text : List ℕ) → old ≡ [] → new ≡ old ++ text → new ≡ text

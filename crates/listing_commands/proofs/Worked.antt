@@ -3,10 +3,10 @@ use Rattle.std.proofs.Common.{inr, ◌+◌, [], ◌∷◌, ◌++◌, length, ref
 use Rattle.std.specs.Fmt.{digits}
 use lib.Chars.{codes}
 use Rattle.lk_outside.specs.Files.{file}
-use Rattle.word_text.specs.declared.error.TextError.TheVariants.{Line}
+use Rattle.words_files.specs.declared.text_error.TextError.TheVariants.{Line}
 use Rattle.word_text.specs.CodeLines.{rest_lines}
 use Rattle.word_text.proofs.WorkedTexts.{one-byte, second-spelling}
-use Rattle.link_reports.specs.declared.faults.InputError.TheVariants.{Text}
+use Rattle.run_stops.specs.declared.faults.InputError.TheVariants.{Text}
 use Rattle.listing_commands.specs.Listing.{listing_of}
 use Rattle.listing_commands.specs.Assembling.{assembling_of}
 use Rattle.listing_commands.specs.Worked.{lane_text, second_text, OneByteListed, OneByteAssembled, SecondSpellingRefused}

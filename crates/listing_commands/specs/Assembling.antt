@@ -3,9 +3,9 @@ use Rattle.std.specs.Prelude.{◌≡◌, ℕ, List, ◌++◌, length}
 use lib.Chars.{codes}
 use Rattle.word_text.specs.Listings.{IsListing}
 use Rattle.word_text.specs.Refusals.{IsRefusedFor}
-use Rattle.word_text.specs.declared.error.TextError.{TextError}
-use Rattle.link_reports.specs.declared.faults.InputError.{InputError}
-use Rattle.link_reports.specs.declared.faults.InputError.TheVariants.{Text}
+use Rattle.words_files.specs.declared.text_error.TextError.{TextError}
+use Rattle.run_stops.specs.declared.faults.InputError.{InputError}
+use Rattle.run_stops.specs.declared.faults.InputError.TheVariants.{Text}
 use Rattle.run_shell.specs.Meaning.{Meaning}
 use Rattle.listing_commands.specs.Limits.{text_limit}
 use Rattle.listing_commands.specs.Conversion.{Conversion, conversion_meaning}

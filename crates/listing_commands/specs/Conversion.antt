@@ -1,14 +1,15 @@
 -- A command that makes one file of another: it reads a file whole, and creates one file of its bytes or refuses them. What is
 -- made and what is refused are relations.
 use Rattle.std.specs.Prelude.{◌≡◌, ◌<◌, ◌^◌, ◌⊎◌, ℕ, All, List, [], ◌∷◌, MatchResult, Result, Ok, Err}
-use Rattle.link_reports.specs.declared.faults.InputError.{InputError}
+use Rattle.run_stops.specs.declared.faults.InputError.{InputError}
 use Rattle.link_reports.specs.Lines.{count_line}
 use Rattle.run_shell.specs.declared.status.Status.TheVariants.{Done}
-use Rattle.run_shell.specs.declared.stop.Stop.{Stop}
-use Rattle.run_shell.specs.declared.stop.Stop.TheVariants as stop
+use Rattle.run_stops.specs.declared.stop.Stop.{Stop}
+use Rattle.run_stops.specs.declared.stop.Stop.TheVariants as stop
 use Rattle.run_shell.specs.Outcome.{Outcome}
 use Rattle.run_shell.specs.Meaning.{Meaning}
-use Rattle.run_shell.specs.Reading.{of_input, refused_outcome, IsOfInputs, bytes_in, IsOfInput}
+use Rattle.run_stops.specs.Reading.{of_input, bytes_in, IsOfInput}
+use Rattle.run_shell.specs.Work.{refused_outcome, IsOfInputs}
 use Rattle.listing_commands.specs.declared.conversion.Made.{Made}
 
 pub record Conversion : Type 1 where

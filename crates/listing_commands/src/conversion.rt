@@ -1,6 +1,6 @@
 //! One file becomes another.
 ghost use Rattle.std.specs.Prelude.{◌≡◌, ◌<◌, ◌^◌, ◌++◌, [], ◌∷◌, IfOk, string_bytes};
-ghost use Rattle.run_shell.specs.Stops.{StopCount};
+ghost use Rattle.run_stops.specs.Stops.{StopCount};
 ghost use Rattle.run_shell.specs.Writing.{Writes};
 ghost use Rattle.link_reports.specs.Lines.{count_line};
 ghost use Rattle.listing_commands.specs.Conversion.{made_outcome};
@@ -8,7 +8,8 @@ ghost use Rattle.listing_commands.specs.Conversion.{made_outcome};
 use link_reports::count_line;
 use lk_base::OutOfMemory;
 use lk_outside::Store;
-use run_shell::{Finished, Stop, deliver};
+use run_shell::{Finished, deliver};
+use run_stops::Stop;
 use std::alloc::{AllocError, Global};
 
 /// What was made of the bytes of a file.

@@ -1,14 +1,14 @@
 //! `list FILE`.
 ghost use Rattle.std.specs.Prelude.{◌≡◌, ℕ};
-ghost use Rattle.run_shell.specs.Stops.{StopCount};
+ghost use Rattle.run_stops.specs.Stops.{StopCount};
 ghost use Rattle.listing_commands.specs.Conversion.{Gives};
 ghost use Rattle.listing_commands.specs.Listing.{is_words_name, IsTextOfWords, IsTextOfLane, RefusesWords, IsTextOf, RefusesListed};
 
 use crate::conversion::{Made, write_made};
 use crate::limits::LISTED_LIMIT;
-use link_reports::InputError;
 use lk_outside::Store;
-use run_shell::{Command, Finished, Stop, input_stop, read_input};
+use run_shell::{Command, Finished};
+use run_stops::{InputError, Stop, input_stop, read_input};
 use std::alloc::Global;
 use std::marker::Model;
 use word_text::{list_lane, list_words};

@@ -16,8 +16,8 @@ use Rattle.link_plan.specs.declared.error.Key.{Key}
 use Rattle.link_plan.specs.declared.error.PlanError.{PlanError}
 use Rattle.link_plan.proofs.Links.{settings-limits, burst_min-whole, min-below, window-range}
 use Rattle.link_plan.proofs.Whole.{KeepsValue, listed-fit, value-keeps}
-use Rattle.run_shell.specs.Reading.{plan_bytes}
-use Rattle.run_shell.proofs.Readings.{behind_ok}
+use Rattle.run_stops.specs.Reading.{plan_bytes}
+use Rattle.run_stops.proofs.Readings.{behind_ok}
 use Rattle.stream_model.specs.BurstStream.{Source}
 use Rattle.plan_inputs.specs.Inputs.{Inputs, plan_by, plan_in, numbers_in}
 use Rattle.plan_inputs.specs.Sources.{IsShapeOf, IsSourceOf}

@@ -5,7 +5,7 @@ use Rattle.run_shell.specs.Outcome.{HoldsPart}
 use Rattle.run_shell.specs.Open.{Open}
 use Rattle.run_shell.specs.Outputs.{IsOpen, Prefixes, more, open_names, outs}
 use Rattle.run_shell.proofs.Fills.{given_prefixes, part_more, prefix_part}
-use Rattle.run_shell.proofs.Moves.{told_by}
+use Rattle.run_stops.proofs.Moves.{told_by}
 
 pub whole_begins : (xs : List (List ℕ)) → Prefixes xs xs
 whole_begins [] = tt

@@ -4,7 +4,7 @@ ghost use Rattle.lk_base.specs.Limits.{longest_packet};
 ghost use Rattle.lk_outside.specs.Files.{Files};
 ghost use Rattle.pcap_files.specs.Written.{record_bytes};
 ghost use Rattle.reassembly.specs.OutputLaws.{HasSize};
-ghost use Rattle.run_shell.specs.Stops.{StopCount, StoreStops};
+ghost use Rattle.run_stops.specs.Stops.{StopCount, StoreStops};
 ghost use Rattle.run_shell.specs.Outputs.{Differ, IsOpen, Grown, more, open_names};
 ghost use Rattle.receipts.specs.declared.receipt.ChannelReceipt.{ChannelReceipt as Count};
 ghost use Rattle.receipts.specs.Counts.{with_packet};
@@ -14,7 +14,8 @@ use crate::receipt::ChannelReceipt;
 use lk_base::OutOfMemory;
 use lk_outside::Store;
 use pcap_files::write_packet;
-use run_shell::{Outputs, Stop};
+use run_shell::Outputs;
+use run_stops::Stop;
 use std::alloc::Global;
 
 // The record of a packet in a capture.

@@ -1,17 +1,17 @@
 -- Outputs that are filled one after another with contents that were made before.
 use Rattle.std.proofs.Common.{◌≡◌, ℕ, zero, suc, ◌<◌, ◌≤◌, ◌+◌, arith, List, [], ◌∷◌, ◌++◌, length, map, take, drop, get_or, refl, rules, sym, ap, ◌∙◌, subst, inl, inr, Option, Some, None, IfSome, IsSome, Result, Err, Ok, Contains}
 use Rattle.std.proofs.lemmas.List.{length-map, take-append-drop}
-use Rattle.run_shell.specs.declared.stop.Stop.{Stop}
-use Rattle.run_shell.specs.declared.stop.Finished.{Finished}
+use Rattle.run_stops.specs.declared.stop.Stop.{Stop}
+use Rattle.run_shell.specs.declared.finished.Finished.{Finished}
 use Rattle.lk_outside.specs.Files.{Files, file, Told}
 use Rattle.run_shell.specs.Outcome.{Outcome, Holds, HoldsPart}
-use Rattle.run_shell.specs.Stops.{StoreStops}
+use Rattle.run_stops.specs.Stops.{StoreStops}
 use Rattle.run_shell.specs.Open.{Open}
 use Rattle.run_shell.specs.Outputs.{Differ, Extends, AppendedBy, outs, blank, Prefixes, more, open_names, in_turn, FilledAll, FilledInTurn}
 use Rattle.run_shell.specs.Writing.{Writes, Begin, delivered}
 use Rattle.run_shell.proofs.Creating.{named}
 use Rattle.run_shell.proofs.Fills.{blank_prefixes, grows, part_more, prefix_part, stands_at}
-use Rattle.run_shell.proofs.Moves.{told_by, told_then}
+use Rattle.run_stops.proofs.Moves.{told_by, told_then}
 use Rattle.run_shell.proofs.Writing.{stop_writes, done_writes}
 
 -- so many of the outputs were given their contents

@@ -1,19 +1,20 @@
 -- What the work came to, as an ending.
 use Rattle.std.proofs.Common.{◌≡◌, ◌⊎◌, ℕ, Bool, true, false, List, refl, sym, subst, ◌∙◌, [], Option, Some, None, IfSome, Ok, Err, inl, inr}
-use Rattle.link_reports.specs.Faults.{usage_line, memory_line}
+use Rattle.run_stops.specs.Faults.{usage_line, memory_line}
 use Rattle.run_shell.specs.declared.status.Status.{Status}
 use Rattle.run_shell.specs.declared.status.Status.TheVariants.{Usage, OutOfMemory}
-use Rattle.run_shell.specs.declared.stop.Stop.{Stop}
-use Rattle.run_shell.specs.declared.stop.Stop.TheVariants as stop
-use Rattle.run_shell.specs.declared.stop.Finished.{Finished}
+use Rattle.run_stops.specs.declared.stop.Stop.{Stop}
+use Rattle.run_stops.specs.declared.stop.Stop.TheVariants as stop
+use Rattle.run_shell.specs.declared.finished.Finished.{Finished}
 use Rattle.lk_outside.specs.Files.{Files, Told}
 use Rattle.run_shell.specs.Outcome.{Outcome, Holds, HoldsPart, LeavesOthers}
 use Rattle.run_shell.specs.Meaning.{Meaning, Cause, IsLawful, IsMeaning, of_words, of_plan, of_input, of_held, of_none}
-use Rattle.run_shell.specs.Stops.{StoreCount, StopCount, Ends, Comes, stop_status, stop_text, is_of_store, held_status}
+use Rattle.run_stops.specs.Stops.{StoreCount, StopCount, stop_text, is_of_store}
+use Rattle.run_shell.specs.Ends.{Ends, Comes, stop_status, held_status}
 use Rattle.run_shell.specs.Run.{TellsStore}
 use Rattle.run_shell.specs.Ended.{Ended}
 use Rattle.run_shell.specs.Ending.{IsEnding, IsEndingOf, IsMisused, IsNoMemory, misused, misused_meaning}
-use Rattle.run_shell.proofs.Moves.{told_refl, if_told_by}
+use Rattle.run_stops.proofs.Moves.{told_refl, if_told_by}
 use Rattle.run_shell.proofs.Runs.{ends_part}
 use Rattle.run_shell.proofs.Works.{untouched}
 

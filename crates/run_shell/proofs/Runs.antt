@@ -5,14 +5,15 @@ use Rattle.std.specs.Str.{bytes_eq}
 use Rattle.run_shell.specs.declared.status.Status.{Status}
 use Rattle.run_shell.specs.declared.status.Status.TheVariants.{Done, StoreFault, Usage, Held, PlanRefused, InputRefused, OutOfMemory, SinkFault}
 use Rattle.lk_outside.specs.Files.{Files, file, Told}
-use Rattle.link_reports.specs.Faults.{store_line}
+use Rattle.run_stops.specs.Faults.{store_line}
 use Rattle.run_shell.specs.Outcome.{Output, Outcome, IsFault, IsAnswer, Holds, HoldsPart, content_of, cut}
 use Rattle.run_shell.specs.Meaning.{Meaning}
-use Rattle.run_shell.specs.Stops.{StoreCount, Ends, Answers}
+use Rattle.run_stops.specs.Stops.{StoreCount}
+use Rattle.run_shell.specs.Ends.{Ends, Answers}
 use Rattle.run_shell.specs.Run.{TellsStore, Says, said, cut_off, no_memory, sink_failed, AddsPart, AddsAll, Found, Settles, Tells, IsText}
 use Rattle.run_shell.specs.Ended.{Ended}
 use Rattle.run_shell.specs.Ending.{IsEnding, Ran}
-use Rattle.run_shell.proofs.Moves.{told_by, if_told_by}
+use Rattle.run_stops.proofs.Moves.{told_by, if_told_by}
 use Rattle.run_shell.proofs.Causes.{plan_only, plan_always, input_only, input_always, held_only, held_always, done_always}
 
 -- the whole contents are prefixes too

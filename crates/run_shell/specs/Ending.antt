@@ -1,15 +1,16 @@
 -- How the work of a command ends, and all that stands after a run.
 use Rattle.std.specs.Prelude.{false, ◌≡◌, ◌⊎◌, ℕ, ◌<◌, ◌+◌, ◌≤◌, List, [], Option, IfSome}
-use Rattle.link_reports.specs.Faults.{usage_line, memory_line}
+use Rattle.run_stops.specs.Faults.{usage_line, memory_line}
 use Rattle.lk_outside.specs.Files.{Files, Told}
 use Rattle.run_shell.specs.declared.status.Status.{Status}
 use Rattle.run_shell.specs.declared.status.Status.TheVariants.{Done, StoreFault, Usage, Held, PlanRefused, InputRefused, OutOfMemory, SinkFault}
 use Rattle.run_shell.specs.declared.ending.Said.{Said}
 use Rattle.run_shell.specs.declared.ending.Said.TheVariants.{Made, NoMemory}
-use Rattle.run_shell.specs.declared.stop.Stop.{Stop}
+use Rattle.run_stops.specs.declared.stop.Stop.{Stop}
 use Rattle.run_shell.specs.Outcome.{Outcome, IsFault, IsAnswer, LeavesOthers}
 use Rattle.run_shell.specs.Meaning.{Meaning, IsLawful}
-use Rattle.run_shell.specs.Stops.{StoreCount, Ends, stop_status, stop_text, is_of_store}
+use Rattle.run_stops.specs.Stops.{StoreCount, stop_text, is_of_store}
+use Rattle.run_shell.specs.Ends.{Ends, stop_status}
 use Rattle.run_shell.specs.Run.{TellsStore, Found, Settles, Tells}
 use Rattle.run_shell.specs.Ended.{Ended}
 

@@ -1,15 +1,16 @@
 //! Outputs whose contents are made before they are created.
 ghost use Rattle.std.specs.Prelude.{◌≡◌, ◌<◌, ◌^◌, map, length, Contains, string_bytes};
 ghost use Rattle.lk_outside.specs.Files.{Told};
-ghost use Rattle.run_shell.specs.Stops.{StopCount, StoreStops};
-ghost use Rattle.run_shell.specs.Reading.{vec_items};
+ghost use Rattle.run_stops.specs.Stops.{StopCount, StoreStops};
+ghost use Rattle.run_stops.specs.Reading.{vec_items};
 ghost use Rattle.run_shell.specs.Outputs.{Differ, FilledAll, FilledInTurn};
 ghost use Rattle.run_shell.specs.Writing.{Writes, delivered};
 
 use crate::appending::append_all;
+use crate::finished::Finished;
 use crate::outputs::{Outputs, create_all};
-use crate::stop::{Finished, Stop};
 use lk_outside::Store;
+use run_stops::Stop;
 use std::alloc::Global;
 
 /// Creates the files of these names, which differ, and fills them with these contents, one for each. The work is finished so.

@@ -1,16 +1,16 @@
 //! How the work of a command ends, and the saying of its text.
 ghost use Rattle.std.specs.Prelude.{◌≡◌, ◌++◌, ◌<◌, ◌^◌, OnOk, IfOk};
-ghost use Rattle.run_shell.specs.Stops.{stop_status, stop_text, is_of_store, held_status};
+ghost use Rattle.run_stops.specs.Stops.{stop_text, is_of_store};
+ghost use Rattle.run_shell.specs.Ends.{stop_status, held_status};
 ghost use Rattle.run_shell.specs.Run.{Says, sink_failed};
 ghost use Rattle.run_shell.specs.Ending.{IsEndingOf, IsEnding, IsMisused, IsNoMemory};
-ghost use Rattle.link_reports.specs.Faults.{usage_line};
+ghost use Rattle.run_stops.specs.Faults.{usage_line};
 
 use crate::command::Command;
 use crate::status::Status;
-use crate::stop::Stop;
-use link_reports::{input_line, memory_line, plan_line, store_line, usage_line};
 use lk_base::OutOfMemory;
 use lk_outside::{Sink, Store, WriteError};
+use run_stops::{Stop, input_line, memory_line, plan_line, store_line, usage_line};
 use std::alloc::Global;
 use std::marker::Model;
 

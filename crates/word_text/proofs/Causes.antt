@@ -3,8 +3,8 @@ use Rattle.std.proofs.Common.{inl, inr, ◌≡◌, ℕ, ◌+◌, ◌*◌, ◌%�
 use Rattle.lane_model.proofs.FilesHold.{length-flat_map_bits}
 use Rattle.lane_model.specs.LaneBits.{bits_of_codes}
 use Rattle.std.proofs.Common.{length-append}
-use Rattle.word_text.specs.declared.error.TextError.{TextError}
-use Rattle.word_text.specs.declared.error.TextError.TheVariants.{Head, Line, Length}
+use Rattle.words_files.specs.declared.text_error.TextError.{TextError}
+use Rattle.words_files.specs.declared.text_error.TextError.TheVariants.{Head, Line, Length}
 use Rattle.word_text.specs.Lines.{ended, text_of}
 use Rattle.word_text.specs.CodeLines.{IsCodeLine, rest_lines}
 use Rattle.word_text.specs.Listings.{words_head, lane_head, IsWordsListing, IsLaneListing, IsListing}

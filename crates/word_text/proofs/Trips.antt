@@ -4,7 +4,7 @@ use Rattle.std.specs.List.{flat_map}
 use Rattle.lk_base.specs.declared.word.RxWord.{RxWord}
 use Rattle.words_files.specs.WordsOfFile.{words_of_file}
 use Rattle.word_text.specs.declared.error.WordsAt.{WordsAt}
-use Rattle.word_text.specs.declared.error.TextError.{TextError}
+use Rattle.words_files.specs.declared.text_error.TextError.{TextError}
 use Rattle.word_text.specs.declared.word.FileWord.{FileWord}
 use Rattle.word_text.specs.Lines.{ended}
 use Rattle.word_text.specs.WordLines.{nine_bytes}

@@ -7,8 +7,8 @@ use Rattle.std.specs.List.{flat_map}
 use Rattle.lk_base.specs.Checksum.{bits_of_bytes}
 use Rattle.lane_model.specs.LaneBits.{bits_of_codes}
 use Rattle.lane_model.proofs.FilesHold.{files_determined, length-flat_map_bits}
-use Rattle.word_text.specs.declared.error.TextError.{TextError}
-use Rattle.word_text.specs.declared.error.TextError.TheVariants.{Head, Line, Length}
+use Rattle.words_files.specs.declared.text_error.TextError.{TextError}
+use Rattle.words_files.specs.declared.text_error.TextError.TheVariants.{Head, Line, Length}
 use Rattle.word_text.specs.declared.word.FileWord.{FileWord}
 use Rattle.word_text.specs.Lines.{ended, text_of, AreLinesOf}
 use Rattle.word_text.specs.WordLines.{nine_bytes, IsWordLine, IsSized}

@@ -4,7 +4,7 @@ use lib.Chars.{codes}
 use Rattle.std.proofs.lemmas.List.Elements.{All-nil, All-cons}
 use Rattle.lk_base.specs.Checksum.{bits_of}
 use Rattle.lane_model.specs.LaneBits.{bits_of_codes}
-use Rattle.word_text.specs.declared.error.TextError.TheVariants.{Head, Line, Length}
+use Rattle.words_files.specs.declared.text_error.TextError.TheVariants.{Head, Line, Length}
 use Rattle.word_text.specs.declared.word.FileWord.TheVariants as file
 use Rattle.word_text.specs.Digits.{hex}
 use Rattle.word_text.specs.Lines.{ended}

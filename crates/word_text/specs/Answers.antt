@@ -6,7 +6,7 @@ use Rattle.words_files.specs.declared.error.WordsError.TheVariants as words
 use Rattle.words_files.specs.WordsOfFile.{words_of_file}
 use Rattle.word_text.specs.declared.error.WordsAt.{WordsAt}
 use Rattle.word_text.specs.declared.error.WordsAt.TheVariants as at
-use Rattle.word_text.specs.declared.error.TextError.{TextError}
+use Rattle.words_files.specs.declared.text_error.TextError.{TextError}
 use Rattle.word_text.specs.CodeLines.{rest_lines}
 use Rattle.word_text.specs.Listings.{IsWordsListing, IsLaneListing, IsListing}
 use Rattle.word_text.specs.Refusals.{IsRefusedFor}

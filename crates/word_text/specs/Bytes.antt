@@ -2,7 +2,7 @@
 use Rattle.std.specs.Prelude.{ℕ, ◌≡◌, ◌+◌, ◌<◌, ◌^◌, All, Result, Ok, Err, Bool, List, ◌∷◌, ◌++◌, length, take}
 use Rattle.lk_base.specs.Checksum.{bits_of_bytes}
 use Rattle.lane_model.specs.LaneBits.{bits_of_codes}
-use Rattle.word_text.specs.declared.error.TextError.{TextError}
+use Rattle.words_files.specs.declared.text_error.TextError.{TextError}
 use Rattle.word_text.specs.Lines.{ended, text_of, AreLinesOf}
 use Rattle.word_text.specs.CodeLines.{IsCodeLine}
 use Rattle.word_text.specs.Listings.{lane_head, IsListing}

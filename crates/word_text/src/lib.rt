@@ -18,7 +18,7 @@ mod texts;
 mod word;
 mod words_text;
 
-pub use error::{TextError, WordsAt};
+pub use error::WordsAt;
 pub use lane_list::list_lane;
 pub use law::{
     assembling_undoes_listing, examples, files_have_listings, lengths_of_listings,
@@ -26,3 +26,4 @@ pub use law::{
 };
 pub use list::list_words;
 pub use texts::assemble;
+pub use words_files::TextError;

@@ -3,6 +3,9 @@ ghost use Rattle.lk_base.specs.Checksum.{bits_of};
 
 use coding_67b::BitReader;
 
+// The bits of a code on a lane.
+pub const CODE_BITS: u32 = 67;
+
 // So many bits as a number, the first of them highest.
 #[derive(Clone, Copy)]
 pub struct Piece {
@@ -10,7 +13,7 @@ pub struct Piece {
     pub bits: u128,
 }
 
-// Takes the next 67 bits of a lane, or as many as are left.
+// Takes the bits of the next code of a lane, or as many as are left.
 pub fn next_piece(reader: &mut BitReader) -> Piece
     ensures count { result.count ≤ 67 }
     ensures below { result.bits < 2 ^ result.count }
@@ -18,11 +21,14 @@ pub fn next_piece(reader: &mut BitReader) -> Piece
     ensures all { result.count < 67 → reader.new ≡ [] }
 {
     let mut bits = 0u128;
-    for count in 0..67u32 {
+    for count in 0..CODE_BITS {
         match reader.bit() {
             Some(bit) => bits = bits << 1 | bit as u128,
             None => return Piece { count, bits },
         }
     }
-    Piece { count: 67, bits }
+    Piece {
+        count: CODE_BITS,
+        bits,
+    }
 }

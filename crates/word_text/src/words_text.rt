@@ -6,11 +6,11 @@ ghost use Rattle.word_text.specs.Bytes.{IsKept, PutsBytes};
 
 use crate::cut::first_line;
 use crate::digits::{put, put_byte};
-use crate::error::TextError;
 use crate::guess::word_of;
 use crate::word::FileWord;
 use lk_base::OutOfMemory;
 use std::alloc::Global;
+use words_files::TextError;
 
 // The first byte of a word.
 fn tag_of(word: FileWord) -> u8

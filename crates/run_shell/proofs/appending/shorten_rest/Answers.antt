@@ -1,6 +1,6 @@
 use Rattle.std.proofs.Common.{refl, sym, [], Err, ap, drop, ◌∙◌}
 use Rattle.std.proofs.lemmas.Result.{err_from_is_err_and}
-use Rattle.run_shell.specs.declared.stop.Stop.TheVariants as stop
+use Rattle.run_stops.specs.declared.stop.Stop.TheVariants as stop
 use Rattle.run_shell.proofs.Appends.{extends_none, of_equal, pieces_as}
 use Rattle.run_shell.proofs.appending.shorten_rest.Goals as goal
 

@@ -2,7 +2,7 @@ use Rattle.std.proofs.Common.{◌∙◌, ◌+◌, arith, sym, subst, map, List, 
 use Rattle.std.proofs.lemmas.Result.{err_from_is_err_and}
 use Rattle.run_shell.specs.Open.{Open}
 use Rattle.run_shell.specs.Outputs.{IsOpen, Grown, Closed, Differ}
-use Rattle.run_shell.specs.Reading.{vec_items}
+use Rattle.run_stops.specs.Reading.{vec_items}
 use Rattle.run_shell.proofs.Delivering.{next_filled, place_below, up_to, ends_filled, nothing_delivered, named_stops, named_ends, at_first}
 use Rattle.run_shell.proofs.delivery.deliver.Goals as goal
 

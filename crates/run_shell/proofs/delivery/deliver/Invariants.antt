@@ -1,6 +1,6 @@
 use Rattle.std.proofs.Common.{◌≡◌, map, string_bytes}
 use Rattle.run_shell.specs.Outputs.{IsOpen, open_names}
-use Rattle.run_shell.specs.Reading.{vec_items}
+use Rattle.run_stops.specs.Reading.{vec_items}
 use Rattle.run_shell.proofs.Delivering.{filled}
 use Rattle.run_shell.proofs.delivery.deliver.Given as goal
 

@@ -1,7 +1,7 @@
 use Rattle.std.proofs.Common.{◌∙◌, arith, sym, map, Err, string_bytes, Global}
 use Rattle.std.proofs.lemmas.List.{length-map}
 use Rattle.std.proofs.lemmas.Result.{err_from_is_err_and}
-use Rattle.run_shell.specs.Reading.{vec_items}
+use Rattle.run_stops.specs.Reading.{vec_items}
 use Rattle.run_shell.proofs.Creating.{named, named_at, stops_in}
 use Rattle.run_shell.proofs.Delivering.{below_names, in_turn_fills, none_filled, turn_on, turn_stops, turn_there, turns_begin, turns_end}
 use Rattle.run_shell.proofs.delivery.deliver_in_turn.Goals as goal

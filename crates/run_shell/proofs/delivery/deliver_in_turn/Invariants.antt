@@ -2,7 +2,7 @@ use Rattle.std.proofs.Common.{◌≡◌, map, string_bytes}
 use Rattle.lk_outside.specs.Files.{Told}
 use Rattle.run_shell.specs.Outcome.{Holds}
 use Rattle.run_shell.specs.Outputs.{outs}
-use Rattle.run_shell.specs.Reading.{vec_items}
+use Rattle.run_stops.specs.Reading.{vec_items}
 use Rattle.run_shell.proofs.Delivering.{filled}
 use Rattle.run_shell.proofs.delivery.deliver_in_turn.Given as goal
 

@@ -2,7 +2,7 @@ use Rattle.std.proofs.Common.{subst, List, ℕ, IfSome, Ok, Err}
 use Rattle.std.proofs.lemmas.Result.{err_from_is_err_and}
 use Rattle.lk_outside.specs.Files.{Told}
 use Rattle.run_shell.specs.Outcome.{LeavesOthers}
-use Rattle.run_shell.specs.Stops.{Comes}
+use Rattle.run_shell.specs.Ends.{Comes}
 use Rattle.listing_commands.specs.Conversion.{Gives}
 use Rattle.listing_commands.specs.Listing.{is_words_name, IsTextOf, RefusesListed, listing_of, list_meaning}
 use Rattle.listing_commands.proofs.Converting.{reading_stops, answer_stops, writes_comes, writes_leaves}

@@ -2,7 +2,7 @@ use Rattle.std.proofs.Common.{ℕ, List, ◌≡◌, ◌∙◌, refl, sym, ap, su
 use Rattle.std.proofs.lemmas.Result.{err_from_is_err_and}
 use Rattle.lk_outside.specs.Files.{file}
 use Rattle.run_shell.specs.Open.{Open}
-use Rattle.run_shell.specs.Stops.{StoreStops}
+use Rattle.run_stops.specs.Stops.{StoreStops}
 use Rattle.run_shell.proofs.Appends.{put_none}
 use Rattle.run_shell.proofs.outputs.OpenFile.flush.Goals as goal
 

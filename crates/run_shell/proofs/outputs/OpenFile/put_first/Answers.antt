@@ -2,7 +2,7 @@ use Rattle.std.proofs.Common.{ℕ, List, ◌≡◌, [], refl, sym, subst, ap, �
 use Rattle.std.proofs.lemmas.List.{append-nil}
 use Rattle.std.proofs.lemmas.Result.{err_from_is_err_and}
 use Rattle.run_shell.specs.Open.{Open}
-use Rattle.run_shell.specs.Stops.{StoreStops}
+use Rattle.run_stops.specs.Stops.{StoreStops}
 use Rattle.run_shell.proofs.Appends.{extends_none, put_none, put_shortened}
 use Rattle.run_shell.proofs.outputs.OpenFile.put_first.Goals as goal
 

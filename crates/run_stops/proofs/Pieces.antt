@@ -4,7 +4,7 @@ use Rattle.std.proofs.lemmas.Bool.{cases_Bool}
 use Rattle.std.proofs.lemmas.Bool.Decides.{nat_tests}
 use Rattle.lk_outside.specs.Files.{Files, file}
 use Rattle.lk_outside.specs.Reads as lk_reads
-use Rattle.run_shell.specs.Reading.{ReadsPiece, bytes_by, bytes_in}
+use Rattle.run_stops.specs.Reading.{ReadsPiece, bytes_by, bytes_in}
 
 module _ (name : List ℕ) (limit n : ℕ) (buf : List ℕ) (none : n ≡ 0) (room : 0 < length buf) where
   no_longer : (o : Option (List ℕ)) → IsSomeAnd o (λ bytes. lk_reads.Reads bytes limit n buf) → (bytes : List ℕ) × (bytes_by name limit o ≡ Ok bytes)

@@ -1,14 +1,13 @@
+//! Why an input is refused, and the lines of all that stops a run.
 ghost use Rattle.std.specs.Prelude.{◌≡◌, ◌++◌, OnOk, OnErr, IfOk, string_bytes};
-ghost use Rattle.link_reports.specs.Faults.{usage_line, input_line, plan_line, store_line, memory_line, fault_line};
+ghost use Rattle.run_stops.specs.Faults.{usage_line, input_line, plan_line, store_line, memory_line, fault_line};
 
-use crate::lines::put;
 use link_plan::PlanError;
 use lk_base::OutOfMemory;
 use pcap_files::PcapError;
 use std::alloc::{AllocError, Global};
 use std::fmt;
-use word_text::TextError;
-use words_files::WordsError;
+use words_files::{TextError, WordsError};
 
 /// Why an input is refused.
 #[derive(Clone, Copy, Debug, PartialEq, Eq)]
@@ -46,7 +45,7 @@ pub enum Fault {
 
 impl fmt::Display for InputError {
     ghost use Rattle.std.specs.Prelude.{Some};
-    ghost use Rattle.link_reports.specs.Faults.{why_text};
+    ghost use Rattle.run_stops.specs.Faults.{why_text};
 
     ghost output = { λ e. Some (why_text e) };
 
@@ -93,10 +92,10 @@ pub fn usage_line(out: &mut Vec<u8>) -> Result<(), OutOfMemory>
     ensures ok { OnOk result (out.new.items ≡ out.old.items ++ usage_line) }
     ensures err { OnErr result (out.new.items ≡ out.old.items) }
 {
-    put(
-        out,
+    out.extend_from_slice(
         b"usage: interlaken COMMAND FILE, or interlaken generate NUMBER PREFIX\n",
-    )
+    )?;
+    Ok(())
 }
 
 /// Appends the line of an input that is refused: its name and why. `out` is as before where memory runs out.
@@ -110,7 +109,8 @@ pub fn input_line(
     ensures err { OnErr result (out.new.items ≡ out.old.items) }
 {
     let text = refused_text(alloc, name, why)?;
-    put(out, text.as_bytes())
+    out.extend_from_slice(text.as_bytes())?;
+    Ok(())
 }
 
 /// Appends the line of a plan that is refused. `out` is as before where memory runs out.
@@ -119,7 +119,8 @@ pub fn plan_line(alloc: Global, out: &mut Vec<u8>, why: &PlanError) -> Result<()
     ensures err { OnErr result (out.new.items ≡ out.old.items) }
 {
     let text = plan_text(alloc, why)?;
-    put(out, text.as_bytes())
+    out.extend_from_slice(text.as_bytes())?;
+    Ok(())
 }
 
 /// Appends the line of a failed call of the store, with the name in that call. `out` is as before where memory runs out.
@@ -128,7 +129,8 @@ pub fn store_line(alloc: Global, out: &mut Vec<u8>, name: &str) -> Result<(), Ou
     ensures err { OnErr result (out.new.items ≡ out.old.items) }
 {
     let text = store_text(alloc, name)?;
-    put(out, text.as_bytes())
+    out.extend_from_slice(text.as_bytes())?;
+    Ok(())
 }
 
 /// Appends the line of a fault. `out` is as before where memory runs out.
@@ -141,6 +143,9 @@ pub fn fault_line(alloc: Global, out: &mut Vec<u8>, fault: &Fault) -> Result<(),
         Fault::Plan(why) => plan_line(alloc, out, why),
         Fault::Input(name, why) => input_line(alloc, out, name.as_str(), why),
         Fault::Store(name) => store_line(alloc, out, name.as_str()),
-        Fault::OutOfMemory => put(out, memory_line()),
+        Fault::OutOfMemory => {
+            out.extend_from_slice(memory_line())?;
+            Ok(())
+        }
     }
 }

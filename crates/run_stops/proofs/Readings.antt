@@ -1,11 +1,9 @@
 -- Readings one behind another, where the files are told.
-use Rattle.std.proofs.Common.{◌≡◌, ℕ, List, refl, sym, subst, Option, Some, None, IfSome, Result, Ok, Err, string_bytes}
-use Rattle.run_shell.specs.declared.stop.Stop.{Stop}
-use Rattle.run_shell.specs.declared.stop.Stop.TheVariants as stop
+use Rattle.std.proofs.Common.{◌≡◌, ℕ, List, ap, refl, sym, subst, Option, Some, None, IfSome, Result, Ok, Err, string_bytes}
+use Rattle.run_stops.specs.declared.stop.Stop.{Stop}
+use Rattle.run_stops.specs.declared.stop.Stop.TheVariants as stop
 use Rattle.lk_outside.specs.Files.{Files}
-use Rattle.run_shell.specs.Reading.{Refusal, behind, Reads, Work, meaning_by}
-use Rattle.run_shell.specs.Stops.{Comes}
-use Rattle.run_shell.proofs.Works.{behind_stops, behind_read, reading_stops}
+use Rattle.run_stops.specs.Reading.{Refusal, of_plan, of_input, behind, Reads}
 
 -- what was told of the files then is told of the files before, which are the same
 pub told_back : (P : Files → Type 0) (x y : Option Files) → y ≡ x → IfSome y P → IfSome x P
@@ -25,6 +23,19 @@ widened more named names (Err (stop.Store n)) answer are h = are (string_bytes n
 widened more named names (Err stop.StoreNoMemory) answer are h = h
 widened more named names (Err stop.OutOfMemory) answer are h = h
 
+module _ (A B T V : Type 0) (first : Result A Refusal) (next : A → Result B Refusal) where
+  -- the first was refused, or stopped
+  pub behind_stops : (value : T → A) (more : V → B) (named names : List ℕ → Type 0) (s : Stop) → ((q : List ℕ) → named q → names q) → Reads value named (Err s) first → Reads more names (Err s) (behind first next)
+  behind_stops value more named names (stop.Plan why) are h = subst (λ r. behind r next ≡ Err (of_plan why)) (sym h) refl
+  behind_stops value more named names (stop.Input n why) are h = subst (λ r. behind r next ≡ Err (of_input (string_bytes n) why)) (sym h) refl
+  behind_stops value more named names (stop.Store n) are h = are (string_bytes n) h
+  behind_stops value more named names stop.StoreNoMemory are h = tt
+  behind_stops value more named names stop.OutOfMemory are h = tt
+
+  -- the first was read
+  pub behind_read : (a : A) → first ≡ Ok a → behind first next ≡ next a
+  behind_read a is = ap (λ r. behind r next) is
+
 module _ (A B T U : Type 0) (first : Files → Result A Refusal) (next : Files → A → Result B Refusal) where
   abbrev Whole : Files → Result B Refusal
   Whole files = behind (first files) (next files)
@@ -40,8 +51,3 @@ module _ (A B T U : Type 0) (first : Files → Result A Refusal) (next : Files �
   second_reads more named names a r (Some u) y same are had h =
       let here : Reads more (named u) r (next u a) = subst (λ z. IfSome z (λ files. Reads more (named files) r (next files a))) same h in
       subst (λ w. Reads more (names u) r w) (sym (behind_read A B T U (first u) (next u) a had)) (widened more (named u) (names u) r (next u a) (λ q n. are u q had n) here)
-
--- a command's reading stopped at a file that it names, whichever files are there, with the files as they were
-pub reading_ends : (T : Type 0) (w : Work) (value : T → w.Inputs) (named : Files → List ℕ → Type 0) (s : Stop) (x y : Option Files) → y ≡ x → ((u : Files) (q : List ℕ) → named u q → w.Names u q) → IfSome x (λ files. Reads value (named files) (Err s) (w.inputs_in files)) → IfSome x (Comes (meaning_by w) x y (Err s))
-reading_ends T w value named s None y same are h = tt
-reading_ends T w value named s (Some u) y same are h = subst (λ z. Comes (meaning_by w) (Some u) z (Err s) u) (sym same) (reading_stops T w value (named u) s u (Some u) (are u) h)

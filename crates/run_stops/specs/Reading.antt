@@ -1,36 +1,19 @@
 -- Inputs of a command that are read one after another: all of them, or the first that is refused.
-use Rattle.std.specs.Prelude.{◌≡◌, ◌⊎◌, ℕ, List, [], length, nat_lt, Option, Some, None, IsSomeAnd, Result, Ok, Err, MatchResult, Vec, string_bytes, if◌then◌else◌}
+use Rattle.std.specs.Prelude.{◌≡◌, ℕ, List, length, nat_lt, Option, Some, None, IsSomeAnd, Result, Ok, Err, Vec, string_bytes, if◌then◌else◌}
 use Rattle.std.specs.declared.alloc.Global.{Global}
-use Rattle.link_reports.specs.declared.faults.InputError.{InputError}
-use Rattle.link_reports.specs.declared.faults.InputError.TheVariants as refused
+use Rattle.run_stops.specs.declared.faults.InputError.{InputError}
+use Rattle.run_stops.specs.declared.faults.InputError.TheVariants as refused
 use Rattle.link_plan.specs.declared.error.PlanError.{PlanError}
 use Rattle.link_plan.specs.declared.error.PlanError.TheVariants as plans
-use Rattle.link_reports.specs.Faults.{plan_line, input_line}
-use Rattle.lk_outside.specs.Files.{Files, file, AreBytes}
+use Rattle.lk_outside.specs.Files.{Files, file}
 use Rattle.lk_outside.specs.Reads as lk_reads
-use Rattle.run_shell.specs.declared.status.Status.TheVariants.{Done, Held, PlanRefused, InputRefused}
-use Rattle.run_shell.specs.declared.stop.Stop.{Stop}
-use Rattle.run_shell.specs.declared.stop.Stop.TheVariants as stop
-use Rattle.run_shell.specs.Outcome.{Outcome}
-use Rattle.run_shell.specs.Meaning.{Meaning}
+use Rattle.run_stops.specs.declared.stop.Stop.{Stop}
+use Rattle.run_stops.specs.declared.stop.Stop.TheVariants as stop
 
 -- why the inputs of a command are not had
 pub data Refusal : Type 0 where
   of_plan : PlanError → Refusal
   of_input : List ℕ → InputError → Refusal
-
--- what a refusal comes to: nothing is created
-abbrev pub refused_outcome : Refusal → Outcome
-refused_outcome (of_plan why) = record { status = PlanRefused; files = []; text = plan_line why }
-refused_outcome (of_input name why) = record { status = InputRefused; files = []; text = input_line name why }
-
-abbrev pub IsOfPlan : Refusal → Type 0
-IsOfPlan (of_plan why) = Unit {0}
-IsOfPlan (of_input name why) = ⊥
-
-abbrev pub IsOfInputs : Refusal → Type 0
-IsOfInputs (of_plan why) = ⊥
-IsOfInputs (of_input name why) = Unit {0}
 
 -- what is read next, behind what was read
 abbrev pub behind : {A B : Type 0} → Result A Refusal → (A → Result B Refusal) → Result B Refusal
@@ -52,38 +35,6 @@ plan_by limit (Some bytes) = if nat_lt limit (length bytes) then Err (of_plan pl
 
 abbrev pub plan_bytes : Files → List ℕ → ℕ → Result (List ℕ) Refusal
 plan_bytes files name limit = plan_by limit (file files name)
-
--- ---- a command by what it reads
-
-pub record Work : Type 1 where
-  -- what it reads
-  pub Inputs : Type 0
-  pub inputs_in : Files → Result Inputs Refusal
-  -- what it makes of its inputs, with `Done` or `Held`
-  pub IsMade : Inputs → Outcome → Type 0
-  -- bytes are left at the finish
-  pub IsHeld : Inputs → Type 0
-  -- the names that it creates, of its inputs
-  pub Creates : Inputs → List ℕ → Type 0
-  -- the names that it reads
-  pub Names : Files → List ℕ → Type 0
-
-abbrev pub meaning_by : Work → Meaning
-meaning_by w = record {
-  IsOutcome = λ files o. MatchResult (w.inputs_in files) (λ i. w.IsMade i o) (λ r. o ≡ refused_outcome r);
-  Creates = λ files q. MatchResult (w.inputs_in files) (λ i. w.Creates i q) (λ r. ⊥);
-  Names = λ files q. w.Names files q ⊎ MatchResult (w.inputs_in files) (λ i. w.Creates i q) (λ r. ⊥);
-  IsPlanRefused = λ files. MatchResult (w.inputs_in files) (λ i. ⊥) IsOfPlan;
-  IsInputRefused = λ files. MatchResult (w.inputs_in files) (λ i. ⊥) IsOfInputs;
-  IsHeld = λ files. MatchResult (w.inputs_in files) w.IsHeld (λ r. ⊥);
-}
-
--- what a work has to bring: one outcome of its inputs, where files hold bytes there is one, and it is held exactly where
--- bytes are left
-pub record IsWork (w : Work) : Type 0 where
-  pub one_made : (i : w.Inputs) (o p : Outcome) → w.IsMade i o → w.IsMade i p → o ≡ p
-  pub some_made : (files : Files) → AreBytes files → (i : w.Inputs) → w.inputs_in files ≡ Ok i → (o : Outcome) × w.IsMade i o
-  pub made_status : (i : w.Inputs) (o : Outcome) → w.IsMade i o → ((o.status ≡ Held) × w.IsHeld i) ⊎ ((o.status ≡ Done) × (w.IsHeld i → ⊥))
 
 -- ---- what reading came to
 

@@ -1,17 +1,18 @@
 -- The one line of a run that was stopped.
-use Rattle.std.specs.Prelude.{ℕ, List, ◌++◌, string_bytes}
+use Rattle.std.specs.Prelude.{ℕ, List, [], ◌∷◌, ◌++◌, string_bytes}
 use lib.Chars.{codes}
 use Rattle.std.specs.Fmt.{decimal}
 use Rattle.pcap_files.specs.Texts.{refusal_text}
-use Rattle.words_files.specs.Texts.{words_refusal_text}
-use Rattle.word_text.specs.Texts.{text_refusal_text}
+use Rattle.words_files.specs.Texts.{words_refusal_text, text_refusal_text}
 use Rattle.link_plan.specs.Texts.{refusal_text as rows_text}
 use Rattle.link_plan.specs.declared.error.PlanError.{PlanError}
-use Rattle.link_reports.specs.declared.faults.InputError.{InputError}
-use Rattle.link_reports.specs.declared.faults.InputError.TheVariants.{NoFile, TooLarge, Pcap, Words, Rows, Text, Samples}
-use Rattle.link_reports.specs.declared.faults.Fault.{Fault}
-use Rattle.link_reports.specs.declared.faults.Fault.TheVariants as fault
-use Rattle.link_reports.specs.Lines.{line_end}
+use Rattle.run_stops.specs.declared.faults.InputError.{InputError}
+use Rattle.run_stops.specs.declared.faults.Fault.{Fault}
+use Rattle.run_stops.specs.declared.faults.Fault.TheVariants as fault
+use Rattle.run_stops.specs.declared.faults.InputError.TheVariants.{NoFile, TooLarge, Pcap, Words, Rows, Text, Samples}
+
+abbrev pub line_end : List ℕ
+line_end = 10 ∷ []
 
 -- the name of the cause
 abbrev pub why_text : InputError → List ℕ

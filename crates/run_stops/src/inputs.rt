@@ -1,11 +1,11 @@
 //! The inputs of a run, read whole or in pieces.
 ghost use Rattle.std.specs.Prelude.{◌≡◌, ◌<◌, ◌≤◌, ◌^◌, length, IfOk, IfSome, vec_len};
-ghost use Rattle.run_shell.specs.Stops.{StopCount};
-ghost use Rattle.run_shell.specs.Reading.{Probes, Reads, ReadsPiece, bytes_in, plan_bytes, vec_items};
+ghost use Rattle.run_stops.specs.Stops.{StopCount};
+ghost use Rattle.run_stops.specs.Reading.{Probes, Reads, ReadsPiece, bytes_in, plan_bytes, vec_items};
 
+use crate::faults::InputError;
 use crate::stop::{Stop, input_stop, store_stop};
 use link_plan::PlanError;
-use link_reports::InputError;
 use lk_outside::{ReadError, Store, WholeError, read_whole};
 use std::alloc::Global;
 

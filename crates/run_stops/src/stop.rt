@@ -1,21 +1,12 @@
-//! What the work of a command came to: its end, or why it stopped.
+//! Why the work of a command stopped.
 ghost use Rattle.std.specs.Prelude.{◌≡◌, true};
-ghost use Rattle.run_shell.specs.Stops.{IsOfStore, is_of_store};
-ghost use Rattle.run_shell.specs.Reading.{IsOfInput};
+ghost use Rattle.run_stops.specs.Stops.{IsOfStore, is_of_store};
+ghost use Rattle.run_stops.specs.Reading.{IsOfInput};
 
+use crate::faults::InputError;
 use link_plan::PlanError;
-use link_reports::InputError;
 use lk_base::OutOfMemory;
 use std::alloc::{AllocError, AllocFailed, Global};
-
-/// What a command came to where nothing stopped it.
-#[derive(Drop)]
-pub struct Finished {
-    /// Whether bytes were left at the finish of the stream.
-    pub held: bool,
-    /// The text that the command prints.
-    pub text: Vec<u8>,
-}
 
 /// What stopped a command.
 #[derive(Debug, Drop)]
@@ -34,7 +25,7 @@ pub enum Stop {
 
 impl From<OutOfMemory> for Stop {
     ghost use Rattle.std.specs.Prelude.{◌≡◌};
-    ghost use Rattle.run_shell.specs.declared.stop.Stop.TheVariants as stop;
+    ghost use Rattle.run_stops.specs.declared.stop.Stop.TheVariants as stop;
 
     ghost from_gives = { λ _ e. e ≡ stop.OutOfMemory };
 
@@ -45,7 +36,7 @@ impl From<OutOfMemory> for Stop {
 
 impl From<AllocError> for Stop {
     ghost use Rattle.std.specs.Prelude.{◌≡◌};
-    ghost use Rattle.run_shell.specs.declared.stop.Stop.TheVariants as stop;
+    ghost use Rattle.run_stops.specs.declared.stop.Stop.TheVariants as stop;
 
     ghost from_gives = { λ _ e. e ≡ stop.OutOfMemory };
 
@@ -56,7 +47,7 @@ impl From<AllocError> for Stop {
 
 impl<T: Drop> From<AllocFailed<T>> for Stop {
     ghost use Rattle.std.specs.Prelude.{◌≡◌};
-    ghost use Rattle.run_shell.specs.declared.stop.Stop.TheVariants as stop;
+    ghost use Rattle.run_stops.specs.declared.stop.Stop.TheVariants as stop;
 
     ghost from_gives = { λ _ e. e ≡ stop.OutOfMemory };
 

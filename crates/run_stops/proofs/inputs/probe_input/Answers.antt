@@ -1,10 +1,10 @@
 use Rattle.std.proofs.Common.{◌≡◌, ◌<◌, ◌∙◌, ℕ, subst, arith, length, IfSome, Ok, Err}
 use Rattle.std.proofs.lemmas.Bool.Decides.{nat_tests}
 use Rattle.std.proofs.lemmas.Result.{err_from_is_err_and}
-use Rattle.run_shell.specs.Reading.{ReadsPiece}
-use Rattle.run_shell.specs.Stops.{StopCount}
-use Rattle.run_shell.proofs.Pieces.{no_byte_past}
-use Rattle.run_shell.proofs.inputs.probe_input.Goals as goal
+use Rattle.run_stops.specs.Reading.{ReadsPiece}
+use Rattle.run_stops.specs.Stops.{StopCount}
+use Rattle.run_stops.proofs.Pieces.{no_byte_past}
+use Rattle.run_stops.proofs.inputs.probe_input.Goals as goal
 
 pub returns-clause-probes : goal.returns-clause-probes
 returns-clause-probes g c =

@@ -1,0 +1,2 @@
+pub mod TwentyDigits
+pub mod Reading

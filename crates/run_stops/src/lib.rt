@@ -1,0 +1,14 @@
+//! Why the work of a command stops, each cause with its line, and inputs read whole or in pieces.
+#![tactic(auto)]
+
+mod faults;
+mod inputs;
+mod law;
+mod stop;
+
+pub use faults::{
+    Fault, InputError, fault_line, input_line, memory_line, plan_line, store_line, usage_line,
+};
+pub use inputs::{probe_input, read_input, read_piece, read_plan};
+pub use law::worked_lines;
+pub use stop::{Stop, input_stop, store_stop};
