@@ -1,10 +1,10 @@
 //! Commands over a store in memory, and what stands there then.
 ghost use Rattle.std.specs.Prelude.{◌<◌, ◌^◌};
 
-use link_reports::{Fault, fault_line};
 use lk_base::OutOfMemory;
 use lk_outside::MemStore;
-use run_shell::{Command, Stop};
+use run_shell::Command;
+use run_stops::{Fault, Stop, fault_line};
 use std::alloc::Global;
 
 // The fault that stopped a command.

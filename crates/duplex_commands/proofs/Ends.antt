@@ -18,11 +18,12 @@ use Rattle.duplex.specs.Duplexes.{IsGiven}
 use Rattle.duplex.specs.declared.duplex.Duplex.{Duplex}
 use Rattle.duplex.proofs.Opens.{is_run}
 use Rattle.duplex.proofs.Given.{all_came}
-use Rattle.run_shell.specs.declared.stop.Stop.{Stop}
-use Rattle.run_shell.specs.declared.stop.Stop.TheVariants as stop
-use Rattle.run_shell.specs.declared.stop.Finished.{Finished}
+use Rattle.run_stops.specs.declared.stop.Stop.{Stop}
+use Rattle.run_stops.specs.declared.stop.Stop.TheVariants as stop
+use Rattle.run_shell.specs.declared.finished.Finished.{Finished}
 use Rattle.run_shell.specs.Outcome.{Output, Outcome, Holds, HoldsPart}
-use Rattle.run_shell.specs.Stops.{IsOfStore, StoreStops, held_status}
+use Rattle.run_stops.specs.Stops.{IsOfStore, StoreStops}
+use Rattle.run_shell.specs.Ends.{held_status}
 use Rattle.run_shell.specs.Outputs.{outs, open_names}
 use Rattle.run_shell.specs.Writing.{Writes, Begin}
 use Rattle.run_shell.proofs.Writing.{stop_writes, done_writes}

@@ -9,11 +9,11 @@ use Rattle.receive_model.specs.Pieces.{Packet}
 use Rattle.receive_model.specs.Events.{Event, Delivered, is_rising}
 use Rattle.reassembly.specs.Settings.{is_among}
 use Rattle.pcap_files.specs.Written.{header_bytes, record_bytes}
-use Rattle.run_shell.specs.declared.stop.Stop.{Stop}
-use Rattle.run_shell.specs.declared.stop.Stop.TheVariants as stop
+use Rattle.run_stops.specs.declared.stop.Stop.{Stop}
+use Rattle.run_stops.specs.declared.stop.Stop.TheVariants as stop
 use Rattle.run_shell.specs.Outcome.{HoldsPart}
 use Rattle.run_shell.specs.Open.{Open}
-use Rattle.run_shell.specs.Stops.{StoreStops}
+use Rattle.run_stops.specs.Stops.{StoreStops}
 use Rattle.run_shell.specs.Outputs.{Differ, Grown, IsOpen, Prefixes, more, open_names, outs}
 use Rattle.receipts.specs.declared.receipt.ChannelReceipt.{ChannelReceipt}
 use Rattle.receipts.specs.Received.{capture_name, packets_on}
@@ -27,7 +27,7 @@ use Rattle.receipts.proofs.Receiving.{apart_all, numbers_counted}
 use Rattle.receipts.proofs.Putting.{open_part, whole_begins}
 use Rattle.receipts.proofs.Making.{captures_begin}
 use Rattle.run_shell.proofs.Fills.{part_more}
-use Rattle.run_shell.proofs.Moves.{told_by}
+use Rattle.run_stops.proofs.Moves.{told_by}
 use Rattle.duplex_commands.proofs.Begins.{map_begins, all_begin}
 use Rattle.duplex.specs.declared.duplex.End.{End}
 use Rattle.duplex.specs.declared.duplex.End.TheVariants.{A, B}

@@ -8,8 +8,8 @@ use Rattle.link_plan.specs.declared.error.PlanError.{PlanError}
 use Rattle.duplex_plan.specs.Duplex.{DuplexValue, duplex_of}
 use Rattle.duplex_plan.specs.Ranges.{AreInRange}
 use Rattle.duplex_plan.proofs.InRange.{in_range}
-use Rattle.run_shell.specs.Reading.{behind, bytes_in, plan_bytes}
-use Rattle.run_shell.proofs.Readings.{behind_ok}
+use Rattle.run_stops.specs.Reading.{behind, bytes_in, plan_bytes}
+use Rattle.run_stops.proofs.Readings.{behind_ok}
 use Rattle.plan_inputs.specs.Inputs.{rows_by, packets_in}
 use Rattle.plan_inputs.proofs.SomeSource.{Keeps, rows_keep}
 use Rattle.plan_inputs.proofs.PlanStream.{AreFit, channels_fit}

@@ -12,10 +12,10 @@ use Rattle.link_plan.specs.declared.error.PlanError.TheVariants.{Clash}
 use Rattle.duplex_plan.specs.Duplex.{DuplexValue}
 use Rattle.duplex_plan.specs.Views.{back_value, duplex_value}
 use Rattle.duplex_plan.specs.declared.plan.DuplexPlan.{DuplexPlan}
-use Rattle.run_shell.specs.declared.stop.Stop.{Stop}
-use Rattle.run_shell.specs.declared.stop.Stop.TheVariants as stop
-use Rattle.run_shell.specs.Reading.{Refusal, of_plan, behind, Reads}
-use Rattle.run_shell.proofs.Readings.{first_stops, second_reads}
+use Rattle.run_stops.specs.declared.stop.Stop.{Stop}
+use Rattle.run_stops.specs.declared.stop.Stop.TheVariants as stop
+use Rattle.run_stops.specs.Reading.{Refusal, of_plan, behind, Reads}
+use Rattle.run_stops.proofs.Readings.{first_stops, second_reads}
 use Rattle.plan_inputs.specs.Inputs.{packets_in, capture_sizes, numbers_in, IsCapture}
 use Rattle.plan_inputs.specs.Values.{packet_values}
 use Rattle.plan_inputs.specs.declared.captures.ReadCaptures.{ReadCaptures}

@@ -14,7 +14,7 @@ use Rattle.duplex.specs.declared.duplex.End.{End}
 use Rattle.duplex.specs.declared.duplex.End.TheVariants.{A, B}
 use Rattle.duplex.specs.declared.side.Side.{Side}
 use Rattle.duplex.proofs.Opens.{is_run}
-use Rattle.run_shell.specs.declared.stop.Stop.{Stop}
+use Rattle.run_stops.specs.declared.stop.Stop.{Stop}
 use Rattle.duplex_commands.specs.declared.captures.Captures.{Captures}
 use Rattle.duplex_commands.specs.Captures.{Beginning, AreKept, IsBroken, more_at_a, more_at_b}
 use Rattle.duplex_commands.specs.Slots.{IsAt, IsCut}

@@ -6,8 +6,8 @@ use Rattle.duplex_model.specs.DuplexRun.{Ends, IsDuplexRun}
 use Rattle.duplex_model.specs.Came.{came}
 use Rattle.duplex.specs.declared.duplex.Duplex.{Duplex}
 use Rattle.duplex.proofs.Opens.{begins_run, is_run}
-use Rattle.run_shell.specs.declared.stop.Stop.{Stop}
-use Rattle.run_shell.specs.declared.stop.Finished.{Finished}
+use Rattle.run_stops.specs.declared.stop.Stop.{Stop}
+use Rattle.run_shell.specs.declared.finished.Finished.{Finished}
 use Rattle.run_shell.specs.Outcome.{Outcome}
 use Rattle.run_shell.specs.Writing.{Fills, Writes}
 use Rattle.receipts.proofs.Settings.{is_the_setting, plan_setting, the_setting}

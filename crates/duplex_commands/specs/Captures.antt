@@ -5,9 +5,9 @@ use Rattle.receive_model.specs.Pieces.{Packet}
 use Rattle.receive_model.specs.Events.{Event, Setting, Delivered}
 use Rattle.duplex.specs.declared.duplex.End.{End}
 use Rattle.duplex.specs.declared.duplex.End.TheVariants.{A, B}
-use Rattle.run_shell.specs.declared.stop.Stop.{Stop}
+use Rattle.run_stops.specs.declared.stop.Stop.{Stop}
 use Rattle.run_shell.specs.Outcome.{HoldsPart}
-use Rattle.run_shell.specs.Stops.{IsOfStore}
+use Rattle.run_stops.specs.Stops.{IsOfStore}
 use Rattle.run_shell.specs.Outputs.{Differ, IsOpen, open_names, outs}
 use Rattle.receipts.specs.Receipts.{capture_of, counts_of}
 use Rattle.duplex_commands.specs.Names.{names_by}

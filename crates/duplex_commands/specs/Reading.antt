@@ -9,7 +9,7 @@ use Rattle.link_plan.specs.declared.error.PlanError.{PlanError}
 use Rattle.link_plan.specs.declared.error.PlanError.TheVariants.{Clash}
 use Rattle.duplex_plan.specs.Duplex.{BackValue, DuplexValue, duplex_of}
 use Rattle.plan_inputs.specs.Inputs.{rows_by, packets_in, capture_sizes, numbers_in, IsCapture}
-use Rattle.run_shell.specs.Reading.{Refusal, of_plan, behind, bytes_in, plan_bytes}
+use Rattle.run_stops.specs.Reading.{Refusal, of_plan, behind, bytes_in, plan_bytes}
 
 -- ---- the settings
 

@@ -16,7 +16,7 @@ use Rattle.receipts.specs.Settings.{IsSettingOf}
 use Rattle.run_shell.specs.declared.status.Status.TheVariants.{Done}
 use Rattle.run_shell.specs.Outcome.{Output, Outcome}
 use Rattle.run_shell.specs.Meaning.{Meaning}
-use Rattle.run_shell.specs.Reading.{Work, meaning_by}
+use Rattle.run_shell.specs.Work.{Work, meaning_by}
 use Rattle.duplex_commands.specs.Names.{prefix_of_a, prefix_of_b}
 use Rattle.duplex_commands.specs.Reading.{DuplexReading, duplex_in, IsReadFor}
 

@@ -10,9 +10,9 @@ use Rattle.duplex_model.specs.Came.{came}
 use Rattle.duplex.specs.Inboxes.{on_channel}
 use Rattle.duplex.specs.Duplexes.{Runs, HasGot}
 use Rattle.duplex.specs.declared.duplex.Duplex.{Duplex}
-use Rattle.run_shell.specs.declared.stop.Stop.{Stop}
+use Rattle.run_stops.specs.declared.stop.Stop.{Stop}
 use Rattle.run_shell.specs.Outcome.{HoldsPart}
-use Rattle.run_shell.specs.Stops.{IsOfStore}
+use Rattle.run_stops.specs.Stops.{IsOfStore}
 use Rattle.run_shell.specs.Outputs.{outs}
 use Rattle.duplex_commands.specs.declared.captures.Captures.{Captures}
 use Rattle.duplex_commands.specs.Captures.{Beginning, AreKept, names_of, given_of}

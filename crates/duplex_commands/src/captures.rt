@@ -5,7 +5,7 @@ ghost use Rattle.lk_base.specs.declared.position.Pos.{Pos};
 ghost use Rattle.receive_model.specs.Events.{Setting, is_rising};
 ghost use Rattle.receive_model.specs.Pieces.{Packet};
 ghost use Rattle.reassembly.specs.OutputLaws.{HasSize};
-ghost use Rattle.run_shell.specs.Stops.{StopCount};
+ghost use Rattle.run_stops.specs.Stops.{StopCount};
 ghost use Rattle.duplex.specs.declared.duplex.End.TheVariants.{A, B};
 ghost use Rattle.duplex_commands.specs.Captures.{Beginning, AreKept, Keeps, Opens, more_at_a, more_at_b};
 
@@ -13,7 +13,8 @@ use crate::names::capture_names;
 use duplex::End;
 use lk_outside::Store;
 use receipts::{ChannelReceipt, create_headed, nothing_yet, place_of, put_record};
-use run_shell::{Outputs, Stop};
+use run_shell::Outputs;
+use run_stops::Stop;
 use std::alloc::Global;
 
 /// The captures of both ends. Each packet that is put goes on to the capture of its channel at once.

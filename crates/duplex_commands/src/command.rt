@@ -4,7 +4,8 @@ ghost use Rattle.std.specs.Prelude.{◌≡◌};
 use crate::reading::read_duplex_inputs;
 use crate::write::write_duplex;
 use lk_outside::Store;
-use run_shell::{Command, Finished, Stop};
+use run_shell::{Command, Finished};
+use run_stops::Stop;
 use std::alloc::Global;
 use std::marker::Model;
 

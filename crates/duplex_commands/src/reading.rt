@@ -1,7 +1,7 @@
 //! The settings of a run, the plan of both ends, and the captures of each, read in this order.
 ghost use Rattle.std.specs.Prelude.{◌≡◌, ◌<◌, ◌^◌, IfOk, IfSome};
-ghost use Rattle.run_shell.specs.Reading.{Reads};
-ghost use Rattle.run_shell.specs.Stops.{StopCount};
+ghost use Rattle.run_stops.specs.Reading.{Reads};
+ghost use Rattle.run_stops.specs.Stops.{StopCount};
 ghost use Rattle.link_plan.specs.Views.{plan_value};
 ghost use Rattle.link_plan.specs.Listing.{numbers_of};
 ghost use Rattle.plan_inputs.specs.Values.{packet_values};
@@ -18,7 +18,7 @@ use link_plan::{Plan, PlanError};
 use lk_base::CAPTURE_LIMIT;
 use lk_outside::Store;
 use plan_inputs::{CapturePackets, read_captures_within};
-use run_shell::Stop;
+use run_stops::Stop;
 use std::alloc::Global;
 
 /// What a run is made of.

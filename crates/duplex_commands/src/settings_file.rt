@@ -1,15 +1,15 @@
 //! The settings of a run.
 ghost use Rattle.std.specs.Prelude.{◌≡◌, ◌<◌, ◌^◌, IfSome};
 ghost use Rattle.duplex_plan.specs.Views.{duplex_value};
-ghost use Rattle.run_shell.specs.Reading.{Reads};
-ghost use Rattle.run_shell.specs.Stops.{StopCount};
+ghost use Rattle.run_stops.specs.Reading.{Reads};
+ghost use Rattle.run_stops.specs.Stops.{StopCount};
 ghost use Rattle.duplex_commands.specs.Reading.{settings_in};
 
 use duplex_plan::{DuplexPlan, read_duplex};
 use lk_base::PLAN_LIMIT;
 use lk_outside::Store;
 use plan_inputs::plan_stop;
-use run_shell::{Stop, read_plan as read_plan_bytes};
+use run_stops::{Stop, read_plan as read_plan_bytes};
 use std::alloc::Global;
 
 /// The settings in the file of this name. They are refused exactly where the file is absent, has more than 1,048,576 bytes, or

@@ -1,15 +1,15 @@
 //! The plan of both ends, which is an input.
 ghost use Rattle.std.specs.Prelude.{◌≡◌, ◌<◌, ◌^◌, IfSome};
 ghost use Rattle.link_plan.specs.Views.{plan_value};
-ghost use Rattle.run_shell.specs.Reading.{Reads};
-ghost use Rattle.run_shell.specs.Stops.{StopCount};
+ghost use Rattle.run_stops.specs.Reading.{Reads};
+ghost use Rattle.run_stops.specs.Stops.{StopCount};
 ghost use Rattle.duplex_commands.specs.Reading.{shared_plan_in};
 
 use link_plan::{Plan, read_plan};
 use lk_base::PLAN_LIMIT;
 use lk_outside::Store;
 use plan_inputs::rows_stop;
-use run_shell::{Stop, read_input};
+use run_stops::{Stop, read_input};
 use std::alloc::Global;
 
 /// The plan in the file of this name, as an input. It is refused exactly where the file is absent, has more than 1,048,576

@@ -6,7 +6,7 @@ ghost use Rattle.receive_model.specs.Pieces.{Packet};
 ghost use Rattle.reassembly.specs.OutputLaws.{HasSize};
 ghost use Rattle.duplex_model.specs.DuplexRun.{Ends, Settings};
 ghost use Rattle.duplex.specs.Duplexes.{IsGiven, Lends, lent_bytes};
-ghost use Rattle.run_shell.specs.Stops.{StopCount};
+ghost use Rattle.run_stops.specs.Stops.{StopCount};
 ghost use Rattle.duplex_commands.specs.Captures.{Beginning, AreKept, Keeps, more_at_a, more_at_b};
 ghost use Rattle.duplex_commands.specs.Slots.{IsAt, Takes};
 
@@ -14,7 +14,7 @@ use crate::captures::Captures;
 use duplex::{Duplex, Got};
 use lk_base::OutOfMemory;
 use lk_outside::Store;
-use run_shell::Stop;
+use run_stops::Stop;
 use std::alloc::Global;
 
 // The bytes of the packet that is lent.

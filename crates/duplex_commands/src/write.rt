@@ -4,7 +4,7 @@ ghost use Rattle.link_plan.specs.Listing.{numbers_of};
 ghost use Rattle.duplex_model.specs.DuplexRun.{Ends, Settings};
 ghost use Rattle.duplex.specs.Duplexes.{IsGiven};
 ghost use Rattle.plan_inputs.specs.Values.{packet_values};
-ghost use Rattle.run_shell.specs.Stops.{StopCount};
+ghost use Rattle.run_stops.specs.Stops.{StopCount};
 ghost use Rattle.run_shell.specs.Writing.{Writes};
 ghost use Rattle.duplex_commands.specs.Captures.{Beginning, names_of};
 ghost use Rattle.duplex_commands.specs.Slots.{IsAt};
@@ -21,7 +21,8 @@ use crate::text::text_of;
 use duplex::Duplex;
 use link_plan::channels_in_order;
 use lk_outside::Store;
-use run_shell::{Finished, Stop};
+use run_shell::Finished;
+use run_stops::Stop;
 use std::alloc::Global;
 
 // Does the slots of a run, fills its captures, and makes its text.

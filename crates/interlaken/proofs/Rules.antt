@@ -1,13 +1,13 @@
 -- What the arguments of a command keep by its rule.
 use Rattle.std.proofs.Common.{◌≡◌, ℕ, ◌≤◌, length, Bool, true, false, List, [], ◌∷◌, Option, Some, None, refl, subst, arith, nat_lt, nat_le}
+use Rattle.std.proofs.lemmas.Bool.{and_parts}
 use Rattle.std.proofs.lemmas.Bool.Decides.{nat_tests}
 use Rattle.std.specs.Prelude.{if◌then◌else◌}
 use Rattle.std.specs.Str.{bytes_eq}
-use Rattle.clap.proofs.WalkLemmas.{both}
-use Rattle.interlaken.specs.declared.table.Rule.TheVariants.{NumberAndPrefix}
-use Rattle.interlaken.specs.Table.{Kind, rows, row_in}
-use Rattle.interlaken.specs.Given.{Given}
-use Rattle.interlaken.specs.Arguments.{arguments_of, is_name, number_and_prefix_in, number_of_word}
+use Rattle.command_words.specs.declared.table.Rule.TheVariants.{NumberAndPrefix}
+use Rattle.command_words.specs.Table.{Kind, rows, row_in}
+use Rattle.command_words.specs.Given.{Given}
+use Rattle.command_words.specs.Arguments.{arguments_of, is_name, number_and_prefix_in, number_of_word}
 use Rattle.interlaken.specs.Request.{IsGivenTo}
 
 abbrev IsShort : List ℕ → Type 0
@@ -15,8 +15,8 @@ IsShort prefix = (1 ≤ length prefix) × (length prefix ≤ 180)
 
 short_name : (prefix : List ℕ) → is_name 180 prefix ≡ true → IsShort prefix
 short_name prefix e =
-    let some : nat_lt 0 (length prefix) ≡ true = (both _ _ (both _ _ e).0).0 in
-    let few : nat_le (length prefix) 180 ≡ true = (both _ _ e).1 in
+    let some : nat_lt 0 (length prefix) ≡ true = (and_parts _ _ (and_parts _ _ e).0).0 in
+    let few : nat_le (length prefix) 180 ≡ true = (and_parts _ _ e).1 in
     (least (length prefix) some, most (length prefix) few)
   where
     least : (n : ℕ) → nat_lt 0 n ≡ true → 1 ≤ n

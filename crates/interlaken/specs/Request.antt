@@ -3,13 +3,13 @@ use Rattle.std.specs.Prelude.{ℕ, ◌≤◌, length, Bool, nat_eq, List, [], �
 use Rattle.std.specs.List.{ends_with}
 use lib.Chars.{codes}
 use Rattle.case_commands.specs.Asked.{asked}
-use Rattle.interlaken.specs.declared.table.Name.{Name}
-use Rattle.interlaken.specs.declared.table.Name.TheVariants as names
+use Rattle.command_words.specs.declared.table.Name.{Name}
+use Rattle.command_words.specs.declared.table.Name.TheVariants as names
 use Rattle.interlaken.specs.declared.request.Request.{Request}
 use Rattle.interlaken.specs.declared.request.Request.TheVariants.{BurstCapture, BurstPlan, JoinWords, JoinPlan, SendPlan, Receive, Link, Generate, Duplex, OobWrite, OobRead, Resend, ListFile, AssembleText}
-use Rattle.interlaken.specs.Given.{Given}
-use Rattle.interlaken.specs.Arguments.{arguments_of}
-use Rattle.interlaken.specs.Table.{Kind, rows, row_in}
+use Rattle.command_words.specs.Given.{Given}
+use Rattle.command_words.specs.Arguments.{arguments_of}
+use Rattle.command_words.specs.Table.{Kind, rows, row_in}
 
 -- the name of a plan
 abbrev pub is_plan_name : List ℕ → Bool

@@ -1,12 +1,10 @@
 //! What words ask for.
 ghost use Rattle.std.specs.Prelude.{◌≡◌, map, is_some, IfOk, IfErr, IsSome, string_bytes};
 ghost use Rattle.interlaken.specs.Request.{is_plan_name, burst_of, join_of, IsGivenTo, request_for, request_by, request_of};
-ghost use Rattle.interlaken.specs.CommandLine.{words_of};
+ghost use Rattle.command_words.specs.CommandLine.{words_of};
 
-use crate::arguments::{Arguments, arguments_of};
-use crate::command_line::{CommandLine, line_of, read_line};
-use crate::table::{Name, row_in, rows};
 use case_commands::GenerateCase;
+use command_words::{Arguments, CommandLine, Name, arguments_of, line_of, read_line, row_in, rows};
 use duplex_commands::DuplexFile;
 use join_commands::{JoinPlan, JoinWords};
 use link_commands::LinkPlan;
@@ -16,7 +14,8 @@ use lk_outside::Store;
 use oob_commands::{OobRead, OobWrite};
 use receive_commands::Receive;
 use resend_commands::ResendPlan;
-use run_shell::{Command, Finished, Stop};
+use run_shell::{Command, Finished};
+use run_stops::Stop;
 use std::alloc::Global;
 use stream_commands::{BurstCapture, BurstPlan, SendPlan};
 

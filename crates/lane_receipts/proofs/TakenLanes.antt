@@ -5,13 +5,13 @@ use Rattle.lk_base.specs.Link.{Settings}
 use Rattle.lk_outside.specs.Files.{Files, Told}
 use Rattle.receive_model.specs.Events.{Event}
 use Rattle.receiver_model.specs.Fed.{AllBegin, Fed}
-use Rattle.rx_end.specs.Calls.{bytes_at, fed_more, finished_at, is_unfinished}
+use Rattle.rx_front.specs.Calls.{bytes_at, fed_more, finished_at, is_unfinished}
 use Rattle.rx_end.specs.States.{State}
 use Rattle.rx_end.proofs.Pieces.{given_come_first}
-use Rattle.run_shell.specs.declared.stop.Stop.{Stop}
-use Rattle.run_shell.specs.declared.stop.Stop.TheVariants as stop
+use Rattle.run_stops.specs.declared.stop.Stop.{Stop}
+use Rattle.run_stops.specs.declared.stop.Stop.TheVariants as stop
 use Rattle.run_shell.specs.Outcome.{LeavesOthers}
-use Rattle.run_shell.specs.Stops.{IsOfStore}
+use Rattle.run_stops.specs.Stops.{IsOfStore}
 use Rattle.run_shell.specs.Outputs.{open_names}
 use Rattle.run_shell.proofs.Writing.{whole_leaves}
 use Rattle.receipts.specs.declared.receipt.Receipt.{Receipt}

@@ -6,10 +6,10 @@ use Rattle.receive_model.specs.Events.{Event}
 use Rattle.receiver_model.specs.Fed.{Fed, AllBegin, all_finished}
 use Rattle.receiver_model.specs.Given.{AreEvents}
 use Rattle.rx_end.specs.States.{State}
-use Rattle.run_shell.specs.declared.stop.Stop.{Stop}
+use Rattle.run_stops.specs.declared.stop.Stop.{Stop}
 use Rattle.run_shell.specs.Outcome.{HoldsPart}
 use Rattle.run_shell.specs.Outputs.{outs}
-use Rattle.run_shell.specs.Stops.{IsOfStore}
+use Rattle.run_stops.specs.Stops.{IsOfStore}
 use Rattle.receipts.specs.declared.receipt.Receipt.{Receipt}
 use Rattle.receipts.specs.Receipts.{Beginning, given_of, names_of}
 use Rattle.lane_receipts.specs.Feeding.{IsDrained}

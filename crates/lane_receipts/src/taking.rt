@@ -3,7 +3,7 @@ ghost use Rattle.std.specs.Prelude.{◌≡◌, ◌<◌, ◌≤◌, ◌^◌, List
 ghost use Rattle.lk_base.specs.Link.{Settings};
 ghost use Rattle.receive_model.specs.Events.{Event};
 ghost use Rattle.receiver_model.specs.Fed.{Fed};
-ghost use Rattle.run_shell.specs.Stops.{StopCount};
+ghost use Rattle.run_stops.specs.Stops.{StopCount};
 ghost use Rattle.run_shell.specs.Outputs.{open_names};
 ghost use Rattle.receipts.specs.Receipts.{Beginning};
 ghost use Rattle.lane_receipts.specs.Feeding.{IsTaking, offset_of};
@@ -14,7 +14,7 @@ use crate::lane_offsets::least_open;
 use crate::lane_pieces::{LanePieces, feed_piece};
 use lk_outside::Store;
 use receipts::Receipt;
-use run_shell::Stop;
+use run_stops::Stop;
 use rx_end::Receiver;
 use std::alloc::Global;
 

@@ -14,7 +14,7 @@ use Rattle.oob_flow.proofs.Writings.{frame_long}
 use Rattle.oob_flow.proofs.Blocks.{long_frame, frame_samples_length}
 use Rattle.oob_flow.proofs.ReadingBack.{split_range}
 use Rattle.lk_outside.specs.Files.{Files, Told}
-use Rattle.run_shell.specs.declared.stop.Stop.{Stop}
+use Rattle.run_stops.specs.declared.stop.Stop.{Stop}
 use Rattle.run_shell.specs.Outcome.{HoldsPart}
 use Rattle.run_shell.specs.Open.{Open}
 use Rattle.run_shell.specs.Outputs.{outs, open_names, Grown}

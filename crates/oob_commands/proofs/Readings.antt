@@ -8,10 +8,10 @@ use Rattle.link_plan.specs.Timed.{local_of}
 use Rattle.link_plan.specs.Views.{listed_of, plan_value}
 use Rattle.link_plan.specs.declared.channel.ChannelRow.{ChannelRow}
 use Rattle.link_plan.specs.declared.plan.Plan.{Plan}
-use Rattle.run_shell.specs.declared.stop.Stop.{Stop}
-use Rattle.run_shell.specs.Reading.{Refusal, behind, Reads, vec_items}
-use Rattle.run_shell.proofs.Moves.{if_told_by}
-use Rattle.run_shell.proofs.Readings.{first_stops, second_reads}
+use Rattle.run_stops.specs.declared.stop.Stop.{Stop}
+use Rattle.run_stops.specs.Reading.{Refusal, behind, Reads, vec_items}
+use Rattle.run_stops.proofs.Moves.{if_told_by}
+use Rattle.run_stops.proofs.Readings.{first_stops, second_reads}
 use Rattle.plan_inputs.specs.Inputs.{rows_in, numbers_in, plan_in}
 use Rattle.oob_commands.specs.WriteSamples.{LocalReading, with_local, local_reading_in, IsLocalRead}
 use Rattle.oob_commands.specs.ReadRows.{SamplesReading, samples_in, with_samples, samples_reading_in, IsSamplesRead}

@@ -9,11 +9,11 @@ use Rattle.link_plan.specs.Listing.{is_listed}
 use Rattle.link_plan.specs.Timed.{is_local}
 use Rattle.link_reports.specs.Lines.{count_line}
 use Rattle.run_shell.specs.declared.status.Status.TheVariants.{Done}
-use Rattle.run_shell.specs.declared.stop.Stop.{Stop}
-use Rattle.run_shell.specs.declared.stop.Finished.{Finished}
+use Rattle.run_stops.specs.declared.stop.Stop.{Stop}
+use Rattle.run_shell.specs.declared.finished.Finished.{Finished}
 use Rattle.run_shell.specs.Meaning.{IsMeaning}
 use Rattle.run_shell.specs.Outcome.{Outcome}
-use Rattle.run_shell.specs.Reading.{IsWork}
+use Rattle.run_shell.specs.Work.{IsWork}
 use Rattle.run_shell.specs.Writing.{Writes}
 use Rattle.run_shell.proofs.Works.{is_meaning}
 use Rattle.run_shell.proofs.Writing.{writes_alike}

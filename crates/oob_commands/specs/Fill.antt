@@ -4,7 +4,7 @@ use Rattle.std.specs.List.{flat_map, range_with_len}
 use Rattle.stream_model.specs.declared.rows.LocalRow.{LocalRow}
 use Rattle.oob_flow.specs.Written.{written_frame}
 use Rattle.lk_outside.specs.Files.{Files, Told}
-use Rattle.run_shell.specs.declared.stop.Stop.{Stop}
+use Rattle.run_stops.specs.declared.stop.Stop.{Stop}
 use Rattle.run_shell.specs.Outcome.{HoldsPart}
 use Rattle.run_shell.specs.Open.{Open}
 use Rattle.run_shell.specs.Outputs.{outs, open_names, IsOpen}

@@ -8,10 +8,11 @@ use Rattle.stream_model.specs.declared.rows.FlowRow.{FlowRow}
 use Rattle.link_plan.specs.Plan.{PlanValue}
 use Rattle.link_plan.specs.Timed.{flow_of}
 use Rattle.link_reports.specs.Lines.{count_line}
-use Rattle.link_reports.specs.declared.faults.InputError.TheVariants.{TooLarge}
+use Rattle.run_stops.specs.declared.faults.InputError.TheVariants.{TooLarge}
 use Rattle.run_shell.specs.declared.status.Status.TheVariants.{Done}
 use Rattle.run_shell.specs.Outcome.{Outcome}
-use Rattle.run_shell.specs.Reading.{IsWork, of_input, refused_outcome}
+use Rattle.run_stops.specs.Reading.{of_input}
+use Rattle.run_shell.specs.Work.{IsWork, refused_outcome}
 use Rattle.plan_inputs.specs.Inputs.{plan_in, rows_in}
 use Rattle.oob_flow.specs.Written.{AreWritten, frame_begin}
 use Rattle.oob_flow.specs.Reading.{rows_of_samples}

@@ -6,11 +6,12 @@ use Rattle.link_plan.specs.Plan.{PlanValue}
 use Rattle.link_plan.specs.declared.error.Key.TheVariants as key
 use Rattle.link_plan.specs.declared.error.PlanError.TheVariants as refusal
 use Rattle.link_reports.specs.Lines.{count_line}
-use Rattle.link_reports.specs.declared.faults.InputError.TheVariants.{Samples}
+use Rattle.run_stops.specs.declared.faults.InputError.TheVariants.{Samples}
 use Rattle.run_shell.specs.declared.status.Status.TheVariants.{Done}
 use Rattle.run_shell.specs.Outcome.{Outcome}
 use Rattle.run_shell.specs.Meaning.{Meaning}
-use Rattle.run_shell.specs.Reading.{Refusal, of_plan, of_input, behind, bytes_in, Work, meaning_by}
+use Rattle.run_stops.specs.Reading.{Refusal, of_plan, of_input, behind, bytes_in}
+use Rattle.run_shell.specs.Work.{Work, meaning_by}
 use Rattle.plan_inputs.specs.Inputs.{plan_in}
 use Rattle.oob_flow.specs.Samples.{first_bad}
 use Rattle.oob_flow.specs.Reading.{rows_of_samples}

@@ -9,7 +9,8 @@ use Rattle.link_reports.specs.Lines.{count_line}
 use Rattle.run_shell.specs.declared.status.Status.TheVariants.{Done}
 use Rattle.run_shell.specs.Outcome.{Outcome}
 use Rattle.run_shell.specs.Meaning.{Meaning}
-use Rattle.run_shell.specs.Reading.{Refusal, behind, Work, meaning_by}
+use Rattle.run_stops.specs.Reading.{Refusal, behind}
+use Rattle.run_shell.specs.Work.{Work, meaning_by}
 use Rattle.plan_inputs.specs.Inputs.{plan_in, rows_in, numbers_in}
 use Rattle.oob_flow.specs.Written.{AreWritten}
 

@@ -6,8 +6,8 @@ ghost use Rattle.stream_model.specs.declared.rows.LocalRow.{LocalRow};
 ghost use Rattle.link_plan.specs.Listing.{numbers_of};
 ghost use Rattle.link_plan.specs.Timed.{is_local};
 ghost use Rattle.link_plan.specs.Views.{plan_value};
-ghost use Rattle.run_shell.specs.Reading.{Reads, vec_items};
-ghost use Rattle.run_shell.specs.Stops.{StopCount};
+ghost use Rattle.run_stops.specs.Reading.{Reads, vec_items};
+ghost use Rattle.run_stops.specs.Stops.{StopCount};
 ghost use Rattle.oob_flow.specs.Samples.{is_sample};
 ghost use Rattle.oob_commands.specs.WriteSamples.{local_reading_in, IsLocalRead};
 ghost use Rattle.oob_commands.specs.ReadRows.{samples_in, samples_reading_in, IsSamplesRead};
@@ -15,11 +15,10 @@ ghost use Rattle.oob_commands.specs.Values.{local_value, samples_value};
 
 use crate::limits::SAMPLES_LIMIT;
 use link_plan::{Key, LocalRow, Plan, PlanError};
-use link_reports::InputError;
 use lk_outside::Store;
 use oob_flow::bad_sample;
 use plan_inputs::{read_local_file, read_plan_file};
-use run_shell::{Stop, input_stop, read_input};
+use run_stops::{InputError, Stop, input_stop, read_input};
 use std::alloc::Global;
 
 /// A plan with its local rows.

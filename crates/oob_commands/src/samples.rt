@@ -3,7 +3,7 @@ ghost use Rattle.std.specs.Prelude.{◌≡◌, ◌+◌, ◌<◌, ◌≤◌, ◌^
 ghost use Rattle.std.specs.List.Sorted.{IsNonDecreasingBy};
 ghost use Rattle.lk_outside.specs.Files.{Files};
 ghost use Rattle.stream_model.specs.declared.rows.LocalRow.{LocalRow};
-ghost use Rattle.run_shell.specs.Stops.{StopCount, StoreStops};
+ghost use Rattle.run_stops.specs.Stops.{StopCount, StoreStops};
 ghost use Rattle.run_shell.specs.Outputs.{Differ, open_names, IsOpen, blank, Grown};
 ghost use Rattle.oob_flow.specs.Written.{AreWritten, frame_begin, BeginsAfterRows};
 ghost use Rattle.oob_flow.specs.WritingFrames.{StandsAt};
@@ -11,7 +11,8 @@ ghost use Rattle.oob_commands.specs.Fill.{FilledOne, frames_before};
 
 use lk_outside::Store;
 use oob_flow::FrameWriter;
-use run_shell::{Outputs, Stop};
+use run_shell::Outputs;
+use run_stops::Stop;
 use std::alloc::Global;
 use stream_model::LocalRow;
 

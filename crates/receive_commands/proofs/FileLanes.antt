@@ -3,12 +3,12 @@ use Rattle.std.proofs.Common.{◌≡◌, ℕ, zero, suc, ◌<◌, ◌≤◌, fal
 use Rattle.std.proofs.lemmas.Bool.{cases_Bool}
 use Rattle.std.proofs.lemmas.Bool.Decides.{nat_tests}
 use Rattle.std.proofs.lemmas.List.FromFn.{length-map-range_with_len}
-use Rattle.stream_commands.specs.Outputs.{lane_name, lane_names}
+use Rattle.run_shell.specs.Names.{lane_name, lane_names}
 use Rattle.lk_base.specs.Limits.{lane_limit}
 use Rattle.lk_outside.specs.Files.{Files, file}
-use Rattle.run_shell.specs.declared.stop.Stop.{Stop}
-use Rattle.run_shell.specs.Reading.{behind, bytes_by, bytes_in}
-use Rattle.run_shell.proofs.Readings.{behind_ok}
+use Rattle.run_stops.specs.declared.stop.Stop.{Stop}
+use Rattle.run_stops.specs.Reading.{behind, bytes_by, bytes_in}
+use Rattle.run_stops.proofs.Readings.{behind_ok}
 use Rattle.run_shell.proofs.Creating.{named_at}
 use Rattle.lane_receipts.specs.Taking.{AreAsBefore, ReadsOn}
 use Rattle.lane_receipts.proofs.TakenLanes.{widened}

@@ -2,10 +2,10 @@
 use Rattle.std.proofs.Common.{◌≡◌, ℕ, zero, suc, ◌+◌, ◌<◌, ◌≤◌, List, [], ◌∷◌, ◌++◌, length, drop, get_or, refl, sym, ap, ◌∙◌, subst, append_assoc, arith, Option, Some, None, IfSome, Result, Ok, Err, Contains}
 use Rattle.lk_base.specs.Limits.{lane_limit}
 use Rattle.lk_outside.specs.Files.{Files}
-use Rattle.run_shell.specs.declared.stop.Stop.{Stop}
-use Rattle.run_shell.specs.Reading.{Reads, Refusal, behind, bytes_in}
+use Rattle.run_stops.specs.declared.stop.Stop.{Stop}
+use Rattle.run_stops.specs.Reading.{Reads, Refusal, behind, bytes_in}
 use Rattle.run_shell.proofs.Creating.{named_at}
-use Rattle.run_shell.proofs.Works.{behind_stops}
+use Rattle.run_stops.proofs.Readings.{behind_stops}
 use Rattle.receive_commands.specs.Receive.{lanes_in}
 
 -- the first lanes are there, so that all are as those behind them

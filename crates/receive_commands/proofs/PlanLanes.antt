@@ -6,15 +6,16 @@ use Rattle.link_plan.specs.Plan.{PlanValue}
 use Rattle.link_plan.specs.Views.{plan_value}
 use Rattle.link_plan.specs.declared.plan.Plan.{Plan}
 use Rattle.plan_inputs.specs.Inputs.{plan_in}
-use Rattle.run_shell.specs.declared.stop.Stop.{Stop}
-use Rattle.run_shell.specs.declared.stop.Stop.TheVariants as stop
-use Rattle.run_shell.specs.declared.stop.Finished.{Finished}
+use Rattle.run_stops.specs.declared.stop.Stop.{Stop}
+use Rattle.run_stops.specs.declared.stop.Stop.TheVariants as stop
+use Rattle.run_shell.specs.declared.finished.Finished.{Finished}
 use Rattle.run_shell.specs.Outcome.{LeavesOthers}
-use Rattle.run_shell.specs.Stops.{Comes}
-use Rattle.run_shell.specs.Reading.{Reads, behind}
+use Rattle.run_shell.specs.Ends.{Comes}
+use Rattle.run_stops.specs.Reading.{Reads, behind}
 use Rattle.run_shell.specs.Writing.{Fills}
-use Rattle.run_shell.proofs.Readings.{first_stops, second_reads}
-use Rattle.run_shell.proofs.Works.{behind_stops, made_of, names_by, store_stops}
+use Rattle.run_stops.proofs.Readings.{first_stops, second_reads}
+use Rattle.run_stops.proofs.Readings.{behind_stops}
+use Rattle.run_shell.proofs.Works.{made_of, names_by, store_stops}
 use Rattle.run_shell.proofs.Writing.{writes_comes}
 use Rattle.receipts.specs.Settings.{plan_names}
 use Rattle.receive_commands.specs.Receive.{IsReceiveInput, IsReceived, PlanLanes, lanes_in, plan_lanes_in, receive_meaning, receive_work, with_lanes}

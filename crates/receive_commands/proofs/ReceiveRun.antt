@@ -2,7 +2,7 @@
 use Rattle.std.proofs.Common.{◌≡◌, ℕ, zero, suc, ◌≤◌, false, All, List, [], ◌++◌, length, replicate, slice_get, refl, sym, ap, ◌∙◌, subst, arith, Option, Some, None, IfSome, Result, Ok, Err, Contains}
 use Rattle.std.proofs.lemmas.Option.{none-some, same_Some}
 use Rattle.std.proofs.lemmas.List.FromFn.{length-map-range_with_len}
-use Rattle.stream_commands.specs.Outputs.{lane_name}
+use Rattle.run_shell.specs.Names.{lane_name}
 use Rattle.lk_outside.specs.Files.{Files, Told}
 use Rattle.receive_model.specs.Events.{Event}
 use Rattle.receiver_model.specs.Fed.{AllBegin, Fed}
@@ -10,12 +10,12 @@ use Rattle.link_plan.specs.Listing.{channels_in_order, numbers_of}
 use Rattle.link_plan.specs.Plan.{PlanValue}
 use Rattle.link_plan.specs.Views.{plan_value}
 use Rattle.link_plan.specs.declared.plan.Plan.{Plan}
-use Rattle.rx_end.specs.Calls.{nothing_fed}
+use Rattle.rx_front.specs.Calls.{nothing_fed}
 use Rattle.rx_end.specs.Standing.{Stands}
 use Rattle.rx_end.specs.States.{State}
-use Rattle.run_shell.specs.declared.stop.Stop.{Stop}
-use Rattle.run_shell.specs.declared.stop.Stop.TheVariants as stop
-use Rattle.run_shell.specs.declared.stop.Finished.{Finished}
+use Rattle.run_stops.specs.declared.stop.Stop.{Stop}
+use Rattle.run_stops.specs.declared.stop.Stop.TheVariants as stop
+use Rattle.run_shell.specs.declared.finished.Finished.{Finished}
 use Rattle.run_shell.specs.Outcome.{LeavesOthers}
 use Rattle.run_shell.specs.Outputs.{open_names}
 use Rattle.run_shell.specs.Writing.{Fills}
@@ -103,10 +103,10 @@ module _ (plan : Plan) (prefix : List ℕ) (was : Option Files) (prefixed : pref
   module _ (r : State) (stands : Stands r value.settings (the_setting value) first []) (kept : Receipt) (now : Option Files) (opened : IsReceipt b [] kept now) where
     -- the lanes begin
     pub begun : IsTaking b value.settings first [] r kept now
-    begun = record { stands = stands; receipt = opened; fits = longest_of value.settings stands.link }
+    begun = record { stands = stands; receipt = opened; fits = longest_of value.settings stands.front.link }
 
     -- no output is a lane
     pub no_output : (q : List ℕ) → Contains names q → Contains (open_names kept.outputs) q → ⊥
     no_output q among output =
-        apart value.out b.setting.channels plan.link.lanes stands.link.lanes.1 q (subst (λ ns. Contains ns q) named among)
+        apart value.out b.setting.channels plan.link.lanes stands.front.link.lanes.1 q (subst (λ ns. Contains ns q) named among)
         (subst (λ p. Contains (output_names p b.setting.channels) q) prefixed (subst (λ ns. Contains ns q) opened.names output))

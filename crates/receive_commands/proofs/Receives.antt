@@ -8,22 +8,23 @@ use Rattle.receive_model.specs.Events.{Event, Setting}
 use Rattle.receiver_model.specs.Fed.{AllBegin, Fed}
 use Rattle.receiver_model.specs.Given.{AreEvents}
 use Rattle.receiver_model.proofs.KnownEvents.{events_are_determined, events_exist}
-use Rattle.rx_end.specs.Calls.{IsReportOf}
+use Rattle.rx_front.specs.Calls.{IsReportOf}
 use Rattle.rx_end.specs.Standing.{Stands}
 use Rattle.rx_end.specs.States.{State}
 use Rattle.link_plan.specs.Plan.{PlanValue}
 use Rattle.plan_inputs.specs.Inputs.{plan_in}
 use Rattle.plan_inputs.proofs.SomeSource.{plan_limits}
-use Rattle.run_shell.specs.declared.stop.Stop.{Stop}
-use Rattle.run_shell.specs.declared.stop.Stop.TheVariants as stop
-use Rattle.run_shell.specs.declared.stop.Finished.{Finished}
+use Rattle.run_stops.specs.declared.stop.Stop.{Stop}
+use Rattle.run_stops.specs.declared.stop.Stop.TheVariants as stop
+use Rattle.run_shell.specs.declared.finished.Finished.{Finished}
 use Rattle.run_shell.specs.Outcome.{Output, Outcome, HoldsPart, LeavesOthers}
 use Rattle.run_shell.specs.Meaning.{IsMeaning}
-use Rattle.run_shell.specs.Stops.{IsOfStore, held_status}
-use Rattle.run_shell.specs.Reading.{IsWork}
+use Rattle.run_stops.specs.Stops.{IsOfStore}
+use Rattle.run_shell.specs.Ends.{held_status}
+use Rattle.run_shell.specs.Work.{IsWork}
 use Rattle.run_shell.specs.Writing.{Fills, Writes}
-use Rattle.run_shell.proofs.Moves.{if_told_by}
-use Rattle.run_shell.proofs.Readings.{behind_ok}
+use Rattle.run_stops.proofs.Moves.{if_told_by}
+use Rattle.run_stops.proofs.Readings.{behind_ok}
 use Rattle.run_shell.proofs.Works.{is_meaning}
 use Rattle.run_shell.proofs.Writing.{none_writes, one_writes, part_leaves}
 use Rattle.receipts.specs.declared.receipt.Receipt.{Receipt}
@@ -150,13 +151,13 @@ module _ (plan : PlanValue) (b : Beginning) (is_setting : IsSettingOf plan b.set
     broken_leaves why later h = subst (λ ns. Told b.was later (LeavesOthers (λ files q. Contains ns q))) names_are (part_leaves (names_of b) (given_of b h.came) b.was later h.part)
 
     module _ (r : State) (kept : Receipt) (now : Option Files) (h : AllTaken b plan.settings first Are r kept now) (reports : List LaneReport) (count : length reports ≡ plan.settings.lanes)
-        (each : (setting : Setting) (fed : List Fed) (given : List Event) (stands : Stands r plan.settings setting fed given) (lane : ℕ) (report : LaneReport) → slice_get reports lane ≡ Some report → IsReportOf plan.settings stands.rounds lane fed report) where
+        (each : (setting : Setting) (fed : List Fed) (given : List Event) (stands : Stands r plan.settings setting fed given) (lane : ℕ) (report : LaneReport) → slice_get reports lane ≡ Some report → IsReportOf plan.settings stands.progress.rounds lane fed report) where
       abbrev the : Outcome
       the = closed_outcome b h.given false (lane_lines 0 reports ++ received_text b.setting h.given)
 
       is_received : (lanes : List (List ℕ)) → AllBegin h.fed lanes → IsReceived (record { plan = plan; lanes = lanes }) the
       is_received lanes from = record {
-        link = h.drained.taking.stands.link;
+        link = h.drained.taking.stands.front.link;
         setting = b.setting;
         is_setting = is_setting;
         events = h.given;

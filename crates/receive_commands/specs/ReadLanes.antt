@@ -1,8 +1,8 @@
 -- How the lanes of files are read.
 use Rattle.std.specs.Prelude.{ℕ, zero, suc, ◌≡◌, ◌⊎◌, ◌≤◌, ◌<◌, ◌+◌, ◌-◌, ◌^◌, Bool, ◌&&◌, nat_le, nat_lt, List, [], ◌∷◌, get_or, length, take, drop, All, Option, Some, None, Result, Ok, Err, IsSomeAnd}
 use Rattle.lk_outside.specs.Files.{Files, file}
-use Rattle.run_shell.specs.declared.stop.Stop.{Stop}
-use Rattle.run_shell.specs.Stops.{IsOfStore}
+use Rattle.run_stops.specs.declared.stop.Stop.{Stop}
+use Rattle.run_stops.specs.Stops.{IsOfStore}
 use Rattle.lane_receipts.specs.Taking.{IsPieceAt}
 use Rattle.receive_commands.specs.declared.lane_buffer.LaneBuffer.{LaneBuffer}
 use Rattle.receive_commands.specs.Receive.{lanes_in}

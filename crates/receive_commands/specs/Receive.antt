@@ -10,7 +10,8 @@ use Rattle.link_plan.specs.Plan.{PlanValue}
 use Rattle.plan_inputs.specs.Inputs.{plan_in}
 use Rattle.run_shell.specs.Outcome.{Outcome}
 use Rattle.run_shell.specs.Meaning.{Meaning}
-use Rattle.run_shell.specs.Reading.{Refusal, Work, behind, bytes_in, meaning_by}
+use Rattle.run_stops.specs.Reading.{Refusal, behind, bytes_in}
+use Rattle.run_shell.specs.Work.{Work, meaning_by}
 use Rattle.receipts.specs.Received.{received_outcome}
 use Rattle.lane_receipts.specs.LaneReports.{AreLaneReports, lane_lines, names_of_lanes}
 use Rattle.receipts.specs.Settings.{IsSettingOf, plan_names}

@@ -2,13 +2,13 @@
 ghost use Rattle.std.specs.Prelude.{◌≡◌, ◌<◌, ◌≤◌, ◌+◌, ◌-◌, ◌^◌, ℕ, List, Some, length, min, IfOk, IfSome, OnOk};
 ghost use Rattle.lk_base.specs.Limits.{lane_limit};
 ghost use Rattle.lk_outside.specs.Files.{file};
-ghost use Rattle.run_shell.specs.Stops.{StopCount};
+ghost use Rattle.run_stops.specs.Stops.{StopCount};
 ghost use Rattle.receive_commands.specs.ReadLanes.{FillsBuffer, HoldsOf, IsBuffer, IsFresh, ReadsFront, held_from, holds_at};
 
 use lane_receipts::piece_of;
 use lk_base::{LANE_LIMIT, OutOfMemory};
 use lk_outside::Store;
-use run_shell::{Stop, read_piece};
+use run_stops::{Stop, read_piece};
 use std::alloc::Global;
 
 /// The most bytes that are read of a lane at once.

@@ -2,14 +2,14 @@
 ghost use Rattle.std.specs.Prelude.{◌≡◌, ◌<◌, ◌≤◌, ◌+◌, ◌^◌, [], ℕ, List, Some, get_or, length, map, All, IfOk, IfSome, OnOk, string_bytes};
 ghost use Rattle.lk_base.specs.Limits.{lane_limit};
 ghost use Rattle.lk_outside.specs.Files.{file};
-ghost use Rattle.run_shell.specs.Stops.{StopCount};
+ghost use Rattle.run_stops.specs.Stops.{StopCount};
 ghost use Rattle.receive_commands.specs.ReadLanes.{AreBuffers, IsBuffer, IsFresh, LanesFill, piece_in};
 
 use crate::lane_buffer::LaneBuffer;
 use lane_receipts::LanePieces;
 use lk_base::OutOfMemory;
 use lk_outside::Store;
-use run_shell::Stop;
+use run_stops::Stop;
 use std::alloc::Global;
 
 /// The lanes in the files of these names, and what is held of each.

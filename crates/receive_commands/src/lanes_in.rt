@@ -1,12 +1,12 @@
 //! The lanes of a plan, which are asked for before anything is created.
 ghost use Rattle.std.specs.Prelude.{◌≡◌, ◌<◌, ◌^◌, Contains, map, IfSome, string_bytes};
-ghost use Rattle.run_shell.specs.Stops.{StopCount};
-ghost use Rattle.run_shell.specs.Reading.{Probes};
+ghost use Rattle.run_stops.specs.Stops.{StopCount};
+ghost use Rattle.run_stops.specs.Reading.{Probes};
 ghost use Rattle.receive_commands.specs.Receive.{lanes_in};
 
 use lk_base::LANE_LIMIT;
 use lk_outside::Store;
-use run_shell::{Stop, probe_input};
+use run_stops::{Stop, probe_input};
 use std::alloc::Global;
 
 /// Asks for each lane in the files of these names, in their order, for its first byte and for a byte at the limit of

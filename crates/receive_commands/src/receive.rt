@@ -4,8 +4,8 @@ ghost use Rattle.lk_outside.specs.Files.{Told};
 ghost use Rattle.link_plan.specs.Views.{plan_value};
 ghost use Rattle.plan_inputs.specs.Inputs.{plan_in};
 ghost use Rattle.run_shell.specs.Outcome.{LeavesOthers};
-ghost use Rattle.run_shell.specs.Stops.{StopCount};
-ghost use Rattle.run_shell.specs.Reading.{Probes};
+ghost use Rattle.run_stops.specs.Stops.{StopCount};
+ghost use Rattle.run_stops.specs.Reading.{Probes};
 ghost use Rattle.run_shell.specs.Writing.{Fills};
 ghost use Rattle.receipts.specs.Settings.{plan_names};
 ghost use Rattle.receive_commands.specs.Receive.{IsReceiveInput, IsReceived, lanes_in, plan_lanes_in};
@@ -18,11 +18,11 @@ use link_plan::{Plan, channels_in_order};
 use lk_outside::Store;
 use plan_inputs::read_plan_file;
 use receipts::Receipt;
-use run_shell::{Command, Finished, Stop};
+use run_shell::{Command, Finished, lane_names};
+use run_stops::Stop;
 use rx_end::Receiver;
 use std::alloc::Global;
 use std::marker::Model;
-use stream_commands::lane_names;
 
 /// A plan and the names of its lanes' files, by number.
 #[derive(Drop)]

@@ -10,7 +10,7 @@ use plan_inputs::{
     CapturePackets, PlanInputs, PlanReading, read_inputs, read_plan_file, read_plan_inputs,
     read_schedule_file,
 };
-use run_shell::Stop;
+use run_stops::Stop;
 use std::alloc::Global;
 use std::io;
 

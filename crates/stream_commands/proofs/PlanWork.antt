@@ -1,5 +1,5 @@
 -- The stream of a plan and its inputs: what it comes to is lawful, and is what is made of its source.
-use Rattle.std.proofs.Common.{◌≡◌, ◌⊎◌, ℕ, List, refl, sym, ◌∙◌, subst, Option, Result, Ok, Err}
+use Rattle.std.proofs.Common.{◌≡◌, ◌⊎◌, ◌<◌, ◌^◌, ℕ, List, length, refl, sym, ◌∙◌, subst, Option, Result, Ok}
 use Rattle.lk_base.specs.declared.word.Word.{Word}
 use Rattle.lk_base.specs.Link.{Settings}
 use Rattle.tx_end.specs.Whole.{IsShapeOf}
@@ -9,12 +9,12 @@ use Rattle.stream_model.specs.BurstStream.{Source, IsBurstStream, IsHeld}
 use Rattle.link_plan.specs.Plan.{PlanValue}
 use Rattle.lk_outside.specs.Files.{Files, AreBytes}
 use Rattle.run_shell.specs.declared.status.Status.TheVariants.{Done, Held}
-use Rattle.run_shell.specs.declared.stop.Stop.{Stop}
-use Rattle.run_shell.specs.declared.stop.Finished.{Finished}
+use Rattle.run_stops.specs.declared.stop.Stop.{Stop}
+use Rattle.run_shell.specs.declared.finished.Finished.{Finished}
 use Rattle.run_shell.specs.Meaning.{IsMeaning}
 use Rattle.run_shell.specs.Outcome.{Output, Outcome}
-use Rattle.run_shell.specs.Reading.{IsWork}
-use Rattle.run_shell.specs.Writing.{Fills, Writes}
+use Rattle.run_shell.specs.Work.{IsWork}
+use Rattle.run_shell.specs.Writing.{Writes}
 use Rattle.run_shell.proofs.Works.{is_meaning}
 use Rattle.run_shell.proofs.Writing.{writes_alike}
 use Rattle.plan_inputs.specs.Inputs.{Reading, planned_in}
@@ -82,10 +82,10 @@ send_means name = is_meaning (send_plan_work name) (send_is_work name)
 
 -- ---- what is written
 
-pub suits_by : (plan : PlanValue) (f : StreamForm) (source : Source) → IsFormOf plan.settings f → Planned.IsShapeOf plan source.shape → Suits f source
-suits_by plan form.Words source is shape = tt
-suits_by plan (form.Lanes link) source is shape =
-    subst (λ (s : Settings). IsShapeOf s source.shape) (sym is) (record { burst_max = shape.burst_max; burst_short = shape.burst_short; group = shape.group; warmup = shape.warmup })
+pub suits_by : (plan : PlanValue) (f : StreamForm) (source : Source) → IsFormOf plan.settings f → Planned.IsShapeOf plan source.shape → length source.packets < 2 ^ 32 → Suits f source
+suits_by plan form.Words source is shape few = tt
+suits_by plan (form.Lanes link) source is shape few =
+    (subst (λ (s : Settings). IsShapeOf s source.shape) (sym is) (record { burst_max = shape.burst_max; burst_short = shape.burst_short; group = shape.group; warmup = shape.warmup }), few)
 
 -- what is written of the source of a plan and its inputs
 pub writes_plan : (f : StreamForm) (out prefix : List ℕ) (i : Reading) (source : Source) (r : Result Finished Stop) (x y : Option Files) → IsSourceOf i.plan i.inputs source → prefix ≡ out

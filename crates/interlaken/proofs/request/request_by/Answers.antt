@@ -1,6 +1,6 @@
 use Rattle.std.proofs.Common.{◌≡◌, ◌∙◌, sym, ap, Some}
-use Rattle.interlaken.specs.Table.{shown, rows, row_in}
-use Rattle.interlaken.specs.CommandLine.{arguments_in}
+use Rattle.command_words.specs.Table.{shown, rows, row_in}
+use Rattle.command_words.specs.CommandLine.{arguments_in}
 use Rattle.interlaken.proofs.Rules.{given_to}
 use Rattle.interlaken.proofs.request.request_by.Goals as goal
 

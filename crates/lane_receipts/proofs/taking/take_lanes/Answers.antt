@@ -6,7 +6,7 @@ use Rattle.receive_model.specs.Events.{Event}
 use Rattle.receipts.specs.declared.receipt.Receipt.{Receipt}
 use Rattle.receipts.specs.Receipts.{Beginning, IsReceipt, names_of}
 use Rattle.run_shell.specs.Outputs.{open_names}
-use Rattle.run_shell.specs.Stops.{IsOfStore}
+use Rattle.run_stops.specs.Stops.{IsOfStore}
 use Rattle.lane_receipts.specs.Feeding.{fed_next}
 use Rattle.lane_receipts.specs.Taking.{AreAsBefore, IsPieceAt}
 use Rattle.lane_receipts.proofs.OpenLanes.{fed_taking, lane_counted, lane_empty, lane_open}

@@ -2,9 +2,9 @@ use Rattle.std.proofs.Common.{◌≡◌, ◌∙◌, ◌≤◌, ◌<◌, ◌-◌,
 use Rattle.std.proofs.lemmas.List.{length-drop, take-append-le}
 use Rattle.lk_outside.specs.Files.{Files, file}
 use Rattle.lk_outside.specs.Reads.{Reads}
-use Rattle.run_shell.specs.declared.stop.Stop.{Stop}
-use Rattle.run_shell.specs.declared.stop.Stop.TheVariants as stop
-use Rattle.run_shell.specs.Reading.{ReadsPiece}
+use Rattle.run_stops.specs.declared.stop.Stop.{Stop}
+use Rattle.run_stops.specs.declared.stop.Stop.TheVariants as stop
+use Rattle.run_stops.specs.Reading.{ReadsPiece}
 use Rattle.receive_commands.specs.ReadLanes.{IsFront, ReadsFront}
 use Rattle.receive_commands.proofs.lane_buffer.read_front.Goals as goal
 

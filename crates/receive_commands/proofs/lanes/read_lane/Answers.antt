@@ -1,7 +1,7 @@
 use Rattle.std.proofs.Common.{◌≡◌, ◌<◌, ◌≤◌, ℕ, List, [], length, set, get_or, sym, subst, Option, Some, None, IfSome, Result, Ok, Err}
 use Rattle.lk_base.specs.Limits.{lane_limit}
 use Rattle.lk_outside.specs.Files.{Files, file}
-use Rattle.run_shell.specs.declared.stop.Stop.{Stop}
+use Rattle.run_stops.specs.declared.stop.Stop.{Stop}
 use Rattle.lane_receipts.specs.Taking.{IsPieceAt}
 use Rattle.receive_commands.specs.declared.lane_buffer.LaneBuffer.{LaneBuffer}
 use Rattle.receive_commands.specs.ReadLanes.{FillsBuffer, HoldsOf, LanesFill}

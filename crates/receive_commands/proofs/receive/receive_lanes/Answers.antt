@@ -3,7 +3,7 @@ use Rattle.std.proofs.lemmas.List.{length-map}
 use Rattle.std.proofs.lemmas.Result.{err_from_is_err_and}
 use Rattle.link_plan.specs.Listing.{channels_in_order, numbers_of}
 use Rattle.link_plan.specs.Views.{plan_value}
-use Rattle.rx_end.specs.Calls.{nothing_fed}
+use Rattle.rx_front.specs.Calls.{nothing_fed}
 use Rattle.rx_end.proofs.Pieces.{lanes_are_those}
 use Rattle.receipts.proofs.Settings.{is_the_setting, order_rises, plan_order, the_setting}
 use Rattle.lane_receipts.proofs.Beginnings.{begin_stands, names_count, nothing_offsets}
@@ -58,7 +58,7 @@ take_lanes-requires-clause-few g c =
     let named = ap (map string_bytes) (c.in_ok-lanes.ensures.names ∙ c.as_slice-names.ensures.value) ∙ c.requires.names in
     let count : length c.as_slice-names.result.now ≡ plan.link.lanes = names_count string_bytes c.as_slice-names.result.now (plan_value plan).out plan.link.lanes (ap (map string_bytes) c.as_slice-names.ensures.value ∙ c.requires.names) in
     let stands = begin_stands plan c.in_ok-receiver.receiver (λ setting is. c.in_ok-receiver.ensures setting is) in
-    let few = stands.link.lanes.1 in
+    let few = stands.front.link.lanes.1 in
     let len : length c.deref_mut.result.now ≡ length c.as_slice-names.result.now = ap (λ (os : List (Option ℕ)). length os) c.deref_mut.ensures.value ∙ c.in_ok-offsets.ensures.count in
     omega (arith, count, few, len)
 
@@ -136,7 +136,7 @@ lane_lines-requires g c =
     let offsets = c.deref_mut.ensures.value ∙ c.in_ok-offsets.ensures.nothing ∙ ap (λ n. replicate n (Some 0)) count ∙ nothing_offsets plan.link.lanes in
     let at = begun plan c.as_str.result.now was c.as_str.ensures.value (map string_bytes c.in_ok-lanes.lanes.names.now) named c.in_ok-lanes.lanes.buffers.items c.in_ok-lanes.ensures.buffers.many c.in_ok-lanes.ensures.fresh c.in_ok-receiver.receiver stands c.in_ok-receipt.receipt _ opened in
     let all = c.in_ok-take_lanes.ensures.takes (beginning plan c.as_str.result.now was) (plan_value plan).settings (nothing_fed plan.link.lanes) [] at offsets in
-    let held = (lanes_are_those c.take_lanes.new.receiver (plan_value plan).settings (the_setting (plan_value plan)) all.fed all.given 0 all.drained.taking.stands).0 ∙ all.drained.taking.stands.lane_count in
+    let held = (lanes_are_those c.take_lanes.new.receiver (plan_value plan).settings (the_setting (plan_value plan)) all.fed all.given 0 all.drained.taking.stands).0 ∙ all.drained.taking.stands.front.lane_count in
     let many = c.lanes.ensures in
     omega (arith, held, many)
 
@@ -154,6 +154,11 @@ returns-in_err-text-clause-fills g c =
     let all = c.in_ok-take_lanes.ensures.takes (beginning plan c.as_str.result.now was) (plan_value plan).settings (nothing_fed plan.link.lanes) [] at offsets in
     let p = err_from_is_err_and c.from_residual-in_err-text.result c.from_residual-in_err-text.ensures.1 in
     rw (p.1, p.2) (unreported plan c.as_str.result.now was c.as_str.ensures.value (map string_bytes c.in_ok-lanes.lanes.names.now) named c.in_ok-lanes.lanes.buffers.items c.in_ok-lanes.ensures.buffers.many c.in_ok-lanes.ensures.fresh c.take_lanes.new.receiver c.take_lanes.new.receipt _ all).fills
+
+pub returns-in_err-text-clause-cause : goal.returns-in_err-text-clause-cause
+returns-in_err-text-clause-cause g c =
+    let p = err_from_is_err_and c.from_residual-in_err-text.result c.from_residual-in_err-text.ensures.1 in
+    rw (p.1, p.2) (c.in_ok-take_lanes.ensures.cause ∙ c.in_ok-receipt.ensures.cause)
 
 pub returns-in_err-text-clause-others : goal.returns-in_err-text-clause-others
 returns-in_err-text-clause-others g c =

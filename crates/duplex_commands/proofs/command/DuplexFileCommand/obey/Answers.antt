@@ -2,9 +2,9 @@ use Rattle.std.proofs.Common.{subst, List, ℕ, IfSome, Err}
 use Rattle.std.proofs.lemmas.Result.{err_from_is_err_and}
 use Rattle.lk_outside.specs.Files.{Told}
 use Rattle.run_shell.specs.Outcome.{LeavesOthers}
-use Rattle.run_shell.specs.Stops.{Comes}
+use Rattle.run_shell.specs.Ends.{Comes}
 use Rattle.run_shell.proofs.Writing.{writes_comes, writes_leaves}
-use Rattle.run_shell.proofs.Readings.{reading_ends}
+use Rattle.run_shell.proofs.Works.{reading_ends}
 use Rattle.duplex_commands.specs.Reading.{IsReadFor}
 use Rattle.duplex_commands.specs.Values.{duplex_reading}
 use Rattle.duplex_commands.specs.Run.{duplex_names, duplex_work, duplex_meaning}

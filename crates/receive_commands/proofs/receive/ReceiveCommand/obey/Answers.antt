@@ -3,8 +3,8 @@ use Rattle.std.proofs.lemmas.Result.{err_from_is_err_and}
 use Rattle.lk_outside.specs.Files.{Told}
 use Rattle.link_plan.specs.Views.{plan_value}
 use Rattle.run_shell.specs.Outcome.{LeavesOthers}
-use Rattle.run_shell.specs.Stops.{Comes}
-use Rattle.run_shell.proofs.Readings.{reading_ends}
+use Rattle.run_shell.specs.Ends.{Comes}
+use Rattle.run_shell.proofs.Works.{reading_ends}
 use Rattle.receive_commands.specs.Receive.{IsReceiveInput, PlanLanes, lanes_in, receive_meaning, receive_work}
 use Rattle.lane_receipts.specs.LaneReports.{names_of_lanes}
 use Rattle.receive_commands.proofs.PlanLanes.{receive_comes, receive_leaves}
