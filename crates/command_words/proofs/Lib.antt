@@ -1,2 +1,2 @@
-pub mod TwentyDigits
-pub mod Reading
+mod TwentyDigits
+mod Reading

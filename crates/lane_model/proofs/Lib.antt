@@ -1,3 +1,4 @@
+-- What other crates cite.
 pub mod Numbers
 pub mod Keys
 pub mod KeyHolds
@@ -5,5 +6,6 @@ pub mod Codes
 pub mod Disparities
 pub mod CodesOfWords
 pub mod FilesHold
-pub mod ExamplesHold
 pub mod StripingHolds
+-- What this crate alone cites.
+mod ExamplesHold

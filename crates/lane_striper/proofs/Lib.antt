@@ -1,2 +1,2 @@
-pub mod Begun
-pub mod Back
+mod Begun
+mod Back

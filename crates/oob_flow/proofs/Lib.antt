@@ -1,20 +1,22 @@
-pub mod ExamplesHold
+-- What other crates cite.
 pub mod Blocks
-pub mod Samples
 pub mod Writings
-pub mod Steps
-pub mod OneBit
-pub mod OneSample
-pub mod Idle
-pub mod Sent
-pub mod Split
-pub mod Showing
 pub mod Going
-pub mod Invalid
-pub mod Rightly
-pub mod Tells
-pub mod Latest
 pub mod ReadingBack
-pub mod Framing
-pub mod Checked
 pub mod WrittenSamples
+-- What this crate alone cites.
+mod ExamplesHold
+mod Samples
+mod Steps
+mod OneBit
+mod OneSample
+mod Idle
+mod Sent
+mod Split
+mod Showing
+mod Invalid
+mod Rightly
+mod Tells
+mod Latest
+mod Framing
+mod Checked

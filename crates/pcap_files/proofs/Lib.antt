@@ -1,6 +1,8 @@
-pub mod Left
+-- What other crates cite.
 pub mod Again
-pub mod Hex
-pub mod Stand
 pub mod Sizes
-pub mod Placed
+-- What this crate alone cites.
+mod Left
+mod Hex
+mod Stand
+mod Placed

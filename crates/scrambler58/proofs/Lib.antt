@@ -1,2 +1,4 @@
+-- What other crates cite.
 pub mod Joined
-pub mod Whole
+-- What this crate alone cites.
+mod Whole

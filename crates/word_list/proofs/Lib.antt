@@ -1,2 +1,4 @@
-mod Lists
+-- What other crates cite.
 pub mod Places
+-- What this crate alone cites.
+mod Lists
