@@ -1,0 +1,6 @@
+-- What other crates cite.
+pub mod Clocks
+pub mod KnownItems
+pub mod KnownEvents
+-- What this crate alone cites.
+mod LanesAt
