@@ -68,9 +68,6 @@ record OneCode (line : List ℕ) : Type 0 where
   below : code < 2 ^ 67
   only : (other : ℕ) → other < 2 ^ 67 → IsCodeLine other line → code ≡ other
 
-header-told : List ℕ → ℕ
-header-told line = 2 * digit (byte_at (drop 7 line) 0 == 49) + digit (byte_at (drop 7 line) 1 == 49)
-
 digit-below : (b : Bool) → digit b < 2
 digit-below true = omega arith
 digit-below false = omega arith

@@ -87,7 +87,7 @@ one-more rest f w = record {
   file = first-nine rest f.word f.bytes ∙ ap (λ (l : List ℕ). nine_bytes f.word ++ l) w.file ∙ sym (flat_map-cons nine_bytes f.word w.words);
 }
 
-never-both : (bytes : List ℕ) (words : List RxWord) (why : WordsError) → words_of_file bytes ≡ Ok words → words_of_file bytes ≡ Err why → ⊥
+pub never-both : (bytes : List ℕ) (words : List RxWord) (why : WordsError) → words_of_file bytes ≡ Ok words → words_of_file bytes ≡ Err why → ⊥
 never-both bytes words why e f = absurd cc
 
 refused-tag : (offset : ℕ) (word : List ℕ) → has_wrong_tag word ≡ true → first_refusal offset word ≡ Some (at.Tag offset)

@@ -158,9 +158,6 @@ one-read text left behind line number code waiting pushed next old mid new h is 
 pub read-kept : (text left : List ℕ) (number : ℕ) (waiting : List Bool) (old mid new : List ℕ) → new ≡ mid → CodesRead text left number waiting old mid → IsKept old new
 read-kept text left number waiting old mid new e r = kept-by old r.taken.more mid new r.taken.put e
 
-pub read-then-kept : (text left : List ℕ) (number : ℕ) (waiting : List Bool) (old mid : List ℕ) (r : CodesRead text left number waiting old mid) → mid ≡ old ++ r.taken.more
-read-then-kept text left number waiting old mid r = r.taken.put
-
 pub all-read : (text left : List ℕ) (number : ℕ) (waiting : List Bool) (old new : List ℕ) → BeginsWithNoCode left → CodesRead text left number waiting old new → CodesPut text left number waiting old new
 all-read text left number waiting old new h r = record { bits = r.bits; told = r.told; taken = r.taken; stops = h }
 

@@ -1,4 +1,4 @@
--- What the calls answer, and what they leave of the list behind which they put.
+-- What the calls answer, and what they leave of the list that they append to.
 use Rattle.std.specs.Prelude.{ℕ, ◌≡◌, ◌+◌, Result, Ok, Err, List, ◌++◌, length}
 use Rattle.lk_base.specs.declared.word.RxWord.{RxWord}
 use Rattle.words_files.specs.declared.error.WordsError.{WordsError}
@@ -16,7 +16,7 @@ abbrev pub words_error : WordsAt → WordsError
 words_error (at.Tag offset) = words.Tag offset
 words_error (at.Short offset) = words.Short offset
 
--- the listing of a words file that its readers accept was put behind `old`, with so many lines
+-- the listing of a words file that its readers accept was appended to `old`, with so many lines
 pub record ListsWords (bytes old new : List ℕ) (count : ℕ) : Type 0 where
   pub text : List ℕ
   pub listing : IsWordsListing text bytes
@@ -25,19 +25,19 @@ pub record ListsWords (bytes old new : List ℕ) (count : ℕ) : Type 0 where
   pub read : List RxWord
   pub accepted : words_of_file bytes ≡ Ok read
 
--- the answer to a words file: its listing was put behind `old`, or it is refused as its readers refuse it and nothing changed
+-- the answer to a words file: its listing was appended to `old`, or it is refused as its readers refuse it and nothing changed
 abbrev pub AnswersWords : List ℕ → List ℕ → List ℕ → Result ℕ WordsAt → Type 0
 AnswersWords bytes old new (Ok count) = ListsWords bytes old new count
 AnswersWords bytes old new (Err refusal) = (words_of_file bytes ≡ Err (words_error refusal)) × (new ≡ old)
 
--- the listing of a lane file was put behind `old`, with so many lines
+-- the listing of a lane file was appended to `old`, with so many lines
 pub record ListsLane (bytes old new : List ℕ) (count : ℕ) : Type 0 where
   pub text : List ℕ
   pub listing : IsLaneListing text bytes
   pub counted : count ≡ length (listing.lines ++ rest_lines listing.rest) + 1
   pub put : new ≡ old ++ text
 
--- the answer to a text: the bytes of which it is the listing were put behind `old`, or it is refused and nothing changed
+-- the answer to a text: the bytes of which it is the listing were appended to `old`, or it is refused and nothing changed
 abbrev pub Assembles : List ℕ → List ℕ → List ℕ → Result (Unit {0}) TextError → Type 0
 Assembles text old new (Ok done) = (bytes : List ℕ) × IsListing text bytes × (new ≡ old ++ bytes)
 Assembles text old new (Err why) = IsRefusedFor text why × (new ≡ old)

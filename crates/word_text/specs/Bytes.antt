@@ -1,4 +1,4 @@
--- Bytes put behind others, one part after the other.
+-- Bytes appended to others, one part after the other.
 use Rattle.std.specs.Prelude.{ℕ, ◌≡◌, ◌+◌, ◌<◌, ◌^◌, All, Result, Ok, Err, Bool, List, ◌∷◌, ◌++◌, length, take}
 use Rattle.lk_base.specs.Checksum.{bits_of_bytes}
 use Rattle.lane_model.specs.LaneBits.{bits_of_codes}
@@ -12,12 +12,12 @@ use Rattle.word_text.specs.Refusals.{IsCodeLineOfAny, IsRefusedFor}
 abbrev pub IsKept : List ℕ → List ℕ → Type 0
 IsKept old new = take (length old) new ≡ old
 
--- the bytes of which the text is the listing were put behind `old`, or the text is refused
+-- the bytes of which the text is the listing were appended to `old`, or the text is refused
 abbrev pub PutsBytes : List ℕ → List ℕ → List ℕ → Result (Unit {0}) TextError → Type 0
 PutsBytes text old new (Ok done) = (bytes : List ℕ) × IsListing text bytes × (new ≡ old ++ bytes)
 PutsBytes text old new (Err why) = IsRefusedFor text why
 
--- the first of these bits were put behind `old` as whole bytes, and `left` are the others
+-- the first of these bits were appended to `old` as whole bytes, and `left` are the others
 pub record TakesBytes (bits left : List Bool) (old new : List ℕ) : Type 0 where
   pub more : List ℕ
   pub octets : All (λ b. b < 2 ^ 8) more
@@ -39,7 +39,7 @@ pub record CodesTold (text left : List ℕ) (number : ℕ) (bits : List Bool) : 
 abbrev pub BeginsWithNoCode : List ℕ → Type 0
 BeginsWithNoCode left = (line more : List ℕ) → left ≡ ended line ++ more → IsCodeLineOfAny line → ⊥
 
--- the lines of codes with which a lane text begins are read: their bits are put behind `old` as bytes, and `waiting` are the
+-- the lines of codes with which a lane text begins are read: their bits are appended to `old` as bytes, and `waiting` are the
 -- last of them, which fill no byte
 pub record CodesPut (text left : List ℕ) (number : ℕ) (waiting : List Bool) (old new : List ℕ) : Type 0 where
   pub bits : List Bool

@@ -1,29 +1,29 @@
 //! Listings: the text of a words file or of a lane file, one line for each word, and its bytes again.
 #![tactic(auto)]
 
-mod code_guess;
-mod codes;
+mod bytes_of_text;
+mod code_of_line;
 mod cut;
 mod digits;
 mod error;
-mod guess;
-mod lane_list;
-mod lane_text;
+mod lane_of_text;
 mod law;
-mod list;
+mod line_of_code;
+mod line_of_word;
 mod piece;
 mod rest;
-mod spell;
-mod texts;
+mod text_of_lane;
+mod text_of_words;
 mod word;
-mod words_text;
+mod word_of_line;
+mod words_of_text;
 
+pub use bytes_of_text::assemble;
 pub use error::WordsAt;
-pub use lane_list::list_lane;
 pub use law::{
     assembling_undoes_listing, examples, files_have_listings, lengths_of_listings,
     listing_undoes_assembling, listings_are_determined, refusals_are_determined, worked_texts,
 };
-pub use list::list_words;
-pub use texts::assemble;
+pub use text_of_lane::list_lane;
+pub use text_of_words::list_words;
 pub use words_files::TextError;

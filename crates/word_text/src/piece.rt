@@ -2,9 +2,7 @@ ghost use Rattle.std.specs.Prelude.{◌≡◌, ◌<◌, ◌≤◌, ◌^◌, ◌+
 ghost use Rattle.lk_base.specs.Checksum.{bits_of};
 
 use coding_67b::BitReader;
-
-// The bits of a code on a lane.
-pub const CODE_BITS: u32 = 67;
+use lane_model::CODE_BITS;
 
 // So many bits as a number, the first of them highest.
 #[derive(Clone, Copy)]

@@ -3,9 +3,8 @@ ghost use Rattle.lk_base.specs.Checksum.{bits_of};
 ghost use Rattle.word_text.specs.CodeLines.{rest_line};
 ghost use Rattle.word_text.specs.Refusals.{IsRestLine};
 
-use crate::digits::put;
+use crate::digits::{bit_text, put};
 use crate::piece::Piece;
-use crate::spell::bit_text;
 use lk_base::OutOfMemory;
 
 // Makes the line that of the last bits of a lane, in place of what stood in it.

@@ -6,7 +6,7 @@ use Rattle.lk_base.specs.declared.word.RxWord.{RxWord}
 use Rattle.words_files.specs.declared.error.WordsError.{WordsError}
 use Rattle.words_files.specs.WordsOfFile.{cut_file, word_in, first_refusal, answer_by, refusal_by, first_offset, has_wrong_tag, is_short, words_from, words_of_file}
 use Rattle.words_files.proofs.Again.{accepted-whole}
-use Rattle.words_files.proofs.Cut.{ahead, cut-step, nothing-left, one-more, refused-there}
+use Rattle.words_files.proofs.Cut.{ahead, cut-step, one-more, refused-there}
 
 ahead-err : (xs : List RxWord) (r : Result (List RxWord) WordsError) → result_err (ahead xs r) ≡ result_err r
 ahead-err xs (Ok ys) = refl
@@ -25,9 +25,6 @@ err-there offset rest e some is =
     sym (ahead-err [] (words_from offset (cut_file rest)))
     ∙ ap (λ (r : Result (List RxWord) WordsError). result_err r) (refused-there [] offset rest e some is)
 
-pub err-none : (offset : ℕ) (rest : List ℕ) → length rest ≡ 0 → result_err (words_from offset (cut_file rest)) ≡ None
-err-none offset rest e = ap (λ (ws : List (List ℕ)). result_err (words_from offset ws)) (nothing-left rest e)
-
 ok-of : (r : Option WordsError) (xs : List RxWord) → result_err (answer_by r xs) ≡ None → answer_by r xs ≡ Ok xs
 ok-of None xs h = refl
 ok-of (Some e) xs h = absurd cc
@@ -36,10 +33,6 @@ ok-of (Some e) xs h = absurd cc
 pub accepted-words : (bytes : List ℕ) → result_err (words_of_file bytes) ≡ None → words_of_file bytes ≡ Ok (map word_in (cut_file bytes))
 accepted-words bytes h =
     ok-of (refusal_by (first_offset has_wrong_tag 0 (cut_file bytes)) (first_offset is_short 0 (cut_file bytes))) (map word_in (cut_file bytes)) h
-
-pub refused-words : (r : Result (List RxWord) WordsError) (e : WordsError) → result_err r ≡ Some e → r ≡ Err e
-refused-words (Ok xs) e h = absurd cc
-refused-words (Err x) e h = let same : x ≡ e = cc in ap (λ (y : WordsError). Err y) same
 
 pub words-counted : (bytes : List ℕ) → words_of_file bytes ≡ Ok (map word_in (cut_file bytes)) → length bytes / 9 ≡ length (map word_in (cut_file bytes))
 words-counted bytes h = let whole = accepted-whole bytes (map word_in (cut_file bytes)) h in omega arith

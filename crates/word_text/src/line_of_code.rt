@@ -1,0 +1,103 @@
+ghost use Rattle.std.specs.Prelude.{◌≡◌, ◌<◌, ◌/◌, ◌%◌, ◌^◌, ◌==◌, true, OnOk};
+ghost use Rattle.lane_model.specs.Coding.{header_in, payload_in};
+ghost use Rattle.word_text.specs.Digits.{bit_text};
+ghost use Rattle.word_text.specs.CodeLines.{inversion_in, IsSync, IsState, sync_text, state_text, other_text, IsCodeLine};
+
+use crate::digits::{bit_text, put, put_bit, put_digits};
+use lane_model::SYNC;
+use lk_base::OutOfMemory;
+
+// Whether the payload of a code stands inverted.
+pub fn inversion_of(code: u128) -> bool
+    requires { code < 2 ^ 67 }
+    ensures { result ≡ inversion_in code }
+{
+    code >> 66 == 1
+}
+
+// The header of a code.
+pub fn header_of(code: u128) -> u8
+    requires { code < 2 ^ 67 }
+    ensures value { result ≡ header_in code }
+    ensures below { result < 4 }
+{
+    (code >> 64 & 3) as u8
+}
+
+// The payload of a code as it is meant.
+pub fn payload_of(code: u128) -> u64
+    requires { code < 2 ^ 67 }
+    ensures { result ≡ payload_in code }
+{
+    let low = (code & u64::MAX as u128) as u64;
+    if code >> 66 == 1 { !low } else { low }
+}
+
+// Whether a code is that of a word by which a receiver finds the metaframe.
+fn is_sync(code: u128) -> bool
+    requires { code < 2 ^ 67 }
+    ensures is { result ≡ true → IsSync code }
+    ensures only { IsSync code → result ≡ true }
+{
+    header_of(code) == 2 && payload_of(code) == SYNC
+}
+
+// Whether a code is that of a word that carries the state of the key.
+fn is_state(code: u128) -> bool
+    requires { code < 2 ^ 67 }
+    ensures is { result ≡ true → IsState code }
+    ensures only { IsState code → result ≡ true }
+{
+    header_of(code) == 2 && payload_of(code) >> 58 == 10
+}
+
+// Makes the line that of a word by which a receiver finds the metaframe.
+fn sync_line(line: &mut Vec<u8>, inverted: bool) -> Result<(), OutOfMemory>
+    ensures { OnOk result (line.new.items ≡ sync_text inverted) }
+{
+    line.clear();
+    put_bit(line, b"sync ", inverted)
+}
+
+// Makes the line that of a word that carries the state of the key.
+fn state_line(line: &mut Vec<u8>, inverted: bool, state: u64) -> Result<(), OutOfMemory>
+    ensures { OnOk result (line.new.items ≡ state_text inverted state) }
+{
+    line.clear();
+    put_bit(line, b"state ", inverted)?;
+    put_digits(line, b" ", 15, state)
+}
+
+// Makes the line that of any other code.
+fn other_line(
+    line: &mut Vec<u8>,
+    inverted: bool,
+    header: u8,
+    payload: u64,
+) -> Result<(), OutOfMemory>
+    requires { header < 4 }
+    ensures { OnOk result (line.new.items ≡ other_text inverted header payload) }
+{
+    line.clear();
+    put_bit(line, b"code ", inverted)?;
+    put_bit(line, b" ", header / 2 == 1)?;
+    put(line, bit_text(header % 2 == 1))?;
+    put_digits(line, b" ", 16, payload)
+}
+
+// Makes the line that of a code, in place of what stood in it.
+pub fn code_line(line: &mut Vec<u8>, code: u128) -> Result<(), OutOfMemory>
+    requires { code < 2 ^ 67 }
+    ensures { OnOk result (IsCodeLine code line.new.items) }
+{
+    let inverted = inversion_of(code);
+    let header = header_of(code);
+    let payload = payload_of(code);
+    if is_sync(code) {
+        return sync_line(line, inverted);
+    }
+    if is_state(code) {
+        return state_line(line, inverted, payload % 0x400_0000_0000_0000);
+    }
+    other_line(line, inverted, header, payload)
+}

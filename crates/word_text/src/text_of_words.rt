@@ -1,0 +1,115 @@
+ghost use Rattle.std.specs.Prelude.{false, Err, OnOk, IfErr, ◌≡◌, ◌<◌, ◌≤◌, ◌++◌, ℕ, List, Some, length, take, IfOk, OnErr, MatchResult};
+ghost use Rattle.words_files.specs.WordsOfFile.{first_refusal, has_wrong_tag, words_of_file};
+ghost use Rattle.word_text.specs.Bytes.{IsKept};
+ghost use Rattle.word_text.specs.Answers.{words_error, ListsWords, AnswersWords};
+ghost use Rattle.word_text.specs.WordLines.{nine_bytes, IsSized, IsWordLine};
+ghost use Rattle.word_text.specs.Lines.{ended};
+
+use crate::cut::behind;
+use crate::digits::{put, put_byte};
+use crate::error::WordsAt;
+use crate::line_of_word::word_line;
+use crate::word::FileWord;
+use byteorder::{BigEndian, ByteOrder};
+use lk_base::OutOfMemory;
+use std::alloc::Global;
+
+// The word in nine bytes whose first is 1, 2 or 3.
+fn word_in(bytes: &[u8]) -> FileWord
+    requires whole { 9 ≤ length bytes.now }
+    requires tag { has_wrong_tag (take 9 bytes.now) ≡ false }
+    ensures sized { IsSized result }
+    ensures bytes { take 9 bytes.now ≡ nine_bytes result }
+{
+    let number = BigEndian::read_u64(&bytes[1..]);
+    let tag = bytes[0];
+    if tag == 1 {
+        FileWord::Data(number)
+    } else if tag == 2 {
+        FileWord::Control(number)
+    } else {
+        FileWord::Bad(number)
+    }
+}
+
+// The first word of these bytes, which stand at an offset, or its refusal.
+fn first_word(offset: u64, bytes: &[u8]) -> Result<FileWord, WordsAt>
+    requires { 0 < length bytes.now }
+    ensures word { IfOk result (λ word. IsSized word × (9 ≤ length bytes.now) × (take 9 bytes.now ≡ nine_bytes word)) }
+    ensures refusal { IfErr result (λ e. first_refusal offset (take 9 bytes.now) ≡ Some (words_error e)) }
+{
+    if !matches!(bytes[0], 1 | 2 | 3) {
+        return Err(WordsAt::Tag(offset));
+    }
+    if bytes.len() < 9 {
+        return Err(WordsAt::Short(offset));
+    }
+    Ok(word_in(bytes))
+}
+
+// Appends the line of a word, ended, to a text. It is spelled in the buffer.
+fn put_word(line: &mut Vec<u8>, text: &mut Vec<u8>, word: FileWord) -> Result<(), OutOfMemory>
+    ensures ok { OnOk result ((told : List ℕ) × IsWordLine word told × (text.new.items ≡ text.old.items ++ ended told)) }
+    ensures err { OnErr result (text.new.items ≡ text.old.items) }
+{
+    word_line(line, word)?;
+    put_byte(line, b'\n')?;
+    put(text, line)
+}
+
+// Appends the listing of a words file to `out`, or as much of it as there is before a refusal.
+fn put_words_text(
+    alloc: Global,
+    bytes: &[u8],
+    out: &mut Vec<u8>,
+) -> Result<Result<u64, WordsAt>, OutOfMemory>
+    ensures answer { IfOk result (λ answer. MatchResult answer
+        (λ count. ListsWords bytes.now out.old.items out.new.items count)
+        (λ refusal. words_of_file bytes.now ≡ Err (words_error refusal))) }
+    ensures kept { IsKept out.old.items out.new.items }
+{
+    put(out, b"words\n")?;
+    let mut line = Vec::new(alloc);
+    let mut count = 1u64;
+    let mut rest = bytes;
+    let mut offset = 0u64;
+    while !rest.is_empty() {
+        let word = match first_word(offset, rest) {
+            Ok(word) => word,
+            Err(refusal) => return Ok(Err(refusal)),
+        };
+        put_word(&mut line, out, word)?;
+        rest = behind(rest, 9);
+        offset += 9;
+        count += 1;
+    }
+    Ok(Ok(count))
+}
+
+/// Appends the listing of a words file to `out` and returns its count of lines. A file that has none is refused for the
+/// least offset at which something is wrong, and at one offset for its tag first.
+///
+/// # Errors
+///
+/// The refusal of the file, and `OutOfMemory` where memory ran out and nowhere else. Each leaves `out` as it was.
+pub fn list_words(
+    alloc: Global,
+    bytes: &[u8],
+    out: &mut Vec<u8>,
+) -> Result<Result<u64, WordsAt>, OutOfMemory>
+    ensures answer { IfOk result (λ answer. AnswersWords bytes.now out.old.items out.new.items answer) }
+    ensures memory { OnErr result (out.new.items ≡ out.old.items) }
+{
+    let before = out.len();
+    let answer = match put_words_text(alloc, bytes, out) {
+        Ok(answer) => answer,
+        Err(error) => {
+            out.truncate(before);
+            return Err(error);
+        }
+    };
+    if answer.is_err() {
+        out.truncate(before);
+    }
+    Ok(answer)
+}

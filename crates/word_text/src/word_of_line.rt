@@ -1,0 +1,84 @@
+ghost use Rattle.std.specs.Prelude.{◌≡◌, ◌<◌, ℕ, IfOk, MatchOption};
+ghost use Rattle.control_words.specs.declared.fields.Control.{Control};
+ghost use Rattle.control_words.specs.ControlWord.{IsWordOf};
+ghost use Rattle.word_text.specs.declared.word.FileWord.{FileWord};
+ghost use Rattle.word_text.specs.Read.{byte_at, end_at};
+ghost use Rattle.word_text.specs.WordLines.{IsWordLine, IsSized, control_text};
+
+use crate::cut::{behind, behind_equals, byte_at};
+use crate::digits::number_of;
+use crate::line_of_word::word_line;
+use crate::word::FileWord;
+use control_words::{Control, Eop, to_word};
+use lk_base::OutOfMemory;
+
+// How the data before a control word end, from the text where that is told.
+fn end_of(text: &[u8]) -> Eop
+    ensures { result ≡ end_at (byte_at text.now 0) }
+{
+    match byte_at(text, 0) {
+        b'e' => Eop::Error,
+        byte => {
+            if byte >= b'1' && byte <= b'8' {
+                Eop::End(byte - b'0')
+            } else {
+                Eop::Going
+            }
+        }
+    }
+}
+
+// The control word whose fields a line can tell.
+fn control_of(line: &[u8]) -> u64
+    ensures { (c : Control) (crc x : ℕ) → IsWordOf c crc x → line.now ≡ control_text c crc → result ≡ x }
+{
+    let sop = behind_equals(line);
+    let eop = behind_equals(sop);
+    let reset = behind_equals(eop);
+    let flow = behind_equals(reset);
+    let channel = behind_equals(flow);
+    let multi = behind_equals(channel);
+    let crc = behind_equals(multi);
+    let c = Control {
+        burst: byte_at(line, 0) == b'b',
+        sop: byte_at(sop, 0) == b'1',
+        eop: end_of(eop),
+        reset: byte_at(reset, 0) == b'1',
+        flow: (number_of(flow, 16) % 0x1_0000) as u16,
+        channel: (number_of(channel, 10) % 0x100) as u8,
+        multi: (number_of(multi, 10) % 0x100) as u8,
+    };
+    to_word(c, (number_of(crc, 16) % 0x100_0000) as u32)
+}
+
+// The word that a line can be the line of, and no other.
+fn candidate(line: &[u8]) -> FileWord
+    ensures { (word : FileWord) → IsSized word → IsWordLine word line.now → result ≡ word }
+{
+    let first = byte_at(line, 0);
+    let second = byte_at(line, 1);
+    if first == b'd' {
+        FileWord::Data(number_of(behind(line, 5), 16))
+    } else if first == b'c' {
+        FileWord::Control(number_of(behind(line, 8), 16))
+    } else if second == b'a' {
+        FileWord::Bad(number_of(behind(line, 4), 16))
+    } else {
+        FileWord::Control(control_of(line))
+    }
+}
+
+// The word of which this is the line. `None` exactly where it is the line of no word. A word is spelled in the buffer.
+pub fn word_of(spelled: &mut Vec<u8>, line: &[u8]) -> Result<Option<FileWord>, OutOfMemory>
+    ensures { IfOk result (λ answer. MatchOption answer
+        ((word : FileWord) → IsSized word → IsWordLine word line.now → ⊥)
+        (λ word. IsSized word × IsWordLine word line.now)) }
+{
+    let word = candidate(line);
+    word_line(spelled, word)?;
+    if spelled.as_slice() == line {
+        Ok(Some(word))
+    } else {
+        Ok(None)
+    }
+}
