@@ -87,7 +87,7 @@ columns_from k p (l ∷ ls) column (next ∷ columns) d e is count =
 conses : {A : Type 0} {a b : A} {xs ys : List A} → a ≡ b → xs ≡ ys → a ∷ xs ≡ b ∷ ys
 conses e f = cc
 
-ticked_push : (d : State) (ticks : List (List LaneStep)) (tick : List LaneStep) → ticked_all d (ticks ++ tick ∷ []) ≡ ticked (ticked_all d ticks) tick
+pub ticked_push : (d : State) (ticks : List (List LaneStep)) (tick : List LaneStep) → ticked_all d (ticks ++ tick ∷ []) ≡ ticked (ticked_all d ticks) tick
 ticked_push d [] tick = refl
 ticked_push d (t ∷ ticks) tick = ticked_push (ticked d t) ticks tick
 
@@ -108,7 +108,7 @@ whole_columns : (n : ℕ) (columns : List (List LaneStep)) → AreLong n columns
 whole_columns n [] long = refl
 whole_columns n (c ∷ cs) long = (let h = long.0 in conses (take_all n c (omega (arith, h))) (whole_columns n cs long.1))
 
-one_more : (columns : List (List LaneStep)) (n : ℕ) → ticks_of columns (n + 1) ≡ ticks_of columns n ++ tick_at columns n ∷ []
+pub one_more : (columns : List (List LaneStep)) (n : ℕ) → ticks_of columns (n + 1) ≡ ticks_of columns n ++ tick_at columns n ∷ []
 one_more columns n = map-range_with_len_more (tick_at columns) 0 n n (omega arith)
 
 -- after the first n bits
@@ -132,7 +132,7 @@ unsettled d tick (t ∷ ticks) = unsettled (ticked d tick) t ticks
 -- ---- the laws
 
 -- of no bits too, but that it is not settled then
-taken_is : (d : State) (columns : List (List LaneStep)) (n : ℕ) → 1 ≤ length d.lanes → length columns ≡ length d.lanes → AreLong n columns →
+pub taken_is : (d : State) (columns : List (List LaneStep)) (n : ℕ) → 1 ≤ length d.lanes → length columns ≡ length d.lanes → AreLong n columns →
     columns_taken 0 columns d ≡ with_settled (ticked_all d (ticks_of columns n)) false
 taken_is d [] n some count long = absurd (omega (arith, some, count))
 taken_is d (c ∷ cs) n some count long =
@@ -145,7 +145,7 @@ columns_are_ticks d columns zero some lanes count long = absurd (omega (arith, s
 columns_are_ticks d columns (suc n) some lanes count long =
     taken_is d columns (suc n) lanes count long ∙ unsettled d (tick_at columns 0) (map (tick_at columns) (range_with_len 1 n))
 
-unsettled_stands : (more : ℕ) (d : State) (s : Settings) (ticks : List (List LaneStep)) (given : List Aligned) → StandsWith more d s ticks given → StandsWith more (with_settled d false) s ticks given
+pub unsettled_stands : (more : ℕ) (d : State) (s : Settings) (ticks : List (List LaneStep)) (given : List Aligned) → StandsWith more d s ticks given → StandsWith more (with_settled d false) s ticks given
 unsettled_stands more d s ticks given stands =
     let k = stands.keeps in
     record {
@@ -166,7 +166,7 @@ unsettled_stands more d s ticks given stands =
     never : false ≡ true → ⊥
     never f = cc
 
-kept_count : (L room : ℕ) (lanes : List LaneSoFar) (starts : List ℕ) → length starts ≡ length lanes → length (kept_lanes L room lanes starts) ≡ length lanes
+pub kept_count : (L room : ℕ) (lanes : List LaneSoFar) (starts : List ℕ) → length starts ≡ length lanes → length (kept_lanes L room lanes starts) ≡ length lanes
 kept_count L room [] starts e = refl
 kept_count L room (lane ∷ lanes) [] e = absurd (omega (arith, e))
 kept_count L room (lane ∷ lanes) (start ∷ starts) e = ap suc (kept_count L room lanes starts (omega (arith, e)))

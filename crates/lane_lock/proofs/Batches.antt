@@ -25,7 +25,7 @@ pub shown_both : (xs ys : List LaneStep) → shown_in (xs ++ ys) ≡ shown_in xs
 shown_both [] ys = refl
 shown_both (x ∷ xs) ys = ap (λ (g : List LaneStep). cond (shows x) (x ∷ g) g) (shown_both xs ys) ∙ shown_one (shows x) x (shown_in xs) (shown_in ys)
 
-shown_nothings : (n : ℕ) → shown_in (replicate n steps.Nothing) ≡ []
+pub shown_nothings : (n : ℕ) → shown_in (replicate n steps.Nothing) ≡ []
 shown_nothings zero = refl
 shown_nothings (suc n) = shown_nothings n
 
@@ -33,7 +33,7 @@ pub low_both : (xs ys : List LaneStep) → all_low xs → all_low ys → all_low
 low_both [] ys a b = b
 low_both (x ∷ xs) ys a b = (a.0, low_both xs ys a.1 b)
 
-low_nothings : (n : ℕ) → all_low (replicate n steps.Nothing)
+pub low_nothings : (n : ℕ) → all_low (replicate n steps.Nothing)
 low_nothings zero = tt
 low_nothings (suc n) = (tt, low_nothings n)
 

@@ -32,7 +32,7 @@ front_more [] x n h = absurd (omega arith)
 front_more (y ∷ xs) x zero h = refl
 front_more (y ∷ xs) x (suc n) h = (let k : n < length xs = omega arith in front_more xs x n k)
 
-one_step : (s : Settings) (bits : List Bool) (b : Bool) (own : List LaneStep) (x : LaneStep) → AreSteps s bits own → IsStep s (bits ++ b ∷ []) x →
+pub one_step : (s : Settings) (bits : List Bool) (b : Bool) (own : List LaneStep) (x : LaneStep) → AreSteps s bits own → IsStep s (bits ++ b ∷ []) x →
     AreSteps s (bits ++ b ∷ []) (own ++ x ∷ [])
 one_step s bits b own x are is = record {
   long = length-append own (x ∷ []) ∙ ap (λ n. n + 1) are.long ∙ sym (length-append bits (b ∷ []));
@@ -162,7 +162,7 @@ next_bit (suc n) (suc k) x h =
     ap (λ m. take m (bits_of (suc n) x)) e ∙ ap (λ bits. (bit_at x n == 1) ∷ bits) (next_bit n k x lt)
     ∙ ap (λ m. (bit_at x n == 1) ∷ (take k (bits_of n x) ++ (bit_at x m == 1) ∷ [])) (sym f)
 
-nothings_more : (k : ℕ) → replicate k steps.Nothing ++ steps.Nothing ∷ [] ≡ replicate (k + 1) steps.Nothing
+pub nothings_more : (k : ℕ) → replicate k steps.Nothing ++ steps.Nothing ∷ [] ≡ replicate (k + 1) steps.Nothing
 nothings_more zero = refl
 nothings_more (suc k) =
     let e : suc k + 1 ≡ suc (k + 1) = omega arith in

@@ -1,1 +1,1 @@
-pub mod Founds
+mod Founds

@@ -44,20 +44,6 @@ impl Found {
             Found::Step(place, step) => step_if(place == k, k < width, step),
         }
     }
-
-    /// How many of so many bits from bit k on complete no step, up to the next that does, or to this end.
-    pub fn quiet(self, k: u32, end: u32, width: u32) -> u32
-        requires order { k ≤ end }
-        requires within { IsWithin width self }
-        ensures most { result + k ≤ end }
-        ensures quiet { (j : ℕ) → k ≤ j → j < result + k → get_or (steps_found width self) j variants.Ended ≡ variants.Nothing }
-    {
-        match self {
-            Found::End => 0,
-            Found::Quiet => end.min(width).saturating_sub(k),
-            Found::Step(place, _) => before(place, k, end.min(width)),
-        }
-    }
 }
 
 // The step, or none; behind the bits it has ended.
@@ -74,18 +60,5 @@ fn step_if(here: bool, within: bool, step: LaneStep) -> LaneStep
         LaneStep::Nothing
     } else {
         LaneStep::Ended
-    }
-}
-
-// How many bits from bit k on come before the one at this place, or are left up to this end where it is over.
-fn before(place: u32, k: u32, end: u32) -> u32
-    ensures most { k ≤ end → result + k ≤ end }
-    ensures none { end ≤ k → result ≡ 0 }
-    ensures never { (j : ℕ) → k ≤ j → j < result + k → j ≡ place → ⊥ }
-{
-    if place < k {
-        end.saturating_sub(k)
-    } else {
-        place.min(end).saturating_sub(k)
     }
 }

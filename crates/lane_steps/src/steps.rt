@@ -1,10 +1,11 @@
-ghost use Rattle.std.specs.Prelude.{◌≡◌, ◌<◌, ◌≤◌, ◌+◌, ◌*◌, ◌/◌, ◌^◌, Bool, List, [], ℕ, get_or, length, replicate, vec_capacity, IfOk};
+ghost use Rattle.std.specs.Prelude.{◌≡◌, ◌<◌, ◌≤◌, ◌+◌, ◌*◌, ◌/◌, ◌^◌, Bool, List, [], ℕ, false, get_or, length, replicate, true, vec_capacity, IfOk};
 ghost use Rattle.std.specs.Int.{bit_at};
 ghost use Rattle.lk_base.specs.Checksum.{bits_of, bits_of_bytes};
 ghost use Rattle.lk_base.specs.Link.{Settings};
 ghost use Rattle.lock_model.specs.declared.types.LaneStep.TheVariants as variants;
 ghost use Rattle.lock_model.specs.Low.{is_low};
 ghost use Rattle.lane_lock.specs.Bytes.{Brings, BringsBatch};
+ghost use Rattle.lane_lock.specs.Dark.{StaysDark};
 ghost use Rattle.lane_lock.specs.Standing.{IsReport, Stands};
 
 use crate::found::{Found, found_of};
@@ -99,6 +100,15 @@ impl LaneSteps {
         self.width = 0;
     }
 
+    /// Whether it is dark in these bytes, which come next: it is in no word lock, its search began 67 bits ago or more, and its last
+    /// 67 bits and theirs are all 0, or all 1. Then their bits complete no step.
+    pub fn stays_dark(&self, bytes: &[u8]) -> bool
+        ensures dark { result ≡ true → StaysDark self.now.lock bytes.now }
+        ensures light { result ≡ false → StaysDark self.now.lock bytes.now → ⊥ }
+    {
+        self.lock.stays_dark(bytes)
+    }
+
     /// The step of bit k of the last bytes, counted from the first, the highest of the first byte; behind them it has ended.
     pub fn step(&self, k: u32) -> LaneStep
         ensures value { result ≡ get_or self.now.shown k variants.Ended }
@@ -117,15 +127,6 @@ impl LaneSteps {
             Found::Quiet => 0,
             Found::Step(place, _) => 1 << place,
         }
-    }
-
-    /// How many of the bits of the last bytes from bit k on show nothing, up to the next that shows something, or to this end.
-    pub fn quiet_up_to(&self, k: u32, end: u32) -> u32
-        requires { k ≤ end }
-        ensures most { result + k ≤ end }
-        ensures quiet { (j : ℕ) → k ≤ j → j < result + k → get_or self.now.shown j variants.Ended ≡ variants.Nothing }
-    {
-        self.found.quiet(k, end, self.width)
     }
 
     /// The report over the bytes so far.

@@ -16,9 +16,9 @@ use Rattle.lock_model.proofs.StepsHold.{first_steps, steps_show_tracks}
 use Rattle.lock_model.proofs.StepsHold.{steps_fit}
 use Rattle.epoch_model.specs.GroupLaw.{HasAttempts, tracks_received}
 use Rattle.epoch_model.specs.SoFar.{LaneSoFar}
-use Rattle.receiver_model.specs.Fed.{Fed, first_bits, has_ended}
-use Rattle.receiver_model.specs.Given.{bits_in, lanes_at}
-use Rattle.receiver_model.proofs.Clocks.{length-bits}
+use Rattle.event_model.specs.Fed.{Fed, first_bits, has_ended}
+use Rattle.event_model.specs.Given.{bits_in, lanes_at}
+use Rattle.event_model.proofs.Clocks.{length-bits}
 use Rattle.deskew.specs.Ticks.{AreTicks, is_ended, lane_shown, lanes_shown, steps_in, tick_at, ticks_of}
 use Rattle.rx_front.specs.Lanes.{AllStand, IsColumn}
 use Rattle.rx_front.specs.States.{Lane}

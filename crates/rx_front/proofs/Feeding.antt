@@ -7,7 +7,7 @@ use Rattle.std.proofs.lemmas.List.Elements.{All-head, All-tail}
 use Rattle.lk_base.specs.declared.word.Aligned.{Aligned}
 use Rattle.lk_base.specs.Link.{Settings, IsLink}
 use Rattle.lock_model.specs.declared.types.LaneStep.{LaneStep}
-use Rattle.receiver_model.specs.Fed.{Fed, all_finished, longest}
+use Rattle.event_model.specs.Fed.{Fed, all_finished, longest}
 use Rattle.epoch_model.proofs.Leasts.{clash}
 use Rattle.deskew.specs.States as deskew
 use Rattle.deskew.specs.Stands as deskews

@@ -9,7 +9,7 @@ use Rattle.circular_buffer.specs.Buffer.{Buffer, buffer}
 use Rattle.lk_base.specs.Checksum.{bits_of, bits_of_bytes}
 use Rattle.lk_crc.proofs.Pieces.{bits_low, bits_split}
 use Rattle.lane_model.proofs.Numbers.{length-bits_of}
-use Rattle.receiver_model.proofs.Clocks.{bits-append}
+use Rattle.event_model.proofs.Clocks.{bits-append}
 use Rattle.rx_front.proofs.Rounds.{bits_taken, drop_one}
 
 no_bits : (x : ℕ) → bits_of 0 x ≡ []

@@ -9,9 +9,9 @@ use Rattle.lk_base.specs.Link.{Settings}
 use Rattle.lock_model.specs.declared.types.LaneStep.{LaneStep}
 use Rattle.receive_model.specs.Behind.{comes_behind}
 use Rattle.epoch_model.specs.SoFar.{AreKnown, LaneSoFar}
-use Rattle.receiver_model.specs.Fed.{Fed, clock_of, least_unfinished, lesser, longest, rounds as rounds_of}
-use Rattle.receiver_model.specs.Given.{AreItems}
-use Rattle.receiver_model.proofs.KnownItems.{items_exist, items_rise}
+use Rattle.event_model.specs.Fed.{Fed, clock_of, least_unfinished, lesser, longest, rounds as rounds_of}
+use Rattle.event_model.specs.Given.{AreItems}
+use Rattle.event_model.proofs.KnownItems.{items_exist, items_rise}
 use Rattle.deskew.specs.Stands as deskews
 use Rattle.deskew.specs.States as deskew
 use Rattle.deskew.proofs.Running.{running_begins}

@@ -1,16 +1,19 @@
+-- What other crates cite.
 pub mod Rounds
-pub mod Taking
 pub mod Clocked
-pub mod Places
 pub mod Feeding
 pub mod Known
-pub mod Locks
-pub mod Ticking
-pub mod RoundsMade
-pub mod Resting
-pub mod Gathering
-pub mod Covering
 pub mod Waiting
-pub mod Batching
-pub mod Slices
-pub mod Seen
+-- What this crate alone cites.
+mod Taking
+mod Places
+mod Locks
+mod Ticking
+mod RoundsMade
+mod Resting
+mod Gathering
+mod Covering
+mod Batching
+mod Slices
+mod Seen
+mod Darkness

@@ -8,8 +8,8 @@ use Rattle.lock_model.specs.declared.types.LaneStep.{LaneStep}
 use Rattle.lock_model.specs.declared.types.LaneReport.{LaneReport}
 use Rattle.lock_model.specs.Steps.{AreSteps}
 use Rattle.lane_lock.specs.Standing as lock
-use Rattle.receiver_model.specs.Fed.{Fed, first_bits}
-use Rattle.receiver_model.proofs.Clocks.{length-bits, bits-append}
+use Rattle.event_model.specs.Fed.{Fed, first_bits}
+use Rattle.event_model.proofs.Clocks.{length-bits, bits-append}
 use Rattle.rx_front.specs.States.{Lane}
 use Rattle.rx_front.specs.Lanes.{AllStand, IsColumn, LaneStands, fed_lane, finished_lane}
 use Rattle.rx_front.specs.Calls.{IsReportOf, count_at, fed_more, finished_at, is_open, lanes_fed, lanes_finished, room_at}

@@ -6,7 +6,7 @@ use Rattle.std.proofs.lemmas.List.Elements.{All-head, All-tail}
 use Rattle.lk_base.specs.declared.word.Aligned.{Aligned}
 use Rattle.lk_base.specs.Link.{Settings}
 use Rattle.lock_model.specs.declared.types.LaneStep.TheVariants as steps
-use Rattle.receiver_model.specs.Fed.{Fed}
+use Rattle.event_model.specs.Fed.{Fed}
 use Rattle.deskew.specs.Quiet.{IsQuiet}
 use Rattle.deskew.proofs.Quieting.{quiet_clocks_change_nothing}
 use Rattle.deskew.proofs.Running.{running_begins, running_ends}

@@ -14,8 +14,8 @@ use Rattle.lane_lock.specs.Bytes.{Brings}
 use Rattle.lane_lock.specs.Lane.{LaneState}
 use Rattle.lane_lock.specs.Standing.{Stands}
 use Rattle.epoch_model.proofs.Leasts.{clash}
-use Rattle.receiver_model.specs.Fed.{Fed, first_bits}
-use Rattle.receiver_model.proofs.Clocks.{length-bits, bits-append}
+use Rattle.event_model.specs.Fed.{Fed, first_bits}
+use Rattle.event_model.proofs.Clocks.{length-bits, bits-append}
 use Rattle.rx_front.specs.States.{Lane}
 use Rattle.rx_front.specs.Lanes.{IsColumn, IsTaken, LaneStands, is_ready}
 

@@ -11,7 +11,7 @@ use Rattle.lk_base.specs.declared.word.Aligned.{Aligned}
 use Rattle.lk_base.specs.Link.{Settings}
 use Rattle.lock_model.specs.declared.types.LaneStep.{LaneStep}
 use Rattle.lock_model.specs.declared.types.LaneStep.TheVariants as steps
-use Rattle.receiver_model.specs.Fed.{Fed, all_finished, longest}
+use Rattle.event_model.specs.Fed.{Fed, all_finished, longest}
 use Rattle.deskew.specs.Stands as deskews
 use Rattle.rx_front.specs.States.{Lane, State}
 use Rattle.rx_front.specs.Lanes.{AllStand, AreTaken, HasBytes, are_empty, are_ready, bytes_left, is_empty, is_ready, longer}

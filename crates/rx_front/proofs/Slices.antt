@@ -9,7 +9,7 @@ use Rattle.lock_model.specs.Low.{all_low}
 use Rattle.lock_model.specs.Shows.{shown_in, shows}
 use Rattle.lane_lock.specs.Bytes.{BringsBatch}
 use Rattle.lane_lock.specs.Lane.{LaneState}
-use Rattle.receiver_model.proofs.Clocks.{bits-append}
+use Rattle.event_model.proofs.Clocks.{bits-append}
 
 -- ---- what steps show
 

@@ -7,7 +7,7 @@ use Rattle.lk_base.specs.declared.word.Aligned.{Aligned}
 use Rattle.lk_base.specs.Link.{Settings}
 use Rattle.lock_model.specs.declared.types.LaneStep.{LaneStep}
 use Rattle.lock_model.specs.declared.types.LaneStep.TheVariants as steps
-use Rattle.receiver_model.specs.Fed.{Fed}
+use Rattle.event_model.specs.Fed.{Fed}
 use Rattle.deskew.specs.Stands as deskews
 use Rattle.deskew.specs.Ticks.{AreTicks, steps_in, tick_at, ticks_of}
 use Rattle.rx_front.specs.States.{Lane, State}

@@ -1,20 +1,26 @@
 -- Many rounds at once, each of which finds a byte of every lane.
-use Rattle.std.specs.Prelude.{ℕ, ◌≡◌, ◌+◌, ◌*◌, List, [], ◌∷◌, ◌++◌, length, drop}
+use Rattle.std.specs.Prelude.{ℕ, ◌≡◌, ◌+◌, ◌*◌, ◌⊎◌, true, List, [], ◌∷◌, ◌++◌, length, take, drop}
+use Rattle.lk_base.specs.Checksum.{bits_of_bytes}
 use Rattle.lk_base.specs.Link.{Settings}
 use Rattle.lock_model.specs.declared.types.LaneStep.{LaneStep}
 use Rattle.lock_model.specs.Shows.{shown_in}
+use Rattle.lane_lock.specs.Bytes.{Brings}
+use Rattle.lane_lock.specs.Dark.{StaysDark}
+use Rattle.deskew.specs.Ahead.{can_run_ahead, is_locked}
+use Rattle.deskew.specs.Awaits.{awaits_lock}
 use Rattle.deskew.specs.Columns.{columns_taken}
 use Rattle.deskew.specs.States as deskew
 use Rattle.deskew.specs.Steps.{steps_taken}
-use Rattle.receiver_model.specs.Fed.{Fed}
+use Rattle.event_model.specs.Fed.{Fed}
 use Rattle.rx_front.specs.Lanes.{LaneStands}
-use Rattle.rx_front.specs.States.{Lane}
+use Rattle.rx_front.specs.States.{Lane, State}
 
 -- a lane before and after so many rounds, whose bits completed these steps
 pub record IsBatch (n : ℕ) (v w : Lane) (column : List LaneStep) : Type 0 where
   pub ring : w.ring ≡ drop n v.ring
   pub kept : w.steps ≡ []
   pub long : length column ≡ 8 * n
+  pub brings : Brings v.lock w.lock (bits_of_bytes (take n v.ring)) column
   pub stands : (s : Settings) (rounds : ℕ) (fed : Fed) (before : List LaneStep) → LaneStands v s rounds fed before → LaneStands w s (rounds + n) fed (before ++ column)
 
 -- and the deskew took those that show something, as steps of lane i
@@ -27,6 +33,20 @@ abbrev pub AreBatches : ℕ → List Lane → List Lane → List (List LaneStep)
 AreBatches n [] [] [] = Unit {0}
 AreBatches n (v ∷ lanes) (w ∷ later) (column ∷ columns) = IsBatch n v w column × AreBatches n lanes later columns
 AreBatches n lanes later columns = ⊥
+
+-- it is dark in its next bytes, so many
+abbrev pub IsDarkFor : ℕ → Lane → Type 0
+IsDarkFor n v = StaysDark v.lock (take n v.ring)
+
+-- each lane is in a declared lock, or dark in its next bytes, so many
+abbrev pub KeepLocks : ℕ → List deskew.LaneState → List Lane → Type 0
+KeepLocks n [] lanes = Unit {0}
+KeepLocks n (l ∷ ls) [] = Unit {0}
+KeepLocks n (l ∷ ls) (v ∷ lanes) = ((is_locked l ≡ true) ⊎ IsDarkFor n v) × KeepLocks n ls lanes
+
+-- all bits of so many rounds may be taken before an item is given
+abbrev pub MayTake : ℕ → State → Type 0
+MayTake n v = (can_run_ahead v.deskew ≡ true) ⊎ ((awaits_lock v.deskew ≡ true) × KeepLocks n v.deskew.lanes v.lanes)
 
 -- the same of all lanes
 pub record TookBatch (n : ℕ) (lanes later : List Lane) (d e : deskew.State) : Type 0 where

@@ -3,7 +3,7 @@ use Rattle.std.specs.Prelude.{ℕ, zero, suc, ◌-◌, ◌*◌, Bool, true, fals
 use Rattle.lk_base.specs.Link.{Settings}
 use Rattle.lock_model.specs.declared.types.LaneReport.{LaneReport}
 use Rattle.lane_lock.specs.Standing.{IsReport}
-use Rattle.receiver_model.specs.Fed.{Fed, first_bits}
+use Rattle.event_model.specs.Fed.{Fed, first_bits}
 use Rattle.rx_front.specs.Lanes.{fed_lane, finished_lane}
 use Rattle.rx_front.specs.States.{Lane}
 

@@ -7,7 +7,7 @@ use Rattle.lock_model.specs.declared.types.LaneStep.{LaneStep}
 use Rattle.lock_model.specs.declared.types.LaneStep.TheVariants as steps
 use Rattle.lock_model.specs.Steps.{AreSteps}
 use Rattle.lane_lock.specs.Standing as lock
-use Rattle.receiver_model.specs.Fed.{Fed, first_bits}
+use Rattle.event_model.specs.Fed.{Fed, first_bits}
 use Rattle.rx_front.specs.States.{Lane}
 
 -- ---- calls

@@ -4,8 +4,8 @@ use Rattle.std.specs.List.{cons_option}
 use Rattle.lk_base.specs.declared.word.Aligned.{Aligned}
 use Rattle.lk_base.specs.Link.{Settings, IsLink}
 use Rattle.lock_model.specs.declared.types.LaneStep.{LaneStep}
-use Rattle.receiver_model.specs.Fed.{Fed, all_finished, longest}
-use Rattle.receiver_model.specs.Given.{AreItems}
+use Rattle.event_model.specs.Fed.{Fed, all_finished, longest}
+use Rattle.event_model.specs.Given.{AreItems}
 use Rattle.deskew.specs.Stands as deskew
 use Rattle.deskew.specs.Ticks.{steps_in, ticks_of}
 use Rattle.deskew.specs.Work.{work}

@@ -1,8 +1,9 @@
-ghost use Rattle.std.specs.Prelude.{◌≡◌, ◌<◌, ◌≤◌, ◌==◌, ◌+◌, ◌^◌, ◌++◌, [], List, drop, length, IfOk};
+ghost use Rattle.std.specs.Prelude.{◌≡◌, ◌<◌, ◌≤◌, ◌==◌, ◌+◌, ◌%◌, ◌^◌, ◌++◌, [], List, drop, false, true, length, IfOk};
 ghost use Rattle.lk_base.specs.Link.{Settings};
 ghost use Rattle.lk_base.specs.Positions.{words_from};
 ghost use Rattle.lk_base.specs.declared.word.Aligned.{Aligned as Item};
 ghost use Rattle.lock_model.specs.declared.types.LaneStep.{LaneStep};
+ghost use Rattle.deskew.specs.Blocks.{has_row};
 ghost use Rattle.deskew.specs.Stands.{StandsAhead};
 ghost use Rattle.deskew.specs.Work.{work};
 ghost use Rattle.rx_front.specs.Waiting.{words_in};
@@ -26,7 +27,7 @@ pub struct Block {
 }
 
 impl Model for Block {
-    ghost use Rattle.std.specs.Prelude.{◌≤◌, ◌<◌, ◌+◌, ◌^◌, List, drop, length};
+    ghost use Rattle.std.specs.Prelude.{◌≤◌, ◌<◌, ◌+◌, ◌^◌, List, drop, length, vec_capacity};
     ghost use Rattle.lk_base.specs.Positions.{words_from};
     ghost use Rattle.lk_base.specs.declared.word.Aligned.{Aligned};
 
@@ -34,7 +35,7 @@ impl Model for Block {
 
     ghost view = { λ a. words_from a.first.group (a.first.index + a.cursor) (drop a.cursor a.words.items) };
 
-    ghost invariant = { λ a. (a.cursor ≤ length a.words.items) × (a.first.index + length a.words.items < 2 ^ 32) × (a.first.group < 2 ^ 60) };
+    ghost invariant = { λ a. (a.cursor ≤ length a.words.items) × (a.first.index + length a.words.items < 2 ^ 32) × (a.first.group < 2 ^ 60) × (512 ≤ vec_capacity a.words) };
 }
 
 // The words from this one on.
@@ -67,10 +68,14 @@ impl Block {
         self.cursor == self.words.len()
     }
 
-    /// Takes the next words of the deskew in place of those that it held.
+    /// Takes the next whole rows of the deskew in place of the words that it held: as many as it has to give and 512 words are room
+    /// for.
     pub fn fill(&mut self, deskew: &mut Deskew)
         ensures ahead { (s : Settings) (ticks : List (List LaneStep)) (given : List Item) →
             StandsAhead deskew.old s ticks given → StandsAhead deskew.new s ticks (given ++ self.new) }
+        ensures rows { deskew.new.settings.lanes ≤ 64 → length self.new ≡ 0 → has_row deskew.new ≡ false }
+        ensures whole { length self.new % deskew.new.settings.lanes ≡ 0 }
+        ensures most { has_row deskew.new ≡ true → 512 < length self.new + deskew.new.settings.lanes }
         ensures settings { deskew.new.settings ≡ deskew.old.settings }
         ensures fewer { work deskew.new + length self.new ≤ work deskew.old }
     {

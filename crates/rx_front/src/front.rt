@@ -1,11 +1,12 @@
-ghost use Rattle.std.specs.Prelude.{◌≡◌, ◌<◌, ◌≤◌, ◌+◌, ◌*◌, ◌^◌, ◌==◌, ◌++◌, [], ◌⊎◌, true, false, None, List, ℕ, min, length, take, drop, All, IfOk, IfSome, IfNone, OnSome};
+ghost use Rattle.std.specs.Prelude.{◌≡◌, ◌<◌, ◌≤◌, ◌+◌, ◌*◌, ◌%◌, ◌^◌, ◌==◌, ◌++◌, [], ◌⊎◌, true, false, None, List, ℕ, min, length, take, drop, All, IfOk, IfSome, IfNone, OnSome};
 ghost use Rattle.std.specs.Bool.{OnFalse, OnTrue};
 ghost use Rattle.lk_base.specs.Link.{Settings};
 ghost use Rattle.lk_base.specs.Positions.{words_from};
 ghost use Rattle.lk_base.specs.declared.word.Aligned.{Aligned as Item};
-ghost use Rattle.receiver_model.specs.Fed.{Fed};
-ghost use Rattle.deskew.specs.Ahead.{can_run_ahead};
+ghost use Rattle.event_model.specs.Fed.{Fed};
+ghost use Rattle.deskew.specs.Blocks.{has_row};
 ghost use Rattle.deskew.specs.Steps.{start_at};
+ghost use Rattle.rx_front.specs.Batches.{MayTake};
 ghost use Rattle.rx_front.specs.Calls.{IsReportOf, count_at, fed_more, finished_at, is_open, lanes_fed, lanes_finished, nothing_fed, room_at};
 ghost use Rattle.rx_front.specs.Lanes.{HasBytes, are_ready as can_be_taken};
 ghost use Rattle.rx_front.specs.Locks.{declared_at};
@@ -17,8 +18,8 @@ use crate::batch::{Batch, MOST_BYTES};
 use crate::block::Block;
 use crate::lane::{Lane, lock_of};
 use crate::lanes::{
-    are_empty, are_ready, feed_at, finish_at, fresh_lanes, report_at, show_steps, take_all,
-    take_batches, take_rounds, whole_rounds, zeros_from,
+    are_empty, are_ready, feed_at, finish_at, fresh_lanes, keep_locks, report_at, show_steps,
+    take_all, take_batches, take_rounds, whole_rounds, zeros_from,
 };
 use deskew::Deskew;
 use lk_base::{Aligned, Link, OutOfMemory, Pos, RxWord};
@@ -134,10 +135,15 @@ impl Front {
         self.block.is_empty()
     }
 
-    /// Takes words of the deskew, where none wait: the next block of whole rows, which may have none.
+    /// Takes words of the deskew, where none wait: the next block of whole rows, as many as the deskew has to give and 512 words are
+    /// room for. Where words wait, nothing changes.
     pub fn fill(&mut self)
         ensures stands { (s : Settings) (fed : List Fed) (items : List Item) (t : Progress) →
             Stands self.old s fed items t → Stands self.new s fed items t }
+        ensures rows { length self.new.waiting ≡ 0 → has_row self.new.deskew ≡ false }
+        ensures whole { length self.old.waiting ≡ 0 → length self.new.waiting % self.new.deskew.settings.lanes ≡ 0 }
+        ensures most { length self.old.waiting ≡ 0 → has_row self.new.deskew ≡ true → 512 < length self.new.waiting + self.new.deskew.settings.lanes }
+        ensures same { 1 ≤ length self.old.waiting → self.new ≡ self.old }
         ensures fewer { items_left self.new ≤ items_left self.old }
         ensures lanes { self.new.lanes ≡ self.old.lanes }
         ensures left { self.new.left ≡ self.old.left }
@@ -257,20 +263,36 @@ impl Front {
         true
     }
 
-    // How many rounds can be made at once: some only where all their bits may be taken before an item is given, since an epoch goes
-    // on in which each lane is in a declared lock, and where they are enough to be worth it.
+    // How many rounds can be made at once: some only where all their bits may be taken before an item is given, and where they are
+    // enough to be worth it.
     fn batch_bytes(&self) -> usize
         ensures most { result ≤ 536 }
         ensures there { All (HasBytes result) self.now.lanes }
         ensures left { 1 ≤ result → self.now.left ≡ 0 }
         ensures running { 1 ≤ result → self.now.over ≡ false }
-        ensures ahead { 1 ≤ result → can_run_ahead self.now.deskew ≡ true }
+        ensures ahead { 1 ≤ result → MayTake result self.now }
     {
-        if self.left > 0 || self.over || !self.deskew.can_run_ahead() {
+        if self.left > 0 || self.over {
             return 0;
         }
         let count = whole_rounds(&self.lanes, MOST_BYTES);
-        if count < LEAST_BYTES { 0 } else { count }
+        if count < LEAST_BYTES || !self.may_take(count) {
+            return 0;
+        }
+        count
+    }
+
+    // Whether all bits of so many rounds may be taken before an item is given: an epoch goes on in which each lane is in a declared
+    // lock; or none goes on, and none can begin before a lane declares a lock, which no lane does.
+    fn may_take(&self, count: usize) -> bool
+        requires { All (HasBytes count) self.now.lanes }
+        ensures may { result ≡ true → MayTake count self.now }
+        ensures not { length self.now.deskew.lanes ≡ length self.now.lanes → result ≡ false → MayTake count self.now → ⊥ }
+    {
+        if self.deskew.can_run_ahead() {
+            return true;
+        }
+        self.deskew.awaits_lock() && keep_locks(&self.lanes, count, &self.deskew)
     }
 
     // So many rounds at once, each of which finds a byte of every lane. The clock moves on by all their bits.
@@ -280,7 +302,7 @@ impl Front {
         requires there { All (HasBytes count) self.old.lanes }
         requires left { self.old.left ≡ 0 }
         requires running { self.old.over ≡ false }
-        requires ahead { can_run_ahead self.old.deskew ≡ true }
+        requires ahead { MayTake count self.old }
         ensures moves { (s : Settings) (fed : List Fed) (items : List Item) (t : Progress) →
             Stands self.old s fed items t → MovesOn self.new s fed items t }
         ensures less { weight self.new < weight self.old }

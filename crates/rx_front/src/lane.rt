@@ -1,12 +1,12 @@
-ghost use Rattle.std.specs.Prelude.{◌≡◌, ◌<◌, ◌≤◌, ◌+◌, ◌-◌, ◌*◌, ◌^◌, true, List, ℕ, min, length, take, drop, slice_index, IfOk, IfSome};
+ghost use Rattle.std.specs.Prelude.{◌≡◌, ◌<◌, ◌≤◌, ◌+◌, ◌-◌, ◌*◌, ◌^◌, true, false, List, ℕ, min, length, take, drop, slice_index, IfOk, IfSome};
 ghost use Rattle.circular_buffer.specs.Buffer.{buffer};
 ghost use Rattle.lk_base.specs.Checksum.{bits_of, bits_of_bytes};
 ghost use Rattle.lk_base.specs.Link.{Settings};
 ghost use Rattle.lock_model.specs.declared.types.LaneStep.{LaneStep as Step};
 ghost use Rattle.lock_model.specs.Low.{is_low};
 ghost use Rattle.lane_lock.specs.Standing.{IsReport};
-ghost use Rattle.receiver_model.specs.Fed.{Fed, first_bits};
-ghost use Rattle.rx_front.specs.Batches.{IsBatchOf};
+ghost use Rattle.event_model.specs.Fed.{Fed, first_bits};
+ghost use Rattle.rx_front.specs.Batches.{IsBatchOf, IsDarkFor};
 ghost use Rattle.rx_front.specs.Locks.{lock_of};
 ghost use Rattle.rx_front.specs.Lanes.{Covers, HasBytes, IsFresh, IsTaken, LaneStands, fed_lane, finished_lane, is_empty as has_no_byte, is_ready as can_take, step_at};
 
@@ -204,6 +204,20 @@ impl Lane {
         ensures { (n : ℕ) → n ≤ result → HasBytes n self.now }
     {
         self.ring.len()
+    }
+
+    /// Whether it is dark in its next bytes, so many: then rounds that take them show nothing of it.
+    pub fn stays_dark(&self, count: usize) -> bool
+        requires { HasBytes count self.now }
+        ensures dark { result ≡ true → IsDarkFor count self.now }
+        ensures light { result ≡ false → IsDarkFor count self.now → ⊥ }
+    {
+        let (front, behind) = self.ring.as_slices();
+        if count <= front.len() {
+            return self.steps.stays_dark(&front[..count]);
+        }
+        let first = self.steps.stays_dark(front);
+        first && self.steps.stays_dark(&behind[..count - front.len()])
     }
 
     /// So many rounds take a byte of it each. It tells at which of their bits it may show something: bit k of the number is 0 only

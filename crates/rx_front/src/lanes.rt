@@ -1,12 +1,12 @@
-ghost use Rattle.std.specs.Prelude.{◌≡◌, ◌<◌, ◌≤◌, true, length, map, All, IfOk};
-ghost use Rattle.std.specs.Prelude.{◌+◌, ◌^◌, min, take, List, ℕ};
+ghost use Rattle.std.specs.Prelude.{◌≡◌, ◌<◌, ◌≤◌, true, false, length, map, All, IfOk};
+ghost use Rattle.std.specs.Prelude.{◌+◌, ◌^◌, ◌⊎◌, min, take, List, ℕ};
 ghost use Rattle.lk_base.specs.Link.{Settings};
 ghost use Rattle.lock_model.specs.declared.types.LaneStep.{LaneStep as Step};
 ghost use Rattle.std.specs.Int.{bit_at};
-ghost use Rattle.receiver_model.specs.Fed.{Fed};
+ghost use Rattle.event_model.specs.Fed.{Fed};
 ghost use Rattle.rx_front.specs.Calls.{IsReportOf, count_at, is_open, lanes_fed, lanes_finished, room_at};
 ghost use Rattle.rx_front.specs.Lanes.{AllStand, AreCovered, AreTaken, AreWide, HasBytes, IsFresh, are_empty as have_no_byte, are_ready as can_be_taken, step_at};
-ghost use Rattle.rx_front.specs.Batches.{TookBatch};
+ghost use Rattle.rx_front.specs.Batches.{IsDarkFor, KeepLocks, TookBatch};
 ghost use Rattle.deskew.specs.Steps.{ticked};
 
 use crate::batch::Batch;
@@ -99,6 +99,33 @@ pub fn whole_rounds(lanes: &[Lane], most: usize) -> usize
         count = count.min(lane.bytes_there());
     }
     count
+}
+
+/// Whether in so many rounds no lane declares a lock, since each is in one or stays dark: false only where some lane is in none and
+/// does not stay dark.
+pub fn keep_locks(lanes: &[Lane], count: usize, deskew: &Deskew) -> bool
+    requires there { All (HasBytes count) lanes.now }
+    requires few { length lanes.now ≤ 64 }
+    requires count { length lanes.now ≡ deskew.now.settings.lanes }
+    ensures keep { result ≡ true → KeepLocks count deskew.now.lanes lanes.now }
+    ensures lose { length deskew.now.lanes ≡ length lanes.now → result ≡ false → KeepLocks count deskew.now.lanes lanes.now → ⊥ }
+{
+    for i in 0..lanes.len() {
+        let locked = deskew.is_locked(i as u32);
+        if !declares_none(&lanes[i], locked, count) {
+            return false;
+        }
+    }
+    true
+}
+
+// Whether in so many rounds the lane declares no lock, since it is in one, as is told, or stays dark.
+fn declares_none(lane: &Lane, locked: bool, count: usize) -> bool
+    requires { HasBytes count lane.now }
+    ensures none { result ≡ true → (locked ≡ true) ⊎ IsDarkFor count lane.now }
+    ensures some { result ≡ false → (locked ≡ true) ⊎ IsDarkFor count lane.now → ⊥ }
+{
+    locked || lane.stays_dark(count)
 }
 
 /// So many rounds, at most 536, take a byte of every lane each, and the deskew takes the steps that their bits show, lane by lane.

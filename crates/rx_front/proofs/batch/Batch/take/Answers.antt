@@ -5,7 +5,7 @@ use Rattle.lk_base.specs.Checksum.{bits_of_bytes}
 use Rattle.lock_model.specs.declared.types.LaneStep.{LaneStep}
 use Rattle.lane_lock.specs.Bytes.{BringsBatch}
 use Rattle.lane_lock.proofs.Batches.{batch_both}
-use Rattle.receiver_model.proofs.Clocks.{length-bits}
+use Rattle.event_model.proofs.Clocks.{length-bits}
 use Rattle.rx_front.proofs.Slices.{cut_both, found_low, found_most}
 use Rattle.rx_front.proofs.batch.Batch.take.Goals as goal
 

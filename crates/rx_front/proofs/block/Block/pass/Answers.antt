@@ -19,4 +19,4 @@ overflow_add-self c =
 pub invariant_of-self : goal.invariant_of-self
 invariant_of-self c =
     let i = c.self.inside in
-    (some_within i.first.group (i.first.index + i.cursor) c.args.count i.cursor i.words.items c.self.invariant.0 (subst (λ (items : List Aligned). c.args.count ≤ length items) (sym c.self.view_is) c.requires), c.self.invariant.1, c.self.invariant.2)
+    (some_within i.first.group (i.first.index + i.cursor) c.args.count i.cursor i.words.items c.self.invariant.0 (subst (λ (items : List Aligned). c.args.count ≤ length items) (sym c.self.view_is) c.requires), c.self.invariant.1, c.self.invariant.2, c.self.invariant.3)

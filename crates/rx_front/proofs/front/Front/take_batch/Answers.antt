@@ -1,9 +1,8 @@
 -- Many rounds at once.
-use Rattle.std.proofs.Common.{ℕ, ◌≡◌, sym, ap, ◌∙◌, subst, ◌<◌, ◌≤◌, true, false, List, length, All, arith}
+use Rattle.std.proofs.Common.{ℕ, ◌≡◌, sym, ap, ◌∙◌, subst, ◌<◌, ◌≤◌, false, List, length, All, arith}
 use Rattle.lk_base.specs.Link.{Settings}
-use Rattle.deskew.specs.Ahead.{can_run_ahead}
 use Rattle.deskew.specs.States as deskew
-use Rattle.rx_front.specs.Batches.{TookBatch}
+use Rattle.rx_front.specs.Batches.{MayTake, TookBatch}
 use Rattle.rx_front.specs.Lanes.{AreCovered, AreWide, HasBytes}
 use Rattle.rx_front.specs.States.{Lane, State}
 use Rattle.rx_front.specs.Standing.{MovesOn, Stands, weight}
@@ -23,7 +22,7 @@ returns-clause-moves c = λ s fed items t st.
     let running = subst (λ (v : State). v.over ≡ false) (sym c.self.view_is) c.requires.running in
     let left = subst (λ (v : State). ◌≡◌ {A = ℕ} v.left 0) (sym c.self.view_is) c.requires.left in
     let has = subst (λ (v : State). All (HasBytes n) v.lanes) (sym c.self.view_is) c.requires.there in
-    let can = subst (λ (v : State). can_run_ahead v.deskew ≡ true) (sym c.self.view_is) c.requires.ahead in
+    let can = subst (λ (v : State). MayTake n v) (sym c.self.view_is) c.requires.ahead in
     subst (λ (vs : List Lane). MovesOn (after_batch vs d v) s fed items t) (sym whole)
     (batch_moves n v later d s fed items t running left c.requires.some c.requires.most has can took (subst (λ (v : State). Stands v s fed items t) (sym c.self.view_is) st))
 
