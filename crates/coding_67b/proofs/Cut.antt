@@ -56,7 +56,7 @@ shifted x =
     ∙ ap (λ y. x % 2 ^ 61 * 2 ^ 67 + y) low
     ∙ end
 
-pub pushed : (count bits code : ℕ) → count < 8 → code < 2 ^ 67 → bits_of (count + 67) (bit_or (bits * 2 ^ 67 % 2 ^ 128) code) ≡ bits_of count bits ++ bits_of 67 code
+pub pushed : (count bits code : ℕ) → count < 61 → code < 2 ^ 67 → bits_of (count + 67) (bit_or (bits * 2 ^ 67 % 2 ^ 128) code) ≡ bits_of count bits ++ bits_of 67 code
 pushed count bits code h k =
     ap (λ y. bits_of (count + 67) (bit_or y code)) (shifted bits)
     ∙ ap (bits_of (count + 67)) (or_shifted (bits % 2 ^ 61) 67 code k)

@@ -2,11 +2,13 @@
 #![tactic(auto)]
 
 mod codes;
+mod eight;
 mod encoder;
 mod reader;
 mod writer;
 
 pub use codes::decode;
+pub use eight::bytes_of_eight;
 pub use encoder::Encoder;
 pub use reader::BitReader;
 pub use writer::BitWriter;

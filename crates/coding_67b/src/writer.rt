@@ -1,4 +1,4 @@
-ghost use Rattle.std.specs.Prelude.{◌≡◌, ◌↔◌, ◌+◌, ◌-◌, ◌^◌, ◌<◌, ◌≤◌, List, [], ◌++◌, false, length, replicate, IsNone, IfSome, IfNone};
+ghost use Rattle.std.specs.Prelude.{◌≡◌, ◌↔◌, ◌+◌, ◌-◌, ◌^◌, ◌<◌, ◌≤◌, List, [], ◌++◌, true, false, length, replicate, IsNone, IfSome, IfNone};
 ghost use Rattle.lk_base.specs.Checksum.{bits_of};
 
 use lane_model::CODE_BITS;
@@ -20,7 +20,7 @@ impl Model for BitWriter {
 
     ghost view = { λ w. bits_of w.count w.bits };
 
-    ghost invariant = { λ w. w.count < 75 };
+    ghost invariant = { λ w. w.count < 128 };
 }
 
 impl BitWriter {
@@ -31,15 +31,22 @@ impl BitWriter {
         BitWriter { bits: 0, count: 0 }
     }
 
-    /// Puts the 67 bits of a code behind the waiting ones, bit 66 first. Fewer than 8 bits wait before.
+    /// Puts the 67 bits of a code behind the waiting ones, bit 66 first. Fewer than 61 bits wait before.
     pub fn push(&mut self, code: u128)
-        requires waiting { length self.old < 8 }
+        requires waiting { length self.old < 61 }
         requires code { code < 2 ^ 67 }
         ensures bits { self.new ≡ self.old ++ bits_of 67 code }
         ensures count { length self.new ≡ length self.old + 67 }
     {
         self.bits = self.bits << CODE_BITS | code;
         self.count += CODE_BITS;
+    }
+
+    /// Whether no bit waits.
+    pub fn is_empty(&self) -> bool
+        ensures { (result ≡ true) ↔ (self.now ≡ []) }
+    {
+        self.count == 0
     }
 
     /// Takes the next 8 waiting bits, the first of them as the byte's highest. `None` exactly where fewer than 8 wait,

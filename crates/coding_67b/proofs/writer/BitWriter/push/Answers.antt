@@ -5,7 +5,7 @@ use Rattle.lane_model.proofs.Numbers.{length-bits_of}
 use Rattle.coding_67b.proofs.Cut.{pushed}
 use Rattle.coding_67b.proofs.writer.BitWriter.push.Goals as goal
 
-few : (count bits : ℕ) (waiting : List Bool) → bits_of count bits ≡ waiting → length waiting < 8 → count < 8
+few : (count bits : ℕ) (waiting : List Bool) → bits_of count bits ≡ waiting → length waiting < 61 → count < 61
 few count bits waiting e h = let l : count ≡ length waiting = sym (length-bits_of count bits) ∙ ap length e in omega arith
 
 pub invariant_of-self : goal.invariant_of-self
