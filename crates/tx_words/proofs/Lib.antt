@@ -1,0 +1,22 @@
+-- What other crates cite.
+pub mod ListedSent
+pub mod SomeList
+pub mod NumbersLaw
+pub mod SentLists
+pub mod Making
+pub mod FirstWords
+-- What this crate alone cites.
+mod Passing
+mod Loading
+mod BlockWords
+mod Steps
+mod HeldOn
+mod Kept
+mod Counting
+mod ListedCounts
+mod Opening
+mod Slots
+mod Listing
+mod SentExamplesHold
+mod Numbers
+mod Leftover

@@ -1,0 +1,11 @@
+pub mod Sources
+pub mod Driving
+pub mod Counts
+pub mod Tallies
+pub mod Sent
+pub mod Places
+pub mod SentLists
+pub mod SentLaw
+pub mod SentExamples
+pub mod Making
+pub mod Streaming

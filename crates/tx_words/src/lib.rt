@@ -1,0 +1,28 @@
+//! The words that a link sends: what a payload stream is made of, its words one after another, and what they send of its packets.
+#![tactic(auto)]
+
+mod bursts;
+mod counts;
+mod laws;
+mod packet;
+mod rows;
+mod sent;
+mod sent_list;
+mod source;
+mod stream;
+mod stream_packets;
+mod stream_words;
+mod word_maker;
+
+pub use counts::{SentCount, count_listed, count_sent};
+pub use laws::{
+    arguments_are_source, listed_packets_are_sent, made_words_are_first, small_streams,
+};
+pub use packet::{Made, Packet};
+pub use sent::Sent;
+pub use sent_list::SentList;
+pub use source::StreamSource;
+pub use stream::words_of;
+pub use stream_packets::sent_in;
+pub use stream_words::StreamWords;
+pub use word_maker::WordMaker;
