@@ -14,8 +14,8 @@ use Rattle.lock_model.specs.Tracks.{Track, shown_tracks}
 use Rattle.lock_model.proofs.StepsHold.{earlier_steps_stay, steps_exist, steps_show_tracks}
 use Rattle.epoch_model.specs.GroupLaw.{HasAttempts, tracks_received}
 use Rattle.epoch_model.specs.SoFar.{LaneSoFar}
-use Rattle.receiver_model.specs.Fed.{Fed, all_finished, first_bits, has_ended, longest}
-use Rattle.receiver_model.proofs.Clocks.{bits-append, length-bits}
+use Rattle.event_model.specs.Fed.{Fed, all_finished, first_bits, has_ended, longest}
+use Rattle.event_model.proofs.Clocks.{bits-append, length-bits}
 use Rattle.deskew.specs.Ticks.{AreLaneSteps, steps_in, tick_at, ticks_of}
 use Rattle.deskew.proofs.Stepped.{shown_same}
 use Rattle.link_laws.specs.Received.{bits_of_lanes}

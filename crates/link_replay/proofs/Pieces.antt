@@ -6,7 +6,7 @@ use Rattle.std.proofs.Math.Seq.{take-add}
 use Rattle.std.proofs.lemmas.List.{length-drop, length-take, take_all, take_min}
 use Rattle.lk_base.specs.Link.{Settings}
 use Rattle.lock_model.specs.declared.types.LaneStep.{LaneStep}
-use Rattle.receiver_model.specs.Fed.{Fed}
+use Rattle.event_model.specs.Fed.{Fed}
 use Rattle.rx_front.specs.Calls.{fed_more, finished_at, is_open, lanes_fed, nothing_fed}
 use Rattle.rx_front.specs.Lanes.{AllStand}
 use Rattle.rx_front.specs.States.{Lane}

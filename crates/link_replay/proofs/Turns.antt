@@ -12,9 +12,9 @@ use Rattle.epoch_model.specs.GroupLaw.{HasAttempts}
 use Rattle.epoch_model.specs.SoFar.{AreKnown, LaneSoFar}
 use Rattle.epoch_model.proofs.Leasts.{clash}
 use Rattle.receive_model.proofs.Cuts.{split}
-use Rattle.receiver_model.specs.Fed.{Fed, all_finished, first_bits, longest, whole}
-use Rattle.receiver_model.specs.Given.{bits_in, lanes_at}
-use Rattle.receiver_model.proofs.Clocks.{length-bits}
+use Rattle.event_model.specs.Fed.{Fed, all_finished, first_bits, longest, whole}
+use Rattle.event_model.specs.Given.{bits_in, lanes_at}
+use Rattle.event_model.proofs.Clocks.{length-bits}
 use Rattle.link_laws.specs.Accidents.{Accidents, AreAccidents, Sent}
 use Rattle.link_laws.proofs.OfBits.{bits_have_lanes}
 use Rattle.rx_front.specs.Calls.{nothing_fed}

@@ -12,7 +12,7 @@ use Rattle.lk_base.specs.Positions.{words_from}
 use Rattle.epoch_model.specs.SoFar.{LaneSoFar}
 use Rattle.link_laws.specs.Accidents.{made}
 use Rattle.link_laws.specs.Received.{whole_lane}
-use Rattle.receiver_model.specs.Fed.{Fed, longest}
+use Rattle.event_model.specs.Fed.{Fed, longest}
 use Rattle.rx_front.specs.Standing.{AtRound, Drained, MovesOn, Progress, Stands, locks_at}
 use Rattle.rx_front.specs.States.{State}
 use Rattle.rx_front.specs.Waiting.{words_in}

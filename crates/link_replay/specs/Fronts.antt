@@ -5,8 +5,8 @@ use Rattle.lk_base.specs.declared.word.Word.{Word as SentWord}
 use Rattle.lk_base.specs.Checksum.{bits_of_bytes}
 use Rattle.lk_base.specs.Link.{Settings}
 use Rattle.epoch_model.specs.GroupLaw.{HasAttempts}
-use Rattle.receiver_model.specs.Fed.{Fed}
-use Rattle.receiver_model.specs.Given.{AreItems}
+use Rattle.event_model.specs.Fed.{Fed}
+use Rattle.event_model.specs.Given.{AreItems}
 use Rattle.link_laws.specs.Received.{bits_of_lanes, whole_lane}
 use Rattle.rx_front.specs.Calls.{count_at, fed_more, finished_at, is_open, room_at}
 use Rattle.rx_front.specs.Lanes.{are_ready}

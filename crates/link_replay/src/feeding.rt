@@ -1,7 +1,7 @@
 ghost use Rattle.std.specs.Prelude.{◌≡◌, ◌≤◌, ◌<◌, ◌+◌, ◌^◌, true, ℕ, List, drop, length, map};
 ghost use Rattle.lk_base.specs.Link.{Settings};
 ghost use Rattle.lk_base.specs.declared.word.Aligned.{Aligned as Item};
-ghost use Rattle.receiver_model.specs.Fed.{Fed};
+ghost use Rattle.event_model.specs.Fed.{Fed};
 ghost use Rattle.rx_front.specs.Calls.{count_at, is_open, room_at};
 ghost use Rattle.rx_front.specs.Standing.{Progress, Stands};
 ghost use Rattle.link_replay.specs.Lanes.{AreFew};

@@ -1,4 +1,4 @@
-ghost use Rattle.std.specs.Prelude.{◌≡◌, ◌≤◌, ◌%◌, ◌<◌, ◌^◌, ◌+◌, ◌++◌, ◌∷◌, [], ℕ, List, IfOk, IfSome, OnOk, length};
+ghost use Rattle.std.specs.Prelude.{◌≡◌, ◌≤◌, ◌%◌, ◌<◌, ◌^◌, ◌+◌, ◌++◌, ◌∷◌, [], ℕ, List, IfOk, IfSome, length};
 ghost use Rattle.std.specs.List.{cons_option};
 ghost use Rattle.lk_base.specs.Link.{group_of};
 ghost use Rattle.lk_base.specs.Positions.{words_from};
@@ -57,7 +57,7 @@ impl Watch {
             link: *link,
             skew: skews[0],
             lanes,
-            stretch: Stretch::make(alloc),
+            stretch: Stretch::make(),
             groups: 0,
             stretches: 0,
         })
@@ -88,62 +88,54 @@ impl Watch {
         }
     }
 
-    // Takes the next word, which stands at this slot, if at one, and counts the stretch that ends with it, where it passes and is
-    // no sent one.
-    fn word(
-        &mut self,
-        sent: &WordList,
-        slot: Option<usize>,
-        word: RxWord,
-    ) -> Result<(), OutOfMemory>
+    // Takes the next word, which stands at this place and this slot, if at one, and counts the stretch that ends with it, where it
+    // passes and is no sent one.
+    fn word(&mut self, sent: &WordList, slot: Option<usize>, at: Pos, word: RxWord)
         requires slot { IfSome slot (λ n. n < length sent.now) }
+        requires few { length sent.now < 2 ^ 60 }
         requires room { self.old.stretches < 2 ^ 63 }
-        ensures { OnOk result (TakesWord self.old self.new sent.now slot word) }
+        ensures { TakesWord self.old self.new sent.now slot at word }
     {
-        let strange = self.stretch.word(sent, slot, word)?;
-        if strange {
+        if self.stretch.word(sent, slot, at, word) {
             self.stretches += 1;
         }
-        Ok(())
     }
 
     /// Takes words that stand one after another in a group, the first of them at this place.
-    pub fn words(&mut self, sent: &WordList, at: Pos, words: &[RxWord]) -> Result<(), OutOfMemory>
+    pub fn words(&mut self, sent: &WordList, at: Pos, words: &[RxWord])
         requires room { self.old.stretches + length words.now < 2 ^ 63 }
-        ensures same { OnOk result (IsSame self.old self.new) }
-        ensures watches { OnOk result ((lanes : List LaneSoFar) (locks : ℕ → List ℕ) (items : List Item) →
-            Watches self.old sent.now lanes locks items → Watches self.new sent.now lanes locks (items ++ words_from at.group at.index words.now)) }
+        requires places { at.index + length words.now ≤ 2 ^ 32 }
+        ensures same { IsSame self.old self.new }
+        ensures watches { (lanes : List LaneSoFar) (locks : ℕ → List ℕ) (items : List Item) →
+            Watches self.old sent.now lanes locks items → Watches self.new sent.now lanes locks (items ++ words_from at.group at.index words.now) }
     {
         let size = self.link.group_words();
         let first = group_slot(&self.link, sent, self.skew, at.group);
         let mut index = at.index as u64;
         for word in words {
-            self.word(sent, slot_in(first, size, index), *word)?;
+            let place = Pos {
+                group: at.group,
+                index: index as u32,
+            };
+            self.word(sent, slot_in(first, size, index), place, *word);
             index += 1;
         }
-        Ok(())
     }
 
     /// Takes the next item. Where it is a group, the front has given none since.
-    pub fn item(&mut self, front: &Front, sent: &WordList, item: Aligned) -> Result<(), OutOfMemory>
+    pub fn item(&mut self, front: &Front, sent: &WordList, item: Aligned)
         requires groups { self.old.groups < 2 ^ 63 }
         requires stretches { self.old.stretches + 1 < 2 ^ 63 }
         requires there { length self.old.lanes ≤ length front.now.lanes }
         requires told { TellsItem self.old item (starts_of front.now) }
-        ensures same { OnOk result (IsSame self.old self.new) }
-        ensures watches { OnOk result ((lanes : List LaneSoFar) (locks : ℕ → List ℕ) (items : List Item) → ShowsItem self.old.settings lanes item (starts_of front.now) →
-            Watches self.old sent.now lanes locks items → Watches self.new sent.now lanes locks (items ++ item ∷ [])) }
+        ensures same { IsSame self.old self.new }
+        ensures watches { (lanes : List LaneSoFar) (locks : ℕ → List ℕ) (items : List Item) → ShowsItem self.old.settings lanes item (starts_of front.now) →
+            Watches self.old sent.now lanes locks items → Watches self.new sent.now lanes locks (items ++ item ∷ []) }
     {
         match item {
-            Aligned::Group(at) => {
-                self.group(front, sent, at.group);
-                Ok(())
-            }
+            Aligned::Group(at) => self.group(front, sent, at.group),
             Aligned::Word(at, word) => self.words(sent, at, &[word]),
-            Aligned::Break(_, _) => {
-                self.stretch.begin(None);
-                Ok(())
-            }
+            Aligned::Break(_, _) => self.stretch.begin(None),
         }
     }
 

@@ -1,6 +1,5 @@
 -- Item by item.
-use Rattle.std.proofs.Common.{◌∙◌, subst, Bool}
-use Rattle.link_replay.specs.Fronts.{AfterItem}
+use Rattle.std.proofs.Common.{◌∙◌}
 use Rattle.link_replay.proofs.Watching.{some_kept, still_watched}
 use Rattle.link_replay.proofs.counting.drain.Goals as goal
 
@@ -9,20 +8,18 @@ take_item-requires-clause-watched c =
     some_kept c.args.sent.now c.args.front.now c.fill.new.self c.args.watch.now c.items.watch c.requires
     (λ r at w. still_watched r at c.args.sent.now c.items.front c.fill.new.self c.items.watch c.fill.ensures.stands (c.items.invariant.keeps r at w))
 
-pub returns-then-not-branch-clause-drained : goal.returns-then-not-branch-clause-drained
-returns-then-not-branch-clause-drained c = λ r at w.
-    subst (λ (more : Bool). AfterItem more r at c.args.sent.now c.take_item.new.front c.take_item.new.watch) c.if-not-branch.true
-    (c.in_ok-take_item.ensures.watched r at (still_watched r at c.args.sent.now c.items.front c.fill.new.self c.items.watch c.fill.ensures.stands (c.items.invariant.keeps r at w)))
+pub returns-then-not-take_item-clause-drained : goal.returns-then-not-take_item-clause-drained
+returns-then-not-take_item-clause-drained c = λ r at w.
+    c.if-not-take_item.ensures.watched r at (still_watched r at c.args.sent.now c.items.front c.fill.new.self c.items.watch c.fill.ensures.stands (c.items.invariant.keeps r at w))
 
-pub items-preserved-else-not-branch : goal.items-preserved-else-not-branch
-items-preserved-else-not-branch c =
+pub items-preserved-else-not-take_item : goal.items-preserved-else-not-take_item
+items-preserved-else-not-take_item c =
     let i = c.items.invariant.still in
     let f = c.fill.ensures in
-    let s = c.in_ok-take_item.ensures.still in
+    let s = c.if-not-take_item.ensures.still in
     record {
       keeps = λ r at w.
-          subst (λ (more : Bool). AfterItem more r at c.args.sent.now c.take_item.new.front c.take_item.new.watch) c.if-not-branch.false
-          (c.in_ok-take_item.ensures.watched r at (still_watched r at c.args.sent.now c.items.front c.fill.new.self c.items.watch f.stands (c.items.invariant.keeps r at w)));
+          c.if-not-take_item.ensures.watched r at (still_watched r at c.args.sent.now c.items.front c.fill.new.self c.items.watch f.stands (c.items.invariant.keeps r at w));
       still = record { lanes = s.lanes ∙ f.lanes ∙ i.lanes; left = s.left ∙ f.left ∙ i.left; over = s.over ∙ f.over ∙ i.over };
     }
 
@@ -35,9 +32,9 @@ pub items-preserved : goal.items-preserved
 items-preserved c =
     let i = c.items.invariant.still in
     let f = c.fill.ensures in
-    let s = c.in_ok-take_words.ensures.still in
+    let s = c.take_words.ensures.still in
     record {
       keeps = λ r at w.
-          c.in_ok-take_words.ensures.watched r at (still_watched r at c.args.sent.now c.items.front c.fill.new.self c.items.watch f.stands (c.items.invariant.keeps r at w));
+          c.take_words.ensures.watched r at (still_watched r at c.args.sent.now c.items.front c.fill.new.self c.items.watch f.stands (c.items.invariant.keeps r at w));
       still = record { lanes = s.lanes ∙ f.lanes ∙ i.lanes; left = s.left ∙ f.left ∙ i.left; over = s.over ∙ f.over ∙ i.over };
     }

@@ -36,10 +36,10 @@ item-requires-in-Some-clause-told c =
     let none = c.in-Some.ensures.waiting ∙ no_words c.args.front.now.waiting c.requires.none in
     tells r s.1 c.args.sent.now c.args.front.now c.item.new.self c.args.watch.now w none c.in-Some.item (c.in-Some.ensures.gives r.settings (all_fed_to s.1 r.lanes) w.items w.t w.stands)
 
-pub returns-in_ok-item-in-Some-clause-watched : goal.returns-in_ok-item-in-Some-clause-watched
-returns-in_ok-item-in-Some-clause-watched c = λ r at w. (
+pub returns-in-Some-clause-watched : goal.returns-in-Some-clause-watched
+returns-in-Some-clause-watched c = λ r at w. (
     let none = c.in-Some.ensures.waiting ∙ no_words c.args.front.now.waiting c.requires.none in
-    item_watched r at c.args.sent.now c.args.front.now c.item.new.self c.args.watch.now w none c.item-in-Some.new.self c.in-Some.item c.in_ok-item-in-Some.ensures.same c.in_ok-item-in-Some.ensures.watches
+    item_watched r at c.args.sent.now c.args.front.now c.item.new.self c.args.watch.now w none c.item-in-Some.new.self c.in-Some.item c.item-in-Some.ensures.same c.item-in-Some.ensures.watches
     (c.in-Some.ensures.gives r.settings (all_fed_to at r.lanes) w.items w.t w.stands))
 
 pub returns-in-None-clause-watched : goal.returns-in-None-clause-watched

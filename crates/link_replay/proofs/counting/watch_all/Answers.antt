@@ -1,6 +1,6 @@
 -- Turn by turn.
 use Rattle.std.proofs.Common.{ℕ, ◌≡◌, ◌+◌, ◌-◌, ◌<◌, sym, ap, ◌∙◌, subst, false, true, List, map, arith}
-use Rattle.receiver_model.specs.Fed.{longest, whole}
+use Rattle.event_model.specs.Fed.{longest, whole}
 use Rattle.rx_front.specs.Standing.{Stands, is_over}
 use Rattle.link_replay.specs.Fronts.{all_fed_to}
 use Rattle.link_replay.proofs.Turns.{turn_fed, turned, whole_few}
@@ -49,7 +49,7 @@ loop-front-preserved c = λ r e t. (
     let more : is_over c.loop-front.front ≡ false = sym c.is_over.ensures ∙ c.loop-front-test.true in
     let turn = ((c.loop-front.invariant r e t).begins more).0 in
     let w = turn_fed r c.loop-front.at c.args.sent.now c.loop-front.front c.feed_all.new.front c.loop-front.watch (map (λ b. b.items) c.args.received.now) e c.feed_all.ensures turn in
-    turned r (c.loop-front.at + 4096) c.args.sent.now c.watch_on.new.front c.watch_on.new.watch (c.in_ok-watch_on.ensures.drained r (c.loop-front.at + 4096) w) c.in_ok-watch_on.ensures.stuck)
+    turned r (c.loop-front.at + 4096) c.args.sent.now c.watch_on.new.front c.watch_on.new.watch (c.watch_on.ensures.drained r (c.loop-front.at + 4096) w) c.watch_on.ensures.stuck)
 
 pub returns : goal.returns
 returns c = λ r e t. (

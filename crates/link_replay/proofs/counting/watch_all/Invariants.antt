@@ -1,6 +1,6 @@
 -- Turn by turn.
 use Rattle.std.proofs.Common.{◌≡◌, ◌-◌, ◌+◌, map}
-use Rattle.receiver_model.specs.Fed.{longest, whole}
+use Rattle.event_model.specs.Fed.{longest, whole}
 use Rattle.link_replay.specs.Fronts.{IsTurn, Received}
 use Rattle.link_replay.proofs.Turns.{Turn}
 use Rattle.link_replay.proofs.counting.watch_all.Given as goal

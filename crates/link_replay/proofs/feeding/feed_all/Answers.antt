@@ -1,7 +1,7 @@
 -- One more lane.
 use Rattle.std.proofs.Common.{ℕ, ◌≡◌, ◌<◌, ◌^◌, sym, ap, ◌∙◌, subst, List, [], length, map, get_or, arith}
 use Rattle.std.proofs.lemmas.List.{get_or-map, length-map}
-use Rattle.receiver_model.specs.Fed.{Fed}
+use Rattle.event_model.specs.Fed.{Fed}
 use Rattle.rx_front.specs.Lanes.{AllStand}
 use Rattle.rx_front.specs.Standing.{Stands}
 use Rattle.link_replay.specs.Fronts.{fed_between}

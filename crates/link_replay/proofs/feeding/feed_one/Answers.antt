@@ -1,6 +1,6 @@
 -- The bytes that its ring takes.
 use Rattle.std.proofs.Common.{◌≡◌, ◌≤◌, ap, ◌∙◌, subst, List, length, min, take, arith}
-use Rattle.receiver_model.specs.Fed.{Fed}
+use Rattle.event_model.specs.Fed.{Fed}
 use Rattle.rx_front.specs.Calls.{is_open}
 use Rattle.rx_front.specs.Standing.{Stands}
 use Rattle.rx_front.specs.States.{State}

@@ -1,12 +1,14 @@
 -- One more word.
-use Rattle.std.proofs.Common.{ℕ, ◌≡◌, ◌+◌, ◌<◌, sym, ap, ◌∙◌, refl, subst, List, ◌++◌, append-nil, length, rules, arith}
+use Rattle.std.proofs.Common.{ℕ, ◌≡◌, ◌+◌, ◌<◌, sym, ap, ◌∙◌, refl, subst, List, ◌++◌, append-nil, length, get_or, rules, arith}
 use Rattle.std.proofs.lemmas.List.{take_all, take_more}
 use Rattle.lk_base.specs.declared.word.Aligned.{Aligned}
+use Rattle.lk_base.specs.declared.position.Pos.{Pos}
 use Rattle.lk_base.specs.declared.word.RxWord.{RxWord}
+use Rattle.lk_base.specs.declared.word.RxWord.TheVariants.{Data}
 use Rattle.lk_base.specs.Link.{Settings, group_of}
 use Rattle.lk_base.specs.Positions.{words_from}
 use Rattle.link_replay.specs.Places.{IsGroupSlot}
-use Rattle.link_replay.specs.Standing.{Watch, Watches, skews_of}
+use Rattle.link_replay.specs.Standing.{TakesWord, Watch, Watches, skews_of}
 use Rattle.link_replay.proofs.Items.{digit_low, words_more}
 use Rattle.link_replay.proofs.watch.Watch.words.Goals as goal
 
@@ -35,9 +37,10 @@ loop-word-preserved c =
     let i = c.loop-word.invariant in
     let n = c.loop-word.word-index in
     let lt = c.loop-word-test.true in
-    let k = c.in_ok-word.ensures {u = tt} in
     let sent = c.args.sent.now in
     let v = c.loop-word.self in
+    let place : ℕ → Pos = λ j. record { group = c.args.at.group; index = j } in
+    let k = subst (λ (j : ℕ). TakesWord v c.word.new.self sent c.slot_in.result (place j) (get_or c.args.words.now n (Data 0))) i.index c.word.ensures in
     let stretches = ap (λ (x : Watch). x.stretches) k.is in
     let low = digit_low k.strange in
     let link : c.self.inside.link ≡ v.settings = ap (λ (x : Watch). x.settings) c.self.view_is ∙ sym i.same.settings in
