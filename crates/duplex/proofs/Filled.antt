@@ -113,9 +113,6 @@ pub record HasDrained (old now : List Queue) (filled : List ℕ) (i : ℕ) : Typ
 abbrev pub keeps_one : List Queue → ℕ → Bool
 keeps_one queues channel = nat_lt 1 (queue_at queues channel).words
 
-pub drained_none : (queues : List Queue) (filled : List ℕ) → HasDrained queues queues filled 0
-drained_none queues filled = record { long = refl; done = λ c h. absurd (omega (arith, h.1)); left = λ c h. refl }
-
 module _ (old now : List Queue) (filled : List ℕ) (count i : ℕ) (f : AreFilled old filled count) (below : i < count) (h : HasDrained old now filled i) where
   inside : i < length filled
   inside = let w = f.within in omega (arith, w, below)

@@ -1,6 +1,6 @@
 -- All packets that were given are those that came: the outputs of the words that arrived are those of a words file but for
 -- its end, which delivers nothing.
-use Rattle.std.proofs.Common.{◌≡◌, ℕ, ◌-◌, true, false, ◌==◌, if◌then◌else◌, List, [], ◌∷◌, ◌++◌, map, flat_map, take, Option, Some, None, refl, sym, ap, ap₂, ◌∙◌, append_assoc, append-nil}
+use Rattle.std.proofs.Common.{◌≡◌, ℕ, ◌-◌, true, false, ◌==◌, if◌then◌else◌, List, [], ◌∷◌, ◌++◌, map, flat_map, take, Some, None, refl, sym, ap, ap₂, ◌∙◌, append_assoc, append-nil}
 use Rattle.std.specs.List.{cons_option}
 use Rattle.lk_base.specs.Words.{as_sent}
 use Rattle.lk_base.specs.declared.position.Pos.{Pos}
@@ -12,7 +12,7 @@ use Rattle.receive_model.specs.Positions.{Placed, placed_from}
 use Rattle.receive_model.specs.Stretches.{Item, OfStretch, Break, Verified, stretches, verified, items_of}
 use Rattle.receive_model.specs.Spans.{last_span}
 use Rattle.receive_model.specs.Pieces.{Packet, pieces}
-use Rattle.receive_model.specs.Events.{Event, Setting, Delivered, Dropped, FaultSpan, Flow, is_listed, delivered, delivered_on, run_at_end, drop_why, at_fault, outputs_from, outputs_at, no_word_span, events_of_items, word_events, words_epoch}
+use Rattle.receive_model.specs.Events.{Event, Setting, Delivered, Dropped, FaultSpan, Flow, is_listed, delivered, run_at_end, drop_why, at_fault, outputs_from, outputs_at, no_word_span, events_of_items, word_events, words_epoch}
 use Rattle.reassembly.specs.SoFar.{ended_epochs, open_words, items_so_far, outputs_so_far, aligned_word}
 use Rattle.reassembly.specs.SoFarLaws.{words_put}
 use Rattle.delivery_laws.specs.LawOnWords.{EachIsPacket, NumbersFit}
@@ -24,18 +24,10 @@ use Rattle.duplex.specs.Duplexes.{Runs, HasGotAll}
 use Rattle.duplex.specs.declared.duplex.Duplex.{Duplex}
 use Rattle.duplex.proofs.Opens.{is_run}
 use Rattle.receive_model.proofs.AllEvents.{faulty-none, no_word_span-none}
-use Rattle.receive_model.proofs.EventPackets.{open_drop-none}
+use Rattle.receive_model.proofs.EventPackets.{delivered-append, open_drop-none}
 use Rattle.reassembly.proofs.SoFarHold.{outputs-append}
 
 -- ---- what is delivered
-
-cons_front : (o : Option Packet) (xs ys : List Packet) → cons_option o (xs ++ ys) ≡ cons_option o xs ++ ys
-cons_front None xs ys = refl
-cons_front (Some p) xs ys = refl
-
-pub delivered-append : (channel : ℕ) (xs ys : List Event) → delivered channel (xs ++ ys) ≡ delivered channel xs ++ delivered channel ys
-delivered-append channel [] ys = refl
-delivered-append channel (x ∷ xs) ys = ap (cons_option (delivered_on channel x)) (delivered-append channel xs ys) ∙ cons_front (delivered_on channel x) (delivered channel xs) (delivered channel ys)
 
 no_drops : (s : Setting) (channel : ℕ) (run : List Verified) (why : Why) (channels : List ℕ) → delivered channel (flat_map (at_fault s run why) channels) ≡ []
 no_drops s channel run why [] = refl

@@ -1,11 +1,13 @@
-pub mod OwnRows
-pub mod Told
-pub mod Filled
-pub mod Hearings
-pub mod Slots
-pub mod Starts
-pub mod Runs
+-- What other crates cite.
 pub mod Opens
-pub mod Listed
-pub mod Packets
 pub mod Given
+-- What this crate alone cites.
+mod OwnRows
+mod Told
+mod Filled
+mod Hearings
+mod Slots
+mod Starts
+mod Runs
+mod Listed
+mod Packets
