@@ -4,7 +4,7 @@ use Rattle.std.proofs.lemmas.Option.{none-some, same_Some}
 use Rattle.lk_base.specs.Link.{Settings}
 use Rattle.lk_outside.specs.Files.{Files, Told}
 use Rattle.receive_model.specs.Events.{Event}
-use Rattle.receiver_model.specs.Fed.{AllBegin, Fed}
+use Rattle.event_model.specs.Fed.{AllBegin, Fed}
 use Rattle.rx_front.specs.Calls.{bytes_at, fed_more, finished_at, is_unfinished}
 use Rattle.rx_end.specs.States.{State}
 use Rattle.rx_end.proofs.Pieces.{given_come_first}

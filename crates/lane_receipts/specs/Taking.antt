@@ -3,8 +3,8 @@ use Rattle.std.specs.Prelude.{◌≡◌, ◌⊎◌, ◌≤◌, ℕ, true, List, 
 use Rattle.lk_base.specs.Link.{Settings}
 use Rattle.lk_outside.specs.Files.{Files, file, Told}
 use Rattle.receive_model.specs.Events.{Event}
-use Rattle.receiver_model.specs.Fed.{Fed, AllBegin, all_finished}
-use Rattle.receiver_model.specs.Given.{AreEvents}
+use Rattle.event_model.specs.Fed.{Fed, AllBegin, all_finished}
+use Rattle.event_model.specs.Given.{AreEvents}
 use Rattle.rx_end.specs.States.{State}
 use Rattle.run_stops.specs.declared.stop.Stop.{Stop}
 use Rattle.run_shell.specs.Outcome.{HoldsPart}

@@ -2,7 +2,7 @@
 ghost use Rattle.std.specs.Prelude.{◌≡◌, ◌<◌, ◌≤◌, ◌^◌, List, ℕ, Some, length, map, slice_get, Contains};
 ghost use Rattle.lk_base.specs.Link.{Settings};
 ghost use Rattle.receive_model.specs.Events.{Event};
-ghost use Rattle.receiver_model.specs.Fed.{Fed};
+ghost use Rattle.event_model.specs.Fed.{Fed};
 ghost use Rattle.run_stops.specs.Stops.{StopCount};
 ghost use Rattle.run_shell.specs.Outputs.{open_names};
 ghost use Rattle.receipts.specs.Receipts.{Beginning};

@@ -6,10 +6,11 @@ use Rattle.link_plan.specs.Listing.{numbers_of, channels_in_order, greatest_chan
 use Rattle.link_plan.specs.Plan.{PlanValue}
 use Rattle.link_plan.specs.declared.channel.ChannelRow.{ChannelRow}
 use Rattle.link_plan.specs.declared.plan.Plan.{Plan}
+use Rattle.link_plan.specs.Views.{numbers_in}
 use Rattle.link_plan.proofs.InOrder.{width_in_order}
 use Rattle.link_plan.proofs.Whole.{order-few}
 use Rattle.stream_model.specs.BurstStream.{Source}
-use Rattle.plan_inputs.specs.Inputs.{Inputs, plan_in, numbers_in}
+use Rattle.plan_inputs.specs.Inputs.{Inputs, plan_in}
 use Rattle.plan_inputs.specs.Sources.{IsSourceOf}
 use Rattle.plan_inputs.proofs.SomeSource.{Keeps, plan_keeps}
 

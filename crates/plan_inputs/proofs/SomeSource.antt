@@ -8,18 +8,19 @@ use Rattle.lk_base.specs.declared.shape.Shape.{Shape}
 use Rattle.lk_outside.specs.Files.{Files}
 use Rattle.csv_rows.specs.Rows.{Row, rows_of}
 use Rattle.csv_rows.specs.Told.{first_fault}
-use Rattle.csv_rows.specs.declared.items.Fault.{Fault}
+use Rattle.csv_rows.specs.declared.items.RowFault.{RowFault}
 use Rattle.link_plan.specs.Keys.{keys}
 use Rattle.link_plan.specs.Listing.{fit_width, channels_in_order}
 use Rattle.link_plan.specs.Plan.{PlanValue, plan_of, plan_from, said_by, missing, first_clash, unless_clash, unless_missing, unless_fault}
-use Rattle.link_plan.specs.declared.error.Key.{Key}
-use Rattle.link_plan.specs.declared.error.PlanError.{PlanError}
+use Rattle.link_plan.specs.Views.{numbers_in}
+use Rattle.plan_errors.specs.declared.error.Key.{Key}
+use Rattle.plan_errors.specs.declared.error.PlanError.{PlanError}
 use Rattle.link_plan.proofs.Links.{settings-limits, burst_min-whole, min-below, window-range}
 use Rattle.link_plan.proofs.Whole.{KeepsValue, listed-fit, value-keeps}
 use Rattle.run_stops.specs.Reading.{plan_bytes}
 use Rattle.run_stops.proofs.Readings.{behind_ok}
 use Rattle.stream_model.specs.BurstStream.{Source}
-use Rattle.plan_inputs.specs.Inputs.{Inputs, plan_by, plan_in, numbers_in}
+use Rattle.plan_inputs.specs.Inputs.{Inputs, plan_by, plan_in}
 use Rattle.plan_inputs.specs.Sources.{IsShapeOf, IsSourceOf}
 
 -- ---- the settings of an accepted plan
@@ -32,7 +33,7 @@ no_missing : (rows : List Row) (plan : PlanValue) (m : Option Key) → unless_mi
 no_missing rows plan None e = (refl, e)
 no_missing rows plan (Some key) e = absurd cc
 
-no_fault : (rows : List Row) (plan : PlanValue) (f : Option (ℕ × Fault)) → unless_fault rows f ≡ Ok plan → (f ≡ None) × (unless_missing rows (missing (said_by rows)) ≡ Ok plan)
+no_fault : (rows : List Row) (plan : PlanValue) (f : Option (ℕ × RowFault)) → unless_fault rows f ≡ Ok plan → (f ≡ None) × (unless_missing rows (missing (said_by rows)) ≡ Ok plan)
 no_fault rows plan None e = (refl, e)
 no_fault rows plan (Some f) e = absurd cc
 
@@ -63,9 +64,6 @@ rows_keep rows plan e =
     let (m, clear) = no_missing rows plan (missing (said_by rows)) whole in
     let (c, is) = no_clash rows plan (first_clash (said_by rows) 1 (said_by rows)) clear in
     subst Keeps is (from_limits rows f m c)
-
-pub rows_limits : (rows : List Row) (plan : PlanValue) → plan_of rows ≡ Ok plan → IsLink plan.settings
-rows_limits rows plan e = (rows_keep rows plan e).link
 
 told_ok : (r : Result PlanValue PlanError) (plan : PlanValue) → plan_by r ≡ Ok plan → r ≡ Ok plan
 told_ok (Ok p) plan e = let same : p ≡ plan = cc in ap Ok same

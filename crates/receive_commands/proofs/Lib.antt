@@ -1,6 +1,8 @@
-pub mod LanesThere
-pub mod FileLanes
-pub mod Buffers
+-- What other crates cite.
 pub mod Receives
-pub mod PlanLanes
-pub mod ReceiveRun
+-- What this crate alone cites.
+mod LanesThere
+mod FileLanes
+mod Buffers
+mod PlanLanes
+mod ReceiveRun

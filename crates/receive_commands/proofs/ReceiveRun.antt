@@ -1,12 +1,9 @@
 -- `receive`: where its lanes begin, and what each of its ends fills.
-use Rattle.std.proofs.Common.{◌≡◌, ℕ, zero, suc, ◌≤◌, false, All, List, [], ◌++◌, length, replicate, slice_get, refl, sym, ap, ◌∙◌, subst, arith, Option, Some, None, IfSome, Result, Ok, Err, Contains}
-use Rattle.std.proofs.lemmas.Option.{none-some, same_Some}
+use Rattle.std.proofs.Common.{◌≡◌, ℕ, false, All, List, [], ◌++◌, length, refl, sym, ap, ◌∙◌, subst, arith, Option, Some, None, IfSome, Result, Ok, Err, Contains}
 use Rattle.std.proofs.lemmas.List.FromFn.{length-map-range_with_len}
 use Rattle.run_shell.specs.Names.{lane_name}
 use Rattle.lk_outside.specs.Files.{Files, Told}
-use Rattle.receive_model.specs.Events.{Event}
-use Rattle.receiver_model.specs.Fed.{AllBegin, Fed}
-use Rattle.link_plan.specs.Listing.{channels_in_order, numbers_of}
+use Rattle.event_model.specs.Fed.{AllBegin, Fed}
 use Rattle.link_plan.specs.Plan.{PlanValue}
 use Rattle.link_plan.specs.Views.{plan_value}
 use Rattle.link_plan.specs.declared.plan.Plan.{Plan}
@@ -24,12 +21,11 @@ use Rattle.receipts.specs.Received.{output_names}
 use Rattle.receipts.specs.Receipts.{Beginning, IsReceipt, IsStopped}
 use Rattle.receipts.specs.Settings.{plan_names}
 use Rattle.receipts.proofs.Settings.{is_the_setting, the_setting}
-use Rattle.lane_receipts.specs.Feeding.{IsTaking, offset_of}
+use Rattle.lane_receipts.specs.Feeding.{IsTaking}
 use Rattle.lane_receipts.specs.LaneReports.{names_of_lanes}
-use Rattle.lane_receipts.specs.Taking.{AllTaken, IsBroken}
-use Rattle.lane_receipts.proofs.Beginnings.{longest_of, nothing_offsets}
+use Rattle.lane_receipts.specs.Taking.{IsBroken}
+use Rattle.lane_receipts.proofs.Beginnings.{longest_of}
 use Rattle.lane_receipts.proofs.HeldLanes.{nothing_begins}
-use Rattle.lane_receipts.proofs.LaneEvents.{memory_cut}
 use Rattle.lane_receipts.proofs.LaneNames.{apart}
 use Rattle.lane_receipts.proofs.TakenLanes.{cut_broken}
 use Rattle.receive_commands.specs.declared.lane_buffer.LaneBuffer.{LaneBuffer}
@@ -53,11 +49,6 @@ beginning plan prefix was = record { ahead = []; lists = false; setting = the_se
 pub unmade : (plan : Plan) (was : Option Files) → IfSome was (λ files. (lanes : List (List ℕ)) → lanes_in files (names_of_lanes (plan_value plan)) ≡ Ok lanes →
     Fills (IsReceived (record { plan = plan_value plan; lanes = lanes })) (plan_names (plan_value plan) ++ names_of_lanes (plan_value plan)) (Err stop.OutOfMemory) was was)
 unmade plan was = none_fills (plan_value plan) (beginning plan (plan_value plan).out was) (is_the_setting (plan_value plan)) refl refl refl stop.OutOfMemory tt
-
-pub nothing_within : (limit n lane at : ℕ) → slice_get (replicate n (Some 0)) lane ≡ Some (Some at) → at ≤ limit
-nothing_within limit zero lane at e = absurd (none-some (Some at) e)
-nothing_within limit (suc n) zero at e = let same : 0 ≡ at = same_Some 0 at (same_Some (Some 0) (Some at) e) in omega arith
-nothing_within limit (suc n) (suc lane) at e = nothing_within limit n lane at e
 
 module _ (plan : Plan) (prefix : List ℕ) (was : Option Files) (prefixed : prefix ≡ (plan_value plan).out) (names : List (List ℕ)) (named : names ≡ names_of_lanes (plan_value plan)) (buffers : List LaneBuffer) (many : length names ≡ length buffers) (fresh : All IsFresh buffers) where
   abbrev value : PlanValue
@@ -95,10 +86,6 @@ module _ (plan : Plan) (prefix : List ℕ) (was : Option Files) (prefixed : pref
   -- the outputs were not opened
   pub unopened : (why : Stop) (later : Option Files) → IsStopped b [] why later → Ends plan was (Err why) later
   unopened why later h = broken why later (cut_broken b value.settings first first Are names why later (λ lanes are begin. begin) (record { outputs = []; stopped = h; first = λ lanes all begin are. (all, refl) }))
-
-  -- memory ran out behind the lanes
-  pub unreported : (r : State) (kept : Receipt) (later : Option Files) → AllTaken b value.settings first Are r kept later → Ends plan was (Err stop.OutOfMemory) later
-  unreported r kept later h = broken stop.OutOfMemory later (cut_broken b value.settings first h.fed Are names stop.OutOfMemory later h.from (memory_cut b value.settings h.fed h.given r r kept later h.drained.taking))
 
   module _ (r : State) (stands : Stands r value.settings (the_setting value) first []) (kept : Receipt) (now : Option Files) (opened : IsReceipt b [] kept now) where
     -- the lanes begin

@@ -5,9 +5,9 @@ use Rattle.lk_base.specs.Link.{IsLink}
 use Rattle.lk_outside.specs.Files.{Files, Told}
 use Rattle.lock_model.specs.declared.types.LaneReport.{LaneReport}
 use Rattle.receive_model.specs.Events.{Event, Setting}
-use Rattle.receiver_model.specs.Fed.{AllBegin, Fed}
-use Rattle.receiver_model.specs.Given.{AreEvents}
-use Rattle.receiver_model.proofs.KnownEvents.{events_are_determined, events_exist}
+use Rattle.event_model.specs.Fed.{AllBegin, Fed}
+use Rattle.event_model.specs.Given.{AreEvents}
+use Rattle.event_model.proofs.KnownEvents.{events_are_determined, events_exist}
 use Rattle.rx_front.specs.Calls.{IsReportOf}
 use Rattle.rx_end.specs.Standing.{Stands}
 use Rattle.rx_end.specs.States.{State}

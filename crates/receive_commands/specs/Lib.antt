@@ -2,3 +2,4 @@
 pub mod Receive
 -- needed by private functions and proofs alone
 pub mod ReadLanes
+pub mod OpenLanes

@@ -5,7 +5,7 @@ use Rattle.lk_base.specs.Link.{IsLink}
 use Rattle.lk_outside.specs.Files.{Files}
 use Rattle.lock_model.specs.declared.types.LaneReport.{LaneReport}
 use Rattle.receive_model.specs.Events.{Event, Setting}
-use Rattle.receiver_model.specs.Given.{AreEvents}
+use Rattle.event_model.specs.Given.{AreEvents}
 use Rattle.link_plan.specs.Plan.{PlanValue}
 use Rattle.plan_inputs.specs.Inputs.{plan_in}
 use Rattle.run_shell.specs.Outcome.{Outcome}

@@ -4,6 +4,7 @@
 mod lane_buffer;
 mod lanes;
 mod lanes_in;
+mod open_lanes;
 mod receive;
 
 pub use receive::Receive;

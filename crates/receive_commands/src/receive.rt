@@ -11,16 +11,14 @@ ghost use Rattle.receipts.specs.Settings.{plan_names};
 ghost use Rattle.receive_commands.specs.Receive.{IsReceiveInput, IsReceived, lanes_in, plan_lanes_in};
 ghost use Rattle.lane_receipts.specs.LaneReports.{names_of_lanes};
 
-use crate::lanes::FileLanes;
 use crate::lanes_in::probe_lanes;
-use lane_receipts::{lane_lines, nothing_read, take_lanes};
+use crate::open_lanes::OpenLanes;
 use link_plan::{Plan, channels_in_order};
 use lk_outside::Store;
 use plan_inputs::read_plan_file;
 use receipts::Receipt;
 use run_shell::{Command, Finished, lane_names};
 use run_stops::Stop;
-use rx_end::Receiver;
 use std::alloc::Global;
 use std::marker::Model;
 
@@ -60,19 +58,9 @@ fn receive_lanes<S: Store>(alloc: Global, store: &mut S, read: &PlanLanes) -> Re
     let plan = &read.plan;
     let names = read.names.as_slice();
     let channels = channels_in_order(alloc, plan.channels.as_slice())?;
-    let mut receiver = Receiver::make(alloc, plan)?;
-    let mut offsets = nothing_read(alloc, names.len())?;
-    let mut lanes = FileLanes::new(alloc, names)?;
+    let mut lanes = OpenLanes::new(alloc, plan, names)?;
     let mut receipt = Receipt::open(alloc, store, plan.out.as_str(), &channels, plan.link_type)?;
-    take_lanes(
-        alloc,
-        store,
-        &mut receipt,
-        &mut receiver,
-        &mut lanes,
-        &mut offsets,
-    )?;
-    let text = lane_lines(alloc, &receiver, plan.link.lanes())?;
+    let text = lanes.take_all(alloc, store, plan, &mut receipt)?;
     receipt.finish(alloc, store, text)
 }
 

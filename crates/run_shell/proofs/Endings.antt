@@ -1,5 +1,5 @@
 -- What the work came to, as an ending.
-use Rattle.std.proofs.Common.{◌≡◌, ◌⊎◌, ℕ, Bool, true, false, List, refl, sym, subst, ◌∙◌, [], Option, Some, None, IfSome, Ok, Err, inl, inr}
+use Rattle.std.proofs.Common.{◌≡◌, ◌⊎◌, ℕ, false, List, refl, sym, subst, ◌∙◌, [], Option, Some, None, IfSome, Err, inl, inr}
 use Rattle.run_stops.specs.Faults.{usage_line, memory_line}
 use Rattle.run_shell.specs.declared.status.Status.{Status}
 use Rattle.run_shell.specs.declared.status.Status.TheVariants.{Usage, OutOfMemory}
@@ -10,34 +10,13 @@ use Rattle.lk_outside.specs.Files.{Files, Told}
 use Rattle.run_shell.specs.Outcome.{Outcome, Holds, HoldsPart, LeavesOthers}
 use Rattle.run_shell.specs.Meaning.{Meaning, Cause, IsLawful, IsMeaning, of_words, of_plan, of_input, of_held, of_none}
 use Rattle.run_stops.specs.Stops.{StoreCount, StopCount, stop_text, is_of_store}
-use Rattle.run_shell.specs.Ends.{Ends, Comes, stop_status, held_status}
+use Rattle.run_shell.specs.Ends.{Ends, Comes, stop_status}
 use Rattle.run_shell.specs.Run.{TellsStore}
 use Rattle.run_shell.specs.Ended.{Ended}
 use Rattle.run_shell.specs.Ending.{IsEnding, IsEndingOf, IsMisused, IsNoMemory, misused, misused_meaning}
 use Rattle.run_stops.proofs.Moves.{told_refl, if_told_by}
 use Rattle.run_shell.proofs.Runs.{ends_part}
 use Rattle.run_shell.proofs.Works.{untouched}
-
-held_store : (held : Bool) → TellsStore (held_status held) false
-held_store true = refl
-held_store false = refl
-
-held_used : (held : Bool) → held_status held ≡ Usage → Unit {0} → ⊥
-held_used true e = cc
-held_used false e = cc
-
--- the end of a work that finished
-pub finished_ends : (m : Meaning) (f : Finished) (e : Ended) (sb sa : ℕ) (x y : Option Files) → IsMeaning m → StopCount (Ok f) sb sa → Told x y (LeavesOthers m.Creates) → IfSome x (Comes m x y (Ok f)) → e ≡ record { status = held_status f.held; text = f.text.items; store_failed = false } → IsEnding (Unit {0}) m e sb sa x y
-finished_ends m f e sb sa x y law count others comes is =
-    subst (λ z. IsEnding (Unit {0}) m z sb sa x y) (sym is) (record {
-      lawful = law;
-      count = count;
-      store = held_store f.held;
-      usage = held_used f.held;
-      misused = λ none. absurd (none tt);
-      others = others;
-      ends = comes;
-    })
 
 stop_store : (s : Stop) → TellsStore (stop_status s) (is_of_store s)
 stop_store (stop.Plan why) = refl

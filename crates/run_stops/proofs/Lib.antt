@@ -1,3 +1,5 @@
+-- What other crates cite.
 pub mod Moves
 pub mod Readings
-pub mod Pieces
+-- What this crate alone cites.
+mod Pieces

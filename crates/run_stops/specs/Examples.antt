@@ -1,16 +1,16 @@
 -- The line of each cause, once.
 use Rattle.std.specs.Prelude.{ℕ, ◌≡◌, List, ◌++◌}
 use lib.Chars.{codes}
-use Rattle.link_plan.specs.declared.error.PlanError.TheVariants as refusal
-use Rattle.link_plan.specs.declared.error.Key.TheVariants as key
+use Rattle.plan_errors.specs.declared.error.PlanError.TheVariants as refusal
+use Rattle.plan_errors.specs.declared.error.Key.TheVariants as key
 use Rattle.pcap_files.specs.declared.error.PcapError.TheVariants as capture
 use Rattle.words_files.specs.declared.text_error.TextError.TheVariants as listing
 use Rattle.run_stops.specs.declared.faults.InputError.TheVariants as cause
 use Rattle.run_stops.specs.declared.faults.Fault.TheVariants as fault
-use Rattle.run_stops.specs.Faults.{line_end, input_line, store_line, fault_line}
+use Rattle.run_stops.specs.Faults.{input_line, store_line, fault_line}
 
 abbrev pub line : List ℕ → List ℕ
-line text = text ++ line_end
+line text = text ++ codes "\n"
 
 pub record WorkedLines : Type 0 where
   pub usage : fault_line fault.Usage ≡ line (codes "usage: interlaken COMMAND FILE, or interlaken generate NUMBER PREFIX")

@@ -1,18 +1,15 @@
 -- The one line of a run that was stopped.
-use Rattle.std.specs.Prelude.{ℕ, List, [], ◌∷◌, ◌++◌, string_bytes}
+use Rattle.std.specs.Prelude.{ℕ, List, ◌++◌, string_bytes}
 use lib.Chars.{codes}
 use Rattle.std.specs.Fmt.{decimal}
 use Rattle.pcap_files.specs.Texts.{refusal_text}
 use Rattle.words_files.specs.Texts.{words_refusal_text, text_refusal_text}
-use Rattle.link_plan.specs.Texts.{refusal_text as rows_text}
-use Rattle.link_plan.specs.declared.error.PlanError.{PlanError}
+use Rattle.plan_errors.specs.Texts.{refusal_text as rows_text}
+use Rattle.plan_errors.specs.declared.error.PlanError.{PlanError}
 use Rattle.run_stops.specs.declared.faults.InputError.{InputError}
 use Rattle.run_stops.specs.declared.faults.Fault.{Fault}
 use Rattle.run_stops.specs.declared.faults.Fault.TheVariants as fault
 use Rattle.run_stops.specs.declared.faults.InputError.TheVariants.{NoFile, TooLarge, Pcap, Words, Rows, Text, Samples}
-
-abbrev pub line_end : List ℕ
-line_end = 10 ∷ []
 
 -- the name of the cause
 abbrev pub why_text : InputError → List ℕ
@@ -25,22 +22,22 @@ why_text (Text refusal) = text_refusal_text refusal
 why_text (Samples offset) = codes "sample at " ++ decimal offset
 
 abbrev pub usage_line : List ℕ
-usage_line = codes "usage: interlaken COMMAND FILE, or interlaken generate NUMBER PREFIX" ++ line_end
+usage_line = codes "usage: interlaken COMMAND FILE, or interlaken generate NUMBER PREFIX\n"
 
 abbrev pub refused_line : List ℕ → List ℕ → List ℕ
-refused_line name why = codes "input refused: " ++ (name ++ (codes ": " ++ (why ++ line_end)))
+refused_line name why = codes "input refused: " ++ (name ++ (codes ": " ++ (why ++ codes "\n")))
 
 abbrev pub input_line : List ℕ → InputError → List ℕ
 input_line name why = refused_line name (why_text why)
 
 abbrev pub plan_line : PlanError → List ℕ
-plan_line why = codes "plan refused: " ++ (rows_text why ++ line_end)
+plan_line why = codes "plan refused: " ++ (rows_text why ++ codes "\n")
 
 abbrev pub store_line : List ℕ → List ℕ
-store_line name = codes "store fault: " ++ (name ++ line_end)
+store_line name = codes "store fault: " ++ (name ++ codes "\n")
 
 abbrev pub memory_line : List ℕ
-memory_line = codes "out of memory" ++ line_end
+memory_line = codes "out of memory\n"
 
 -- the one line of a fault
 abbrev pub fault_line : Fault → List ℕ

@@ -3,8 +3,8 @@ use Rattle.std.specs.Prelude.{◌≡◌, ℕ, List, length, nat_lt, Option, Some
 use Rattle.std.specs.declared.alloc.Global.{Global}
 use Rattle.run_stops.specs.declared.faults.InputError.{InputError}
 use Rattle.run_stops.specs.declared.faults.InputError.TheVariants as refused
-use Rattle.link_plan.specs.declared.error.PlanError.{PlanError}
-use Rattle.link_plan.specs.declared.error.PlanError.TheVariants as plans
+use Rattle.plan_errors.specs.declared.error.PlanError.{PlanError}
+use Rattle.plan_errors.specs.declared.error.PlanError.TheVariants as plans
 use Rattle.lk_outside.specs.Files.{Files, file}
 use Rattle.lk_outside.specs.Reads as lk_reads
 use Rattle.run_stops.specs.declared.stop.Stop.{Stop}

@@ -2,9 +2,9 @@
 ghost use Rattle.std.specs.Prelude.{◌≡◌, ◌++◌, OnOk, OnErr, IfOk, string_bytes};
 ghost use Rattle.run_stops.specs.Faults.{usage_line, input_line, plan_line, store_line, memory_line, fault_line};
 
-use link_plan::PlanError;
 use lk_base::OutOfMemory;
 use pcap_files::PcapError;
+use plan_errors::PlanError;
 use std::alloc::{AllocError, Global};
 use std::fmt;
 use words_files::{TextError, WordsError};

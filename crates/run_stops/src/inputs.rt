@@ -5,8 +5,8 @@ ghost use Rattle.run_stops.specs.Reading.{Probes, Reads, ReadsPiece, bytes_in, p
 
 use crate::faults::InputError;
 use crate::stop::{Stop, input_stop, store_stop};
-use link_plan::PlanError;
 use lk_outside::{ReadError, Store, WholeError, read_whole};
+use plan_errors::PlanError;
 use std::alloc::Global;
 
 /// The whole of an input of at most `limit` bytes. It is refused exactly where it is absent or longer, but for faults of

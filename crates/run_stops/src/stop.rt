@@ -4,8 +4,8 @@ ghost use Rattle.run_stops.specs.Stops.{IsOfStore, is_of_store};
 ghost use Rattle.run_stops.specs.Reading.{IsOfInput};
 
 use crate::faults::InputError;
-use link_plan::PlanError;
 use lk_base::OutOfMemory;
+use plan_errors::PlanError;
 use std::alloc::{AllocError, AllocFailed, Global};
 
 /// What stopped a command.

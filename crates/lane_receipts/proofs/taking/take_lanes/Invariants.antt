@@ -1,7 +1,7 @@
 use Rattle.std.proofs.Common.{◌≡◌, ◌≤◌, ◌^◌, ℕ, List, length, map, slice_get, Some}
 use Rattle.lk_base.specs.Link.{Settings}
 use Rattle.receive_model.specs.Events.{Event}
-use Rattle.receiver_model.specs.Fed.{Fed}
+use Rattle.event_model.specs.Fed.{Fed}
 use Rattle.receipts.specs.Receipts.{Beginning}
 use Rattle.lane_receipts.specs.Feeding.{IsTaking, offset_of}
 use Rattle.lane_receipts.specs.Holding.{IsFeeding, left_in}
