@@ -12,7 +12,8 @@ use Rattle.stream_model.specs.BurstStream.{Source, IsPacket}
 use Rattle.stream_model.proofs.SomeStream.{of_fitting}
 use Rattle.link_plan.specs.Listing.{are_listed, channels_in_order, fit_width}
 use Rattle.link_plan.specs.Plan.{Listed}
-use Rattle.link_laws.proofs.FirstMet.{in_mapped}
+use Rattle.link_plan.specs.Views.{numbers_in}
+use Rattle.link_laws.proofs.Lists.{in_mapped}
 use Rattle.link_plan.proofs.InOrder.{in_order, width_in_order}
 use Rattle.link_plan.proofs.Whole.{KeepsValue}
 use Rattle.link_cases.specs.Draws.{draw}
@@ -20,7 +21,7 @@ use Rattle.link_cases.specs.Case.{Case, case_of, channel_drawn, numbers_drawn, p
 use Rattle.link_cases.specs.Accepted.{channel_of, settings_of}
 use Rattle.link_cases.specs.declared.numbers.LinkNumbers.{LinkNumbers}
 use Rattle.link_cases.proofs.Drawn as drawn
-use Rattle.plan_inputs.specs.Inputs.{on_channel, numbers_in}
+use Rattle.plan_inputs.specs.Inputs.{on_channel}
 use Rattle.plan_inputs.specs.Sources.{IsSourceOf}
 use Rattle.plan_inputs.specs.Values.{AreOn}
 use Rattle.plan_inputs.proofs.PlanStream.{AreFit}

@@ -22,7 +22,8 @@ use Rattle.duplex_model.specs.DuplexRun.{Settings}
 use Rattle.duplex_model.specs.Came.{came}
 use Rattle.duplex.specs.Inboxes.{packets_in, on_channel, Gave, GaveAll}
 use Rattle.duplex.specs.declared.inbox.Inbox.{Inbox}
-use Rattle.duplex.proofs.Given.{delivered-append, of_channel, outputs_came}
+use Rattle.receive_model.proofs.EventPackets.{delivered-append}
+use Rattle.duplex.proofs.Given.{of_channel, outputs_came}
 use Rattle.receipts.specs.Received.{bytes_of, packets_on}
 use Rattle.duplex_commands.specs.Captures.{outputs_of}
 use Rattle.duplex_commands.specs.Slots.{AreFirst}

@@ -3,10 +3,10 @@ use Rattle.std.proofs.Common.{◌≡◌, ℕ, ◌<◌, Bool, true, false, List, 
 use Rattle.stream_model.specs.BurstStream.{IsPacket}
 use Rattle.link_plan.specs.Plan.{PlanValue}
 use Rattle.link_plan.specs.Listing.{channels_in_order}
+use Rattle.link_plan.specs.Views.{numbers_in}
 use Rattle.delivery_laws.specs.LawOnWords.{NumbersFit}
 use Rattle.duplex_model.specs.DuplexRun.{Ends, alone}
 use Rattle.duplex_model.proofs.WhatCame.{what_came}
-use Rattle.plan_inputs.specs.Inputs.{numbers_in}
 use Rattle.plan_inputs.proofs.SomeSource.{Keeps}
 use Rattle.plan_inputs.proofs.PlanChannels.{narrow_of}
 use Rattle.plan_inputs.proofs.PlanStream.{AreFit}

@@ -1,15 +1,17 @@
-pub mod Parts
+-- What other crates cite.
 pub mod Works
-pub mod CapturesSent
-pub mod PeaksWithin
-pub mod ReadParts
-pub mod Backs
 pub mod HeldBack
-pub mod Begins
-pub mod Came
-pub mod Ends
-pub mod Kept
-pub mod Lends
-pub mod Steps
-pub mod Writes
-pub mod Loads
+-- What this crate alone cites.
+mod Parts
+mod CapturesSent
+mod PeaksWithin
+mod ReadParts
+mod Backs
+mod Begins
+mod Came
+mod Ends
+mod Kept
+mod Lends
+mod Steps
+mod Writes
+mod Loads

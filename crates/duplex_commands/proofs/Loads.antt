@@ -5,6 +5,7 @@ use Rattle.lk_base.specs.declared.shape.Shape.{Shape}
 use Rattle.receive_model.specs.Events.{Setting}
 use Rattle.reassembly.specs.States.{NothingWaits}
 use Rattle.link_plan.specs.Listing.{channels_in_order, fit_width}
+use Rattle.link_plan.specs.Views.{numbers_in}
 use Rattle.link_plan.proofs.InOrder.{in_order}
 use Rattle.duplex_model.specs.DuplexRun.{Settings, Ends}
 use Rattle.duplex_plan.specs.Duplex.{DuplexValue}
@@ -14,7 +15,6 @@ use Rattle.duplex.specs.declared.duplex.Duplex.{Duplex}
 use Rattle.duplex.specs.declared.inbox.Inbox.{Inbox}
 use Rattle.plan_inputs.specs.Values.{AreOn}
 use Rattle.duplex.specs.declared.duplex.End.TheVariants.{A, B}
-use Rattle.plan_inputs.specs.Inputs.{numbers_in}
 use Rattle.plan_inputs.specs.Sources.{IsShapeOf}
 use Rattle.reassembly.specs.Settings as reassembly
 use Rattle.receipts.proofs.Settings.{lists_channels}

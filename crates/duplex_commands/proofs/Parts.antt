@@ -4,7 +4,7 @@ use Rattle.lk_base.specs.Limits.{capture_limit, plan_limit}
 use Rattle.lk_outside.specs.Files.{Files, AreBytes}
 use Rattle.csv_rows.specs.Rows.{rows_of}
 use Rattle.link_plan.specs.Plan.{PlanValue, plan_of}
-use Rattle.link_plan.specs.declared.error.PlanError.{PlanError}
+use Rattle.plan_errors.specs.declared.error.PlanError.{PlanError}
 use Rattle.duplex_plan.specs.Duplex.{DuplexValue, duplex_of}
 use Rattle.duplex_plan.specs.Ranges.{AreInRange}
 use Rattle.duplex_plan.proofs.InRange.{in_range}

@@ -4,10 +4,10 @@ use Rattle.std.specs.Prelude.{slice_index}
 use Rattle.std.proofs.lemmas.List.{get_or_default}
 use Rattle.lk_base.specs.declared.word.Word.{Word}
 use Rattle.link_plan.specs.Listing.{channels_in_order}
+use Rattle.link_plan.specs.Views.{numbers_in}
 use Rattle.link_plan.proofs.InOrder.{entries_in_order}
 use Rattle.duplex_model.specs.DuplexRun.{Settings, Ends, calendar_words, words_to_tell, peak, peak_bound}
 use Rattle.duplex_model.proofs.Peaks.{peak_bounded, few_to_tell, warm_of_link}
-use Rattle.plan_inputs.specs.Inputs.{numbers_in}
 use Rattle.duplex_commands.specs.Reading.{DuplexReading}
 use Rattle.duplex_commands.specs.Run.{run_settings, IsRunFor}
 use Rattle.duplex_commands.specs.Laws.{PeaksAreBounded}

@@ -4,11 +4,11 @@ use Rattle.std.specs.declared.string.String.{String}
 use Rattle.lk_base.specs.Limits.{capture_limit}
 use Rattle.lk_outside.specs.Files.{Files}
 use Rattle.link_plan.specs.Plan.{Listed, PlanValue}
-use Rattle.link_plan.specs.Views.{plan_value, listed_of}
+use Rattle.link_plan.specs.Views.{plan_value, listed_of, numbers_in}
 use Rattle.link_plan.specs.Listing.{numbers_of}
 use Rattle.link_plan.specs.declared.plan.Plan.{Plan}
 use Rattle.link_plan.specs.declared.channel.ChannelRow.{ChannelRow}
-use Rattle.link_plan.specs.declared.error.PlanError.TheVariants.{Clash}
+use Rattle.plan_errors.specs.declared.error.PlanError.TheVariants.{Clash}
 use Rattle.duplex_plan.specs.Duplex.{DuplexValue}
 use Rattle.duplex_plan.specs.Views.{back_value, duplex_value}
 use Rattle.duplex_plan.specs.declared.plan.DuplexPlan.{DuplexPlan}
@@ -16,7 +16,7 @@ use Rattle.run_stops.specs.declared.stop.Stop.{Stop}
 use Rattle.run_stops.specs.declared.stop.Stop.TheVariants as stop
 use Rattle.run_stops.specs.Reading.{Refusal, of_plan, behind, Reads}
 use Rattle.run_stops.proofs.Readings.{first_stops, second_reads}
-use Rattle.plan_inputs.specs.Inputs.{packets_in, capture_sizes, numbers_in, IsCapture}
+use Rattle.plan_inputs.specs.Inputs.{packets_in, capture_sizes, IsCapture}
 use Rattle.plan_inputs.specs.Values.{packet_values}
 use Rattle.plan_inputs.specs.declared.captures.ReadCaptures.{ReadCaptures}
 use Rattle.plan_inputs.proofs.InputsRead.{same_numbers}

@@ -1,18 +1,18 @@
 -- What is read for `duplex` has one outcome.
-use Rattle.std.proofs.Common.{◌≡◌, ℕ, ◌<◌, List, refl, sym, ap, ap₂, ◌∙◌, subst, arith, All, inr}
+use Rattle.std.proofs.Common.{◌≡◌, ℕ, List, refl, sym, ap, ap₂, ◌∙◌, subst, inr}
 use Rattle.lk_base.specs.declared.word.Word.{Word}
 use Rattle.lk_base.specs.declared.shape.Shape.{Shape}
 use Rattle.receive_model.specs.Events.{Setting}
 use Rattle.stream_model.specs.BurstStream.{Source}
 use Rattle.link_plan.specs.Listing.{channels_in_order}
-use Rattle.link_plan.proofs.InOrder.{low_in_order}
+use Rattle.link_plan.specs.Views.{numbers_in}
 use Rattle.duplex_plan.specs.Ranges.{AreInRange}
 use Rattle.duplex_model.specs.DuplexRun.{AreSettings, Ends, alone, IsDuplexRun}
 use Rattle.duplex_model.proofs.OneRun.{CanRun, one_run, some_run}
 use Rattle.run_shell.specs.Outcome.{Outcome}
 use Rattle.run_shell.specs.Meaning.{IsMeaning}
 use Rattle.run_shell.proofs.Works.{is_meaning}
-use Rattle.plan_inputs.specs.Inputs.{numbers_in}
+use Rattle.plan_inputs.proofs.PlanStream.{in_order_low}
 use Rattle.plan_inputs.proofs.SameSource.{same_source}
 use Rattle.plan_inputs.proofs.SomeSource.{Keeps, shape_of}
 use Rattle.receipts.proofs.Settings.{plan_setting, the_setting, is_the_setting}
@@ -63,14 +63,11 @@ they_are r keeps = record {
   b = record { shape = (shape_of r.plan keeps).1; channels = refl; entries = refl; packets = refl; flow = refl; local = refl };
 }
 
-numbers_low : (numbers : List ℕ) → All (λ channel. channel < 65536) (channels_in_order numbers)
-numbers_low numbers k d lt = let h = low_in_order numbers k d lt in omega (arith, h)
-
 they_run : (r : DuplexReading) (parts : AreParts r) → CanRun (run_settings r.settings) (the_ends r parts.plan)
 unfolding the_ends
 they_run r parts = record {
-  a = λ sent slots. record { channels_fit = numbers_low (numbers_in r.plan); bytes = λ k p below. (parts.a k p below).bytes };
-  b = λ sent slots. record { channels_fit = numbers_low (numbers_in r.plan); bytes = λ k p below. (parts.b k p below).bytes };
+  a = λ sent slots. record { channels_fit = in_order_low (numbers_in r.plan); bytes = λ k p below. (parts.a k p below).bytes };
+  b = λ sent slots. record { channels_fit = in_order_low (numbers_in r.plan); bytes = λ k p below. (parts.b k p below).bytes };
 }
 
 pub some_for : (r : DuplexReading) → AreParts r → (a b : List Word) × IsRunFor r a b

@@ -5,10 +5,11 @@ use Rattle.lk_outside.specs.Files.{Files}
 use Rattle.csv_rows.specs.Rows.{rows_of}
 use Rattle.link_plan.specs.Plan.{Listed, PlanValue, plan_of}
 use Rattle.link_plan.specs.Listing.{is_listed}
-use Rattle.link_plan.specs.declared.error.PlanError.{PlanError}
-use Rattle.link_plan.specs.declared.error.PlanError.TheVariants.{Clash}
+use Rattle.link_plan.specs.Views.{numbers_in}
+use Rattle.plan_errors.specs.declared.error.PlanError.{PlanError}
+use Rattle.plan_errors.specs.declared.error.PlanError.TheVariants.{Clash}
 use Rattle.duplex_plan.specs.Duplex.{BackValue, DuplexValue, duplex_of}
-use Rattle.plan_inputs.specs.Inputs.{rows_by, packets_in, capture_sizes, numbers_in, IsCapture}
+use Rattle.plan_inputs.specs.Inputs.{rows_by, packets_in, capture_sizes, IsCapture}
 use Rattle.run_stops.specs.Reading.{Refusal, of_plan, behind, bytes_in, plan_bytes}
 
 -- ---- the settings

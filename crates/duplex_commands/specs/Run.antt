@@ -5,11 +5,12 @@ use Rattle.lk_base.specs.declared.word.Word.{Word}
 use Rattle.receive_model.specs.Events.{Setting}
 use Rattle.pcap_files.specs.Written.{capture_bytes}
 use Rattle.link_plan.specs.Listing.{channels_in_order}
+use Rattle.link_plan.specs.Views.{numbers_in}
 use Rattle.link_reports.specs.Lines.{end_line, slots_line}
 use Rattle.duplex_plan.specs.Duplex.{DuplexValue}
 use Rattle.duplex_model.specs.DuplexRun.{Settings, AreSettings, Ends, alone, IsDuplexRun, peak}
 use Rattle.duplex_model.specs.Came.{came}
-use Rattle.plan_inputs.specs.Inputs.{Inputs, numbers_in}
+use Rattle.plan_inputs.specs.Inputs.{Inputs}
 use Rattle.plan_inputs.specs.Sources.{IsSourceOf}
 use Rattle.receipts.specs.Received.{capture_name, bytes_of}
 use Rattle.receipts.specs.Settings.{IsSettingOf}

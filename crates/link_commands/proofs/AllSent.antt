@@ -15,7 +15,7 @@ use Rattle.delivery_laws.specs.SentPackets.{burst_slots, next_control, packet_on
 use Rattle.delivery_laws.proofs.Held.{the_law_on_held}
 use Rattle.link_laws.specs.Accidents.{slot_place}
 use Rattle.link_plan.specs.Listing.{channels_in_order}
-use Rattle.plan_inputs.specs.Inputs.{numbers_in}
+use Rattle.link_plan.specs.Views.{numbers_in}
 use Rattle.plan_inputs.specs.Values.{AreOn}
 use Rattle.run_shell.specs.declared.status.Status.{Status}
 use Rattle.run_shell.specs.declared.status.Status.TheVariants.{Done}

@@ -20,7 +20,7 @@ use Rattle.delivery_laws.proofs.Held.{count_slots}
 use Rattle.run_shell.specs.declared.status.Status.{Status}
 use Rattle.run_shell.specs.declared.status.Status.TheVariants.{Held}
 use Rattle.stream_commands.specs.Stream.{IsStatusOf}
-use Rattle.tx_end.specs.Sources.{IsHeldOn}
+use Rattle.tx_words.specs.Sources.{IsHeldOn}
 use Rattle.link_laws.specs.Accidents.{slot_place}
 use Rattle.link_reports.specs.Lines.{held_line}
 use Rattle.run_shell.specs.Outcome.{Outcome}

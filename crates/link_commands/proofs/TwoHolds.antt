@@ -29,9 +29,9 @@ use Rattle.plan_inputs.proofs.SameSource.{same_source}
 use Rattle.run_shell.specs.Outcome.{Outcome, content_of}
 use Rattle.receipts.specs.Received.{capture_name, spans_name}
 use Rattle.receipts.specs.Received as received
-use Rattle.tx_end.specs.Sent.{AreSent, IsEnd, IsQuiet, IsSent, ends_on, starts_on}
-use Rattle.tx_end.specs.declared.sent.Sent.{Sent as SentPacket}
-use Rattle.tx_end.proofs.ListedSent.{one_list}
+use Rattle.tx_words.specs.Sent.{AreSent, IsEnd, IsQuiet, IsSent, ends_on, starts_on}
+use Rattle.tx_words.specs.declared.sent.Sent.{Sent as SentPacket}
+use Rattle.tx_words.proofs.ListedSent.{one_list}
 use Rattle.link_commands.specs.DamagedMet.{locks_of, three_groups_of, three_spans}
 use Rattle.link_commands.specs.Delivery.{DeliversUnmet, sent_on}
 use Rattle.link_commands.specs.Linked.{IsLinkedBy, missing_among, missing_lines, sent_over}

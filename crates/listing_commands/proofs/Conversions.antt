@@ -11,7 +11,7 @@ use Rattle.word_text.proofs.Trips.{accepted}
 use Rattle.word_text.proofs.Unique.{words-once, listing-cut, one-text}
 use Rattle.word_text.proofs.UniqueLanes.{lane-once, lane-listing-cut, lane-one-text}
 use Rattle.word_text.proofs.Causes.{one-bytes, refused-never, one-cause}
-use Rattle.word_text.proofs.HasListing.{words-listing, lane-has-listing}
+use Rattle.word_text.proofs.HasListing.{words-listing, lane-has-listing, never-both}
 use Rattle.word_text.proofs.Verdict.{verdict}
 use Rattle.run_stops.specs.declared.faults.InputError.{InputError}
 use Rattle.run_stops.specs.declared.faults.InputError.TheVariants.{Words, Text}
@@ -47,9 +47,6 @@ one-error bytes x y e f = cc
 one-refused : (t : Bool) (bytes : List ℕ) (why other : InputError) → RefusesListed t bytes why → RefusesListed t bytes other → why ≡ other
 one-refused true bytes why other (x, e, f) (y, g, h) = f ∙ ap Words (one-error bytes x y e g) ∙ sym h
 one-refused false bytes why other h k = absurd h
-
-never-both : (bytes : List ℕ) (words : List RxWord) (why : WordsError) → words_of_file bytes ≡ Ok words → words_of_file bytes ≡ Err why → ⊥
-never-both bytes words why e f = absurd cc
 
 listed-or-refused : (t : Bool) (bytes text : List ℕ) (count : ℕ) (why : InputError) → IsTextOf t bytes text count → RefusesListed t bytes why → ⊥
 listed-or-refused true bytes text count why (a, e) (x, f, g) = let (words, ok) = accepted text bytes a in never-both bytes words x ok f

@@ -1,5 +1,7 @@
-pub mod Converting
+-- What other crates cite.
 pub mod Conversions
-pub mod Undone
-pub mod Given
-pub mod Worked
+-- What this crate alone cites.
+mod Converting
+mod Undone
+mod Given
+mod Worked

@@ -19,13 +19,14 @@ use Rattle.link_plan.specs.Keys.{keys, place, number, row_of}
 use Rattle.link_plan.specs.Listing.{channels_in_order}
 use Rattle.link_plan.specs.Plan.{missing, clashes, first_clash, plan_from, plan_of}
 use Rattle.link_plan.specs.Timed.{state_of, local_row, local_behind, local_of}
+use Rattle.link_plan.specs.Views.{numbers_in}
 use Rattle.lk_base.specs.Checksum.{bits_of, register_after}
 use Rattle.lk_outside.specs.Files.{Files, file}
 use Rattle.stream_model.specs.declared.rows.LocalRow.{LocalRow}
 use Rattle.oob_flow.specs.Examples.{first_on_second_off, turned_off}
 use Rattle.oob_flow.specs.Frames.{block_sizes, block_checksum, block_bits, frame_bits, frame_samples, frame_length}
 use Rattle.oob_flow.specs.Written.{AreWritten, written_frame}
-use Rattle.plan_inputs.specs.Inputs.{plan_in, numbers_in}
+use Rattle.plan_inputs.specs.Inputs.{plan_in}
 use Rattle.oob_commands.specs.WriteSamples.{local_reading_in}
 use Rattle.oob_commands.specs.Examples.{five_off, HandingOverIsMet}
 

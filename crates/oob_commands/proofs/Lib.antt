@@ -1,12 +1,14 @@
-pub mod OneOutput
-pub mod Hexes
-pub mod FlowRead
-pub mod Worked
-pub mod Readings
-pub mod Frames
-pub mod RowTexts
+-- What other crates cite.
 pub mod Works
-pub mod FlowLength
 pub mod StatusBack
-pub mod Undone
-pub mod HandedOver
+-- What this crate alone cites.
+mod OneOutput
+mod Hexes
+mod FlowRead
+mod Worked
+mod Readings
+mod Frames
+mod RowTexts
+mod FlowLength
+mod Undone
+mod HandedOver

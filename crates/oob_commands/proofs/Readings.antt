@@ -1,28 +1,23 @@
 -- A plan, and after it its local rows or its samples.
-use Rattle.std.proofs.Common.{◌≡◌, ℕ, List, [], ◌∷◌, map, refl, sym, ap, subst, Option, Some, IfSome, Result, Ok, Err, MatchResult, Vec, Global, inl, inr}
+use Rattle.std.proofs.Common.{◌≡◌, ℕ, List, [], sym, ap, subst, Option, Some, IfSome, Result, Ok, Err, MatchResult, Vec, Global, inl, inr}
 use Rattle.lk_outside.specs.Files.{Files}
 use Rattle.stream_model.specs.declared.rows.LocalRow.{LocalRow}
-use Rattle.link_plan.specs.Plan.{Listed, PlanValue}
+use Rattle.link_plan.specs.Plan.{PlanValue}
 use Rattle.link_plan.specs.Listing.{numbers_of}
 use Rattle.link_plan.specs.Timed.{local_of}
-use Rattle.link_plan.specs.Views.{listed_of, plan_value}
-use Rattle.link_plan.specs.declared.channel.ChannelRow.{ChannelRow}
+use Rattle.link_plan.specs.Views.{numbers_in, plan_value}
 use Rattle.link_plan.specs.declared.plan.Plan.{Plan}
 use Rattle.run_stops.specs.declared.stop.Stop.{Stop}
 use Rattle.run_stops.specs.Reading.{Refusal, behind, Reads, vec_items}
 use Rattle.run_stops.proofs.Moves.{if_told_by}
 use Rattle.run_stops.proofs.Readings.{first_stops, second_reads}
-use Rattle.plan_inputs.specs.Inputs.{rows_in, numbers_in, plan_in}
+use Rattle.plan_inputs.specs.Inputs.{rows_in, plan_in}
+use Rattle.plan_inputs.proofs.InputsRead.{same_numbers}
 use Rattle.oob_commands.specs.WriteSamples.{LocalReading, with_local, local_reading_in, IsLocalRead}
 use Rattle.oob_commands.specs.ReadRows.{SamplesReading, samples_in, with_samples, samples_reading_in, IsSamplesRead}
 use Rattle.oob_commands.specs.Values.{local_value, samples_value}
 use Rattle.oob_commands.specs.declared.reading.PlanLocal.{PlanLocal}
 use Rattle.oob_commands.specs.declared.reading.PlanSamples.{PlanSamples}
-
--- a plan's numbers, of its rows and of its value
-same_numbers : (channels : List ChannelRow) → numbers_of channels ≡ map (λ (c : Listed). c.number) (map listed_of channels)
-same_numbers [] = refl
-same_numbers (c ∷ cs) = ap (λ ns. c.number ∷ ns) (same_numbers cs)
 
 module _ (name : List ℕ) where
   abbrev Plans : Files → Result PlanValue Refusal

@@ -6,10 +6,11 @@ use Rattle.lk_outside.specs.Files.{Files, file}
 use Rattle.stream_model.specs.declared.rows.LocalRow.{LocalRow}
 use Rattle.link_plan.specs.Plan.{PlanValue}
 use Rattle.link_plan.specs.Timed.{flow_of, local_of}
+use Rattle.link_plan.specs.Views.{numbers_in}
 use Rattle.run_shell.specs.Outcome.{Outcome}
 use Rattle.run_stops.specs.Reading.{bytes_by, bytes_in}
 use Rattle.run_stops.proofs.Readings.{behind_ok}
-use Rattle.plan_inputs.specs.Inputs.{plan_in, rows_in, numbers_in}
+use Rattle.plan_inputs.specs.Inputs.{plan_in, rows_in}
 use Rattle.plan_inputs.proofs.SomeSource.{plan_keeps}
 use Rattle.oob_flow.specs.Samples.{first_bad}
 use Rattle.oob_flow.specs.Reading.{rows_of_samples}

@@ -1,5 +1,5 @@
 -- Worked examples of flow files, by samples.
-use Rattle.std.specs.Prelude.{◌≡◌, ℕ, List, [], ◌∷◌, ◌++◌, Some}
+use Rattle.std.specs.Prelude.{◌≡◌, List, [], ◌∷◌, ◌++◌, Some}
 use lib.Chars.{codes}
 use Rattle.lk_outside.specs.Files.{Files, file}
 use Rattle.csv_rows.specs.Rows.{Row}
@@ -7,11 +7,9 @@ use Rattle.csv_rows.specs.Written.{rows_text}
 use Rattle.link_plan.specs.Examples.{named_plan, named_plan_value}
 use Rattle.oob_flow.specs.Examples.{first_on_second_off, turned_off}
 use Rattle.oob_flow.specs.Reading.{rows_of_samples}
+use Rattle.link_reports.specs.Lines.{line_end}
 use Rattle.oob_commands.specs.FlowFile.{flow_file}
 use Rattle.oob_commands.specs.ReadBack.{IsHandedOver}
-
-abbrev pub line_end : List ℕ
-line_end = 10 ∷ []
 
 pub record WorkedFiles : Type 0 where
   pub second_off : flow_file (rows_of_samples 2 first_on_second_off) ≡ codes "11,81BFFF00004B8D9D" ++ line_end

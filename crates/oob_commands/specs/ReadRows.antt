@@ -3,8 +3,8 @@ use Rattle.std.specs.Prelude.{◌≡◌, ◌⊎◌, ℕ, List, [], ◌∷◌, �
 use lib.Chars.{codes}
 use Rattle.lk_outside.specs.Files.{Files}
 use Rattle.link_plan.specs.Plan.{PlanValue}
-use Rattle.link_plan.specs.declared.error.Key.TheVariants as key
-use Rattle.link_plan.specs.declared.error.PlanError.TheVariants as refusal
+use Rattle.plan_errors.specs.declared.error.Key.TheVariants as key
+use Rattle.plan_errors.specs.declared.error.PlanError.TheVariants as refusal
 use Rattle.link_reports.specs.Lines.{count_line}
 use Rattle.run_stops.specs.declared.faults.InputError.TheVariants.{Samples}
 use Rattle.run_shell.specs.declared.status.Status.TheVariants.{Done}

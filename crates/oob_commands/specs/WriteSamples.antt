@@ -5,13 +5,14 @@ use Rattle.lk_outside.specs.Files.{Files}
 use Rattle.stream_model.specs.declared.rows.LocalRow.{LocalRow}
 use Rattle.link_plan.specs.Plan.{PlanValue}
 use Rattle.link_plan.specs.Timed.{local_of}
+use Rattle.link_plan.specs.Views.{numbers_in}
 use Rattle.link_reports.specs.Lines.{count_line}
 use Rattle.run_shell.specs.declared.status.Status.TheVariants.{Done}
 use Rattle.run_shell.specs.Outcome.{Outcome}
 use Rattle.run_shell.specs.Meaning.{Meaning}
 use Rattle.run_stops.specs.Reading.{Refusal, behind}
 use Rattle.run_shell.specs.Work.{Work, meaning_by}
-use Rattle.plan_inputs.specs.Inputs.{plan_in, rows_in, numbers_in}
+use Rattle.plan_inputs.specs.Inputs.{plan_in, rows_in}
 use Rattle.oob_flow.specs.Written.{AreWritten}
 
 -- a plan and its local rows

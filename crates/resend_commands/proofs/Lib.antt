@@ -1,6 +1,8 @@
-pub mod PlanResent
-pub mod Accepting
-pub mod Filling
-pub mod ResendRead
+-- What other crates cite.
 pub mod Work
 pub mod InOrder
+-- What this crate alone cites.
+mod PlanResent
+mod Accepting
+mod Filling
+mod ResendRead

@@ -3,7 +3,7 @@ use Rattle.std.proofs.Common.{◌≡◌, inr, ℕ, List, Option, Some, None, Ok,
 use Rattle.lk_base.specs.declared.word.Word.{Word}
 use Rattle.lk_outside.specs.Files.{Files, AreBytes}
 use Rattle.link_plan.specs.Plan.{PlanValue}
-use Rattle.link_plan.specs.declared.error.PlanError.{PlanError}
+use Rattle.plan_errors.specs.declared.error.PlanError.{PlanError}
 use Rattle.stream_model.specs.BurstStream.{Source, IsBurstStream}
 use Rattle.run_shell.specs.Meaning.{IsMeaning}
 use Rattle.run_shell.specs.Outcome.{Outcome}

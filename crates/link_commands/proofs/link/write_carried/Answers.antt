@@ -4,15 +4,16 @@ use Rattle.lk_outside.specs.Files.{Files}
 use Rattle.link_plan.specs.Plan.{PlanValue}
 use Rattle.receive_model.specs.Events.{Setting, shown_spans}
 use Rattle.link_laws.specs.Accidents.{lane_0}
-use Rattle.link_laws.specs.Missing.{found_in, missing_of}
+use Rattle.link_laws.specs.Missing.{missing_of}
 use Rattle.link_replay.specs.Places.{place_of}
 use Rattle.stream_commands.specs.Text.{held_text}
 use Rattle.receipts.specs.Received.{received_text}
-use Rattle.link_commands.specs.Carrying.{counts_value}
+use Rattle.link_replay.specs.Counts.{counts_value}
 use Rattle.link_commands.specs.Linked.{count_line, missing_lines}
 use Rattle.link_commands.proofs.FewSent.{carried_low}
 use Rattle.receipts.specs.declared.receipt.Receipt.{Receipt}
 use Rattle.std.proofs.lemmas.Result.{err_from_is_err_and}
+use Rattle.receive_model.specs.Founds.{found_in}
 use Rattle.link_plan.specs.Views.{plan_value}
 use Rattle.run_stops.specs.declared.stop.Stop.TheVariants as stop
 use Rattle.run_shell.specs.Writing.{Writes}
