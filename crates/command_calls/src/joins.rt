@@ -2,12 +2,12 @@
 ghost use Rattle.std.specs.Prelude.{◌≡◌, ◌<◌, ◌^◌, IfOk};
 
 use crate::commands::{obeyed, with_text};
-use crate::telling::tell_lines;
 use join_commands::{JoinPlan, JoinWords};
 use lk_base::OutOfMemory;
 use lk_outside::MemStore;
 use std::alloc::{AllocError, Global};
 use std::io;
+use test_telling::tell_lines;
 
 // The words of one packet of 60 bytes, 0 to 59, on channel 0.
 const SIXTY: [u8; 108] = [

@@ -2,12 +2,12 @@
 ghost use Rattle.std.specs.Prelude.{◌≡◌, ◌<◌, ◌^◌, IfOk};
 
 use crate::commands::{obeyed, with_text};
-use crate::telling::{hex_of, tell_lines};
 use listing_commands::{AssembleText, ListFile};
 use lk_base::OutOfMemory;
 use lk_outside::MemStore;
 use std::alloc::Global;
 use std::io;
+use test_telling::{hex_of, tell_lines};
 
 const WORD: [u8; 9] = [1, 0x01, 0x23, 0x45, 0x67, 0x89, 0xAB, 0xCD, 0xEF];
 

@@ -4,7 +4,6 @@
 mod commands;
 mod joins;
 mod list_files;
-mod telling;
 
 use std::io;
 

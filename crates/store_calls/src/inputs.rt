@@ -1,7 +1,6 @@
 //! The calls of `plan_inputs`: plans and their inputs, read from a store in memory.
 ghost use Rattle.std.specs.Prelude.{◌≡◌, ◌<◌, ◌≤◌, ◌^◌, IfOk, length};
 
-use crate::telling::tell;
 use link_plan::{LocalRow, Plan, Schedule};
 use lk_base::OutOfMemory;
 use lk_outside::MemStore;
@@ -13,6 +12,7 @@ use plan_inputs::{
 use run_stops::Stop;
 use std::alloc::Global;
 use std::io;
+use test_telling::tell;
 
 const PLAN: &str =
     "lanes,2\nmetaframe,32\nchannel,7,a\nchannel,3,b\nflow,f\nlocal,l\nschedule,s\nout,o\n";

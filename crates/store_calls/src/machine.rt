@@ -1,11 +1,11 @@
 //! The calls of `lk_outside` over the machine, in the folder of the program.
-use crate::telling::{tell, text_in};
 use lk_base::OutOfMemory;
 use lk_outside::{HostSink, HostStore, Sink, Store, read_whole};
 use std::alloc::Global;
 use std::cell::Cell;
 use std::fmt::Display;
 use std::{fs, io};
+use test_telling::{tell, text_in};
 
 const LONG: &str = "long";
 

@@ -5,7 +5,6 @@
 mod inputs;
 mod machine;
 mod stores;
-mod telling;
 
 use std::io;
 

@@ -2,11 +2,11 @@
 ghost use Rattle.std.specs.Prelude.{◌≡◌, IsSome};
 ghost use Rattle.lk_outside.specs.Files.{file};
 
-use crate::telling::{tell, text_in};
 use lk_base::OutOfMemory;
 use lk_outside::{MemSink, MemStore, Sink, Store, read_whole};
 use std::alloc::Global;
 use std::io;
+use test_telling::{tell, text_in};
 
 // What a file of the store holds.
 fn held<'a>(store: &'a MemStore, name: &str) -> &'a str {

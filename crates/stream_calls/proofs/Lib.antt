@@ -1,1 +1,1 @@
-pub mod TwoChannels
+mod TwoChannels

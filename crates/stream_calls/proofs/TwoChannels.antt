@@ -4,8 +4,8 @@ use Rattle.std.specs.List.{AllPairs}
 use Rattle.std.specs.List.Sorted.{IsNonDecreasing}
 use Rattle.stream_model.specs.declared.rows.FlowRow.{FlowRow}
 use Rattle.stream_model.specs.declared.rows.LocalRow.{LocalRow}
-use Rattle.tx_end.specs.Sources.{IsKept}
-use Rattle.tx_end.specs.declared.packet.Packet.{Packet}
+use Rattle.tx_words.specs.Sources.{IsKept}
+use Rattle.tx_words.specs.declared.packet.Packet.{Packet}
 
 differ : AllPairs {X = ℕ} (λ (x y : ℕ). x ≡ y → ⊥) (1 ∷ 2 ∷ [])
 differ zero zero d lt within same = omega arith

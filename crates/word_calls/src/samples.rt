@@ -3,13 +3,13 @@ ghost use Rattle.std.specs.Prelude.{◌≡◌, ◌∷◌, ◌<◌, ◌≤◌, []
 ghost use Rattle.oob_flow.specs.Receiving.{StandsIn};
 ghost use Rattle.oob_flow.specs.Sending.{StandsOut};
 
-use crate::telling::tell;
 use arrayvec::ArrayVec;
 use lk_base::OutOfMemory;
 use oob_flow::{FrameWriter, OobIn, OobOut, bad_sample};
 use std::alloc::Global;
 use std::io;
 use stream_model::LocalRow;
+use test_telling::tell_value;
 
 // Appends the next samples.
 fn append_samples(out: &mut OobOut, count: u32, samples: &mut Vec<u8>) -> Result<(), OutOfMemory>
@@ -91,8 +91,8 @@ fn tell_read(rt: &HostRuntime) -> io::Result<()> {
 
 /// Tells samples that are made, the rows that samples give, and the least byte that is no sample.
 pub fn tell_all(rt: &HostRuntime) -> io::Result<()> {
-    tell(rt, "channel 2 of two is off", &second_off(rt.alloc()))?;
-    tell(
+    tell_value(rt, "channel 2 of two is off", &second_off(rt.alloc()))?;
+    tell_value(
         rt,
         "channel 1 is turned off within a frame",
         &turned_off_within(rt.alloc()),
@@ -102,8 +102,8 @@ pub fn tell_all(rt: &HostRuntime) -> io::Result<()> {
         channel: 1,
         on: false,
     };
-    tell(rt, "the frames of a local row", &written(rt.alloc(), row))?;
+    tell_value(rt, "the frames of a local row", &written(rt.alloc(), row))?;
     tell_read(rt)?;
-    tell(rt, "a byte that is no sample", &bad_sample(&[6, 7, 9, 8]))?;
-    tell(rt, "samples alone", &bad_sample(&[6, 7, 0, 1]))
+    tell_value(rt, "a byte that is no sample", &bad_sample(&[6, 7, 9, 8]))?;
+    tell_value(rt, "samples alone", &bad_sample(&[6, 7, 0, 1]))
 }
