@@ -1,6 +1,6 @@
--- A run of data words: so many steps that each give one.
+-- A run of data words: this many steps that each give one.
 use Rattle.std.proofs.Common.{◌≡◌, ℕ, zero, suc, ◌+◌, ◌-◌, ◌<◌, ◌≤◌, Bool, true, false, List, [], ◌∷◌, ◌++◌, length, map, take, drop, get_or, Some, refl, sym, ap, subst, ◌∙◌, arith, append_assoc, append-nil, length-append, length-drop, inl}
-use Rattle.std.proofs.lemmas.List.{length-map, length-take, drop-take}
+use Rattle.std.proofs.lemmas.List.{length-map, length-take, drop-take, length_push}
 use Rattle.std.proofs.Math.Seq.{take-add}
 use Rattle.lk_base.specs.declared.word.Word.{Word}
 use Rattle.lk_base.specs.declared.word.Word.TheVariants.{Data}
@@ -8,7 +8,7 @@ use Rattle.stream_model.specs.BurstStream.{IsAt, StandsInBurst}
 use Rattle.burst_scheduler.specs.Asked.{Asked, HasWholeBursts, MayStep, bound, stepped, stepped_by}
 use Rattle.burst_scheduler.specs.Gives.{HasBegun, Holds, KeepsAllButGiven, Runs, planned, to_come}
 use Rattle.burst_scheduler.specs.declared.scheduler.Scheduler.{Scheduler}
-use Rattle.burst_scheduler.proofs.DataSteps.{data_step, longer}
+use Rattle.burst_scheduler.proofs.DataSteps.{data_step}
 use Rattle.burst_scheduler.proofs.Stepping.{below_step, nothing_behind}
 
 -- ---- steps that follow one another are one that gives all their words
@@ -111,7 +111,7 @@ one_more s new a more d rest g may k come given slot =
     let long : length (take s.count s.run.items) ≡ s.count = (let n = length-take s.count s.run.items in let c = g.words.given.1 in let r = g.words.long in omega (arith, n, c, r)) in
     data_step s new a more d g k (has_started s a d rest g.words come) (omega (arith, long, first.0)) may given slot first.1 (λ z f t. no_finish s a d rest g come z f)
 
--- so many steps
+-- this many steps
 pub runs_on : (ds rest : List ℕ) (s new : Scheduler) (a : Asked) (more : Bool) → Runs s a → MayStep a more → KeepsAllButGiven s new → 1 ≤ length ds → to_come s ≡ ds ++ rest → new.given ≡ s.given + length ds → new.slot ≡ s.slot + length ds
     → Runs new (stepped_by a more (map Data ds)) × (length a.words + length ds ≤ bound (stepped_by a more (map Data ds)))
 runs_on [] rest s new a more g may k some come given slot = absurd (omega arith)
@@ -124,7 +124,7 @@ runs_on (d ∷ e ∷ ds) rest s new a more g may k some come given slot =
     let one : Runs (after_one s) b = one_more s (after_one s) a more d ((e ∷ ds) ++ rest) g may (keeps_one s) come refl refl in
     let on = runs_on (e ∷ ds) rest (after_one s) new b more one (may_again a more (Data d) may) (keeps_on s new k) (omega arith)
     (first_left s.given (take s.count s.run.items) d ((e ∷ ds) ++ rest) come).2 (omega (arith, given)) (omega (arith, slot)) in
-    let l : length (a.words ++ Data d ∷ []) ≡ length a.words + 1 = longer a.words (Data d) in
+    let l : length (a.words ++ Data d ∷ []) ≡ length a.words + 1 = length_push a.words (Data d) in
     (on.0, omega (arith, l, on.1))
 
 -- ---- the numbers that are copied are the first to come

@@ -1,14 +1,14 @@
 -- What one more row tells.
-use Rattle.std.proofs.Common.{◌≡◌, ℕ, zero, suc, ◌+◌, ◌-◌, ◌*◌, ◌<◌, min, true, false, List, [], ◌∷◌, ◌++◌, length, map, reverse, take, drop, ◌==◌, get_or, Some, None, refl, sym, ap, ap₂, ◌∙◌, arith, append_assoc, append-nil, subst}
+use Rattle.std.proofs.Common.{◌≡◌, ℕ, zero, suc, ◌+◌, ◌-◌, ◌*◌, ◌<◌, min, true, false, List, [], ◌∷◌, ◌++◌, length, map, reverse, take, drop, ◌==◌, get_or, Some, None, refl, sym, ap, ap₂, ◌∙◌, arith, append_assoc, append-nil}
 use Rattle.std.specs.List.{range_with_len}
 use Rattle.std.specs.Option.{option_map}
 use Rattle.std.specs.Int.{bit_at}
 use Rattle.std.proofs.lemmas.List.{reverse-append, get_or-take, length-take, length-drop}
 use Rattle.stream_model.specs.Calendar.{is_valid, word_number, told_by_row, told_by_word, told_from, told_by}
 use Rattle.lk_base.specs.Fields.{flow_field, reset_field}
+use Rattle.lk_base.proofs.Lists.{map_range_same}
 use Rattle.stream_model.specs.declared.rows.FlowRow.{FlowRow}
 use Rattle.calendar.specs.Changes.{words_back, told_back, told_by_bits}
-use Rattle.calendar.proofs.Told.{range_more}
 use Rattle.stream_model.proofs.OneStream.{flow_bit}
 
 -- ---- the number of a word
@@ -51,12 +51,6 @@ pub told_back_more : (entries : List ℕ) (rows : List FlowRow) (row : FlowRow) 
 told_back_more entries rows row = ap reverse (told_more entries rows row) ∙ reverse-append (told_by entries rows) (told_by_row entries (length rows) (words_back rows) row)
 
 -- ---- the entries of a word
-
-pub map_range_same : {X : Type 0} (f g : ℕ → X) (n : ℕ) → ((i : ℕ) → i < n → f i ≡ g i) → map f (range_with_len 0 n) ≡ map g (range_with_len 0 n)
-map_range_same f g zero h = refl
-map_range_same f g (suc n) h =
-    let e : suc n ≡ n + 1 = omega arith in
-    subst (λ m. map f (range_with_len 0 m) ≡ map g (range_with_len 0 m)) (sym e) (range_more f n ∙ ap₂ (λ xs x. xs ++ x ∷ []) (map_range_same f g n (λ i l. h i (omega arith))) (h n (omega arith)) ∙ sym (range_more g n))
 
 get_or-drop : (xs : List ℕ) (n i : ℕ) → get_or (drop n xs) i 0 ≡ get_or xs (n + i) 0
 get_or-drop xs zero i = let e : i ≡ 0 + i = omega arith in ap (λ n. get_or xs n 0) e

@@ -3,17 +3,14 @@ use Rattle.std.proofs.Common.{◌≡◌, ◌≢◌, ℕ, ◌+◌, ◌<◌, Bool,
 use Rattle.std.specs.Bool.{beq}
 use Rattle.std.specs.List.{range_with_len}
 use Rattle.std.proofs.lemmas.List.{reverse-append, get_or-set_same, get_or-set_other}
-use Rattle.std.proofs.lemmas.List.FromFn.{map-range_with_len_more}
 use Rattle.std.proofs.Math.ListN.{set}
 use Rattle.std.proofs.lemmas.Bool.{cases_eq}
 use Rattle.std.proofs.lemmas.Bool.Decides.{nat_tests}
 use Rattle.stream_model.specs.Calendar.{Told}
 use Rattle.lk_base.specs.Checksum.{differ}
+use Rattle.lk_base.proofs.Lists.{range_more}
 use Rattle.calendar.specs.Changes.{state_in, change_of, changes}
 use Rattle.calendar.specs.Incoming.{HasStates}
-
-pub range_more : {X : Type 0} (f : ℕ → X) (n : ℕ) → map f (range_with_len 0 (n + 1)) ≡ map f (range_with_len 0 n) ++ f n ∷ []
-range_more f n = map-range_with_len_more f 0 n n (omega arith)
 
 -- one more entry stands before all that was told
 pub back_more : (es told : List Told) (e : Told) → reverse (es ++ e ∷ []) ++ told ≡ e ∷ (reverse es ++ told)

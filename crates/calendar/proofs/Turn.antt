@@ -46,7 +46,7 @@ pub is_bit : (b : Bool) (n : ℕ) → n ≡ (if b then 1 else 0) → (n == 1) �
 is_bit true n e = rw e refl
 is_bit false n e = rw e refl
 
--- one more bit behind the bits that are there
+-- one more bit after the bits that are there
 pub bits_more : (flow b i : ℕ) (want : ℕ → Bool) → b < 2 → (b == 1) ≡ want i → ((k : ℕ) → k < i → (bit_at flow (i - 1 - k) == 1) ≡ want k) → (k : ℕ) → k < i + 1 → (bit_at (flow * 2 + b) (i + 1 - 1 - k) == 1) ≡ want k
 bits_more flow b i want small here before k h = elim (cases_lt k i) [
   | inl l ↦ (let e : i + 1 - 1 - k ≡ suc (i - 1 - k) = omega arith in ap (λ n. bit_at (flow * 2 + b) n == 1) e ∙ ap (λ n. n == 1) (bit_up flow b (i - 1 - k) small) ∙ before k l)

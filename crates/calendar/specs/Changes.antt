@@ -17,11 +17,11 @@ told_back entries rows = reverse (told_by entries rows)
 abbrev pub state_in : List Told → ℕ → Bool
 state_in told channel = on_by_latest (filter (λ (e : Told). e.channel == channel) told)
 
--- the change that an entry makes behind all that was told, if it makes one
+-- the change that an entry makes after all that was told, if it makes one
 abbrev pub change_of : List Told → Told → List (ℕ × Bool)
 change_of told e = if differ e.on (state_in told e.channel) then (e.channel, e.on) ∷ [] else []
 
--- the changes that entries make in order behind all that was told
+-- the changes that entries make in order after all that was told
 abbrev pub changes : List Told → List Told → List (ℕ × Bool)
 changes told [] = []
 changes told (e ∷ es) = change_of told e ++ changes (e ∷ told) es

@@ -21,7 +21,7 @@ pub struct CalendarIn {
     on: Vec<bool>,
 }
 
-// Tells one entry, and whether it changes its channel.
+// Takes one entry, and adds it to `changed` where it changes its channel.
 fn tell_one(on: &mut [bool], changed: &mut ArrayVec<(u16, bool), 16>, channel: u16, now: bool)
     requires wide { length on.old ≡ 65536 }
     requires room { array_vec_len changed.old < 16 }
@@ -35,7 +35,7 @@ fn tell_one(on: &mut [bool], changed: &mut ArrayVec<(u16, bool), 16>, channel: u
     }
 }
 
-// Tells the entries of one word, and which of them change a channel.
+// Takes the entries of one word, and adds to `changed` those that change a channel.
 fn tell(entries: &[u16], flow: u16, on: &mut [bool], changed: &mut ArrayVec<(u16, bool), 16>)
     requires short { length entries.now ≤ 16 }
     requires wide { length on.old ≡ 65536 }

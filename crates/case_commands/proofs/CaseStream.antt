@@ -4,7 +4,7 @@ use Rattle.std.specs.Prelude.{nat_le}
 use Rattle.std.specs.List.{AllByRecursion, range_with_len}
 use Rattle.std.proofs.lemmas.Bool.{and_from, le-leb}
 use Rattle.std.proofs.lemmas.List.{length-map}
-use Rattle.std.proofs.lemmas.List.Elements.{All-append, All-map, All-nil}
+use Rattle.std.proofs.lemmas.List.Elements.{All-append, All-map, All-nil, All-from_recursion}
 use Rattle.std.proofs.lemmas.List.FromFn.{get_or-range_with_len, length-range_with_len, length-map-range_with_len}
 use Rattle.lk_base.specs.Limits.{longest_packet}
 use Rattle.lk_base.specs.Link.{IsLink}
@@ -59,11 +59,6 @@ case_link number = by (case_of number).numbers (drawn.case-fits number).numbers
 
 -- ---- its packets
 
-pub all_of : {X : Type 0} (P : X → Type 0) (xs : List X) → AllByRecursion P xs → All P xs
-all_of P [] a k d lt = absurd (omega arith)
-all_of P (x ∷ xs) a zero d lt = a.0
-all_of P (x ∷ xs) a (suc k) d lt = all_of P xs a.1 k d (omega arith)
-
 -- a packet that was drawn is one of bytes
 packet_fits : (x : ℕ) → IsPacket longest_packet (packet_drawn x).0
 packet_fits x =
@@ -72,7 +67,7 @@ packet_fits x =
     record {
       some = fits.some;
       fits = omega (arith, few);
-      bytes = all_of (λ b. b < 256) (packet_drawn x).0 (drawn.many-each (λ b. b < 256) (draw 256) (λ y. drawn.draw-small 256 y (omega arith)) (1 + (draw 1514 x).0) (draw 1514 x).1);
+      bytes = All-from_recursion (λ b. b < 256) (packet_drawn x).0 (drawn.many-each (λ b. b < 256) (draw 256) (λ y. drawn.draw-small 256 y (omega arith)) (1 + (draw 1514 x).0) (draw 1514 x).1);
     }
 
 abbrev AllPackets : List (List ℕ) → Type 0
@@ -94,7 +89,7 @@ packets_fit : (from : ℕ) (channels : List (List (List ℕ))) → AllByRecursio
 packets_fit from [] a = none_fit
 packets_fit from (packets ∷ more) a =
     All-append (λ (p : ℕ × List ℕ). IsPacket longest_packet p.1) (on_channel from packets) (packets_from (from + 1) more)
-    (All-map (λ (p : ℕ × List ℕ). IsPacket longest_packet p.1) (λ (packet : List ℕ). (from, packet)) packets (all_of (IsPacket longest_packet) packets a.0))
+    (All-map (λ (p : ℕ × List ℕ). IsPacket longest_packet p.1) (λ (packet : List ℕ). (from, packet)) packets (All-from_recursion (IsPacket longest_packet) packets a.0))
     (packets_fit (from + 1) more a.1)
 
 pub case_packets : (number : ℕ) → AreFit longest_packet (packets_from 0 (case_of number).channels)

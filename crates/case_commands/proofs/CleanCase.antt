@@ -1,6 +1,7 @@
 -- The premises of the delivery theorem of generated cases are met.
 use Rattle.std.proofs.Common.{◌≡◌, ℕ, ◌≤◌, Contains, refl, sym, ap, ◌∙◌, subst, arith, lit≤, List, [], ◌∷◌, Some}
 use Rattle.lk_base.specs.declared.word.Word.{Word}
+use Rattle.std.proofs.lemmas.List.Elements.{All-from_recursion}
 use Rattle.lane_model.specs.Damage.{IsWithinDepth}
 use Rattle.link_cases.specs.Draws.{next_state, many}
 use Rattle.link_cases.specs.Case.{Case, numbers_drawn, case_of}
@@ -18,7 +19,7 @@ use Rattle.case_commands.specs.Asked.{asked}
 use Rattle.case_commands.specs.PremisesMet.{CleanCaseMeets, CleanCasesMeet, clean_case, clean_number, clean_reading, four_bytes}
 use Rattle.case_commands.specs.Reading.{case_reading}
 use Rattle.case_commands.proofs.CaseDelivers.{case_sends_all, clean_case_delivers}
-use Rattle.case_commands.proofs.CaseStream.{all_of, case_listed, some_case_linked}
+use Rattle.case_commands.proofs.CaseStream.{case_listed, some_case_linked}
 
 is_case : case_of clean_number ≡ clean_case
 unfolding next_state many numbers_drawn case_of
@@ -35,8 +36,8 @@ module _ (prefix : List ℕ) where
       let skews : List ℕ = 226 ∷ 355 ∷ 203 ∷ 154 ∷ [] in
       subst (λ (c : Case). IsWithinDepth (settings_of c.numbers) c.skews) (sym is_case)
       (within_by (settings_of clean_case.numbers) skews 469 0
-      (all_of (λ skew. skew ≤ 469) skews (lit≤ tt, (lit≤ tt, (lit≤ tt, (lit≤ tt, tt)))))
-      (all_of (λ skew. 0 ≤ skew) skews (lit≤ tt, (lit≤ tt, (lit≤ tt, (lit≤ tt, tt)))))
+      (All-from_recursion (λ skew. skew ≤ 469) skews (lit≤ tt, (lit≤ tt, (lit≤ tt, (lit≤ tt, tt)))))
+      (All-from_recursion (λ skew. 0 ≤ skew) skews (lit≤ tt, (lit≤ tt, (lit≤ tt, (lit≤ tt, tt)))))
       (lit≤ tt))
 
   module _ (stream : List Word) (o : Outcome) (h : IsLinkedBy (clean_reading prefix) stream o) where

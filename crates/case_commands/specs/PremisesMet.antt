@@ -6,7 +6,8 @@ use Rattle.link_laws.specs.Accidents.{no_accidents}
 use Rattle.link_cases.specs.Case.{Case, case_of}
 use Rattle.pcap_files.specs.Written.{capture_bytes}
 use Rattle.run_shell.specs.Outcome.{Outcome, content_of}
-use Rattle.receipts.specs.Received.{bytes_of, capture_name}
+use Rattle.receipts.specs.Received.{bytes_of}
+use Rattle.pcap_files.specs.Names.{capture_name}
 use Rattle.link_commands.specs.Inputs.{LinkReading}
 use Rattle.link_commands.specs.Linked.{IsLinkedBy}
 use Rattle.link_commands.specs.Delivery.{AllUndamaged, LosesNoLock, sent_on}

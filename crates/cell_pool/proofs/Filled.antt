@@ -1,16 +1,16 @@
 -- The bytes of a list to which words are added that fit into one cell, and into more.
 use Rattle.std.proofs.Common.{ℕ, zero, suc, ◌≡◌, ◌≢◌, ◌+◌, ◌-◌, ◌*◌, ◌/◌, ◌%◌, ◌<◌, ◌≤◌, List, [], ◌∷◌, ◌++◌, length, get_or, set, take, drop, flat_map, refl, sym, ap, ◌∙◌, subst, arith, get_or-set_same, get_or-set_other, slice_index, append_assoc, append-nil, length-append}
-use Rattle.std.specs.List.{sum_by}
 use Rattle.std.specs.Int.{w64, to_be_bytes}
 use Rattle.std.proofs.Math.Seq.{take-add}
 use Rattle.std.proofs.lemmas.Grind.{flat_map-append}
 use Rattle.std.proofs.lemmas.List.{length-set, length-take-le, take_all, take_more, set-get_or}
 use Rattle.std.proofs.lemmas.List.Sums.{sum_by-set}
+use Rattle.lk_base.proofs.Bits.{length-words}
 use Rattle.lk_index_lists.specs.Held.{Held, list_at, IsApart}
 use Rattle.cell_pool.specs.Stored.{Stored, bytes_at, cells_for, used_by, with_bytes}
-use Rattle.cell_pool.specs.Cells.{byte_of_word, byte_at, bytes_in, word_place, roomier, with_run}
+use Rattle.cell_pool.specs.Cells.{byte_of_word, bytes_in, word_place, roomier, with_run}
 use Rattle.cell_pool.proofs.Packed.{bytes_same}
-use Rattle.cell_pool.proofs.Pushed.{bytes_more, bytes_of, lists_apart, roomier_front, words_apart}
+use Rattle.cell_pool.proofs.Pushed.{bytes_more, lists_apart, roomier_front, words_apart}
 
 -- ---- words that stand one after another
 
@@ -90,20 +90,12 @@ bytes_elsewhere held apart p q i f cell n words (x ∷ xs) ne inside here fits l
 
 -- ---- words that fill cell after cell
 
-pub length-run : (xs : List ℕ) → length (flat_map (to_be_bytes w64) xs) ≡ 8 * length xs
-length-run [] = refl
-length-run (x ∷ xs) =
-    let e : length (to_be_bytes w64 x ++ flat_map (to_be_bytes w64) xs) ≡ length (to_be_bytes w64 x) + length (flat_map (to_be_bytes w64) xs) = length-append (to_be_bytes w64 x) (flat_map (to_be_bytes w64) xs) in
-    let eight : length (to_be_bytes w64 x) ≡ 8 = bytes_of x in
-    let rest : length (flat_map (to_be_bytes w64) xs) ≡ 8 * length xs = length-run xs in
-    omega arith
-
 set_over : {A : Type 0} (xs : List A) (p : ℕ) (a b : A) → set (set xs p a) p b ≡ set xs p b
 set_over [] p a b = refl
 set_over (x ∷ xs) zero a b = refl
 set_over (x ∷ xs) (suc p) a b = ap (λ ys. x ∷ ys) (set_over xs p a b)
 
--- so many of the words were added
+-- this many of the words were added
 pub record Filling (old now : Stored) (place : ℕ) (words : List ℕ) (done : ℕ) : Type 0 where
   pub within : done ≤ length words
   pub state : now ≡ with_bytes old place (bytes_at old.lists place ++ flat_map (to_be_bytes w64) (take done words))
@@ -128,7 +120,7 @@ module _ (old now : Stored) (place : ℕ) (words : List ℕ) (done : ℕ) (insid
   long_now =
       ap length bytes_now
       ∙ length-append (bytes_at old.lists place) (flat_map (to_be_bytes w64) (take done words))
-      ∙ ap (λ k. length (bytes_at old.lists place) + k) (length-run (take done words) ∙ ap (λ k. 8 * k) (length-take-le done words filling.within))
+      ∙ ap (λ k. length (bytes_at old.lists place) + k) (length-words (take done words) ∙ ap (λ k. 8 * k) (length-take-le done words filling.within))
 
   pub filling_whole : length (bytes_at old.lists place) % 8 ≡ 0 → length (bytes_at now.lists place) % 8 ≡ 0
   filling_whole h = let e : length (bytes_at now.lists place) ≡ length (bytes_at old.lists place) + 8 * done = long_now in omega arith

@@ -13,7 +13,8 @@ use Rattle.lane_model.specs.Coding.{code_behind, code_of, codes_behind, disparit
 use Rattle.lane_model.specs.LaneBits.{bits_of_codes}
 use Rattle.lane_model.proofs.CodesOfWords.{codes_behind-append, none-codes, one_more-codes}
 use Rattle.coding_67b.specs.Runs.{codes_from, disparity_from}
-use Rattle.coding_67b.proofs.Cut.{bits_of_bytes_high}
+use Rattle.lk_base.proofs.Bits.{bits_of_bytes_high}
+use Rattle.lane_model.proofs.FilesHold.{length-flat_map_bits}
 
 -- ---- one word more
 
@@ -96,7 +97,11 @@ one_code code = append-nil (bits_of 67 code)
 pub code_more : (codes : List ℕ) (code : ℕ) → bits_of_codes (codes ++ code ∷ []) ≡ bits_of_codes codes ++ bits_of 67 code
 code_more codes code = codes_joined codes (code ∷ []) ∙ ap (λ (bits : List Bool). bits_of_codes codes ++ bits) (one_code code)
 
--- a code is put behind the bits that wait, and the next 64 of these are given as the bytes of a number
+pub codes_length : (codes : List ℕ) → length (bits_of_codes codes) ≡ 67 * length codes
+unfolding bits_of_codes
+codes_length codes = length-flat_map_bits 67 codes
+
+-- a code is put after the bits that wait, and the next 64 of these are given as the bytes of a number
 pub number_more : (codes : List ℕ) (place : ℕ) (bytes new : List ℕ) (waits full rest : List Bool) (number : ℕ) → place < length codes
     → bits_of_bytes (take (8 * place) bytes) ++ waits ≡ bits_of_codes (take place codes) → full ≡ waits ++ bits_of 67 (get_or codes place 0) → full ≡ bits_of 64 number ++ rest
     → take (8 * place + 8) new ≡ take (8 * place) bytes ++ to_be_bytes w64 number → bits_of_bytes (take (8 * (place + 1)) new) ++ rest ≡ bits_of_codes (take (place + 1) codes)

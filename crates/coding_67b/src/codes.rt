@@ -1,8 +1,8 @@
 ghost use Rattle.std.specs.Prelude.{◌≡◌, ◌≢◌, ◌+◌, ◌*◌, ◌^◌, ◌<◌, ◌≤ℤ◌, ◌&&◌, ◌||◌, ◌↔◌, ◌⊎◌, ◌-ℤ◌, ◌+ℤ◌, if◌then◌else◌, pos, negsuc, int_le, int_lt};
 ghost use Rattle.lk_base.specs.declared.word.RxWord.TheVariants as received;
 ghost use Rattle.lk_base.specs.Words.{payload as payload_of};
-ghost use Rattle.lane_model.specs.Bits.{digit};
-ghost use Rattle.lane_model.specs.Coding.{code_of, header_for, header_in, inverse_of, is_inverted, weight, word_of_code, next_disparity};
+ghost use Rattle.lk_base.specs.Checksum.{digit};
+ghost use Rattle.lane_model.specs.Coding.{code_of, header_for, header_in, inverse_of, weight, word_of_code};
 
 use lk_base::{RxWord, Word};
 
@@ -81,7 +81,7 @@ pub fn code(inverted: bool, word: Word) -> u128
     top << 64 | low as u128
 }
 
-/// The disparity behind a word of this weight, sent inverted or plain.
+/// The disparity after a word of this weight, sent inverted or plain.
 pub fn disparity_after(disparity: i32, weight: i32, inverted: bool) -> i32
     requires disparity_low { negsuc 64 ≤ℤ disparity }
     requires disparity_high { disparity ≤ℤ pos 64 }

@@ -34,7 +34,7 @@ impl Encoder {
         Encoder { disparity: 0 }
     }
 
-    /// The code of the word behind the codes so far, below 2^67. It is inverted where that brings the disparity nearer
+    /// The code of the word after the codes so far, below 2^67. It is inverted where that brings the disparity nearer
     /// to 0: where it is not below 0 and the payload with one further zero bit has more ones than zeros, or it is below
     /// 0 and there are fewer.
     pub fn encode(&mut self, word: Word) -> u128

@@ -31,7 +31,7 @@ impl BitWriter {
         BitWriter { bits: 0, count: 0 }
     }
 
-    /// Puts the 67 bits of a code behind the waiting ones, bit 66 first. Fewer than 61 bits wait before.
+    /// Puts the 67 bits of a code after the waiting ones, bit 66 first. Fewer than 61 bits wait before.
     pub fn push(&mut self, code: u128)
         requires waiting { length self.old < 61 }
         requires code { code < 2 ^ 67 }
@@ -64,7 +64,7 @@ impl BitWriter {
         Some((self.bits >> self.count & 0xFF) as u8)
     }
 
-    /// Takes the next 64 waiting bits, the first of them as the number's highest. At least so many wait.
+    /// Takes the next 64 waiting bits, the first of them as the number's highest. At least that many wait.
     pub fn take_64(&mut self) -> u64
         requires { 64 ≤ length self.old }
         ensures bits { self.old ≡ bits_of 64 result ++ self.new }
@@ -74,7 +74,7 @@ impl BitWriter {
         (self.bits >> self.count & u64::MAX as u128) as u64
     }
 
-    /// Takes the waiting bits, with zeros behind. Fewer than 8 bits wait. `None` exactly where no bit waits.
+    /// Takes the waiting bits, with zeros after them. Fewer than 8 bits wait. `None` exactly where no bit waits.
     pub fn pad(&mut self) -> Option<u8>
         requires { length self.old < 8 }
         ensures none { IsNone result ↔ self.old ≡ [] }

@@ -37,7 +37,7 @@ pub fn obeyed<C: Command>(
     }
 }
 
-/// Adds the text of a file of the store behind what a command printed.
+/// Adds the text of a file of the store after what a command printed.
 pub fn with_text(out: &mut Vec<u8>, store: &MemStore, name: &str) -> Result<(), OutOfMemory> {
     match store.get(name) {
         Some(text) => out.extend_from_slice(text)?,

@@ -90,7 +90,7 @@ fn plan_joined(alloc: Global) -> Result<Vec<u8>, OutOfMemory> {
     join_plan(alloc, &mut store)
 }
 
-/// Tells what `join` prints and writes.
+/// Prints what `join` prints and writes.
 pub fn tell_all(rt: &HostRuntime) -> io::Result<()> {
     tell_lines(
         rt,

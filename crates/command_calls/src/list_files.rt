@@ -26,7 +26,7 @@ fn store_of(alloc: Global, name: &str, bytes: &[u8]) -> Result<MemStore, OutOfMe
     Ok(store)
 }
 
-// Adds the bytes of a file behind what a command printed.
+// Adds the bytes of a file after what a command printed.
 fn with_bytes(
     alloc: Global,
     out: &mut Vec<u8>,
@@ -77,7 +77,7 @@ fn assembled(alloc: Global, name: &str, text: &[u8], output: &str) -> Result<Vec
     assemble(alloc, &mut store, name, output)
 }
 
-/// Tells what `list` and `assemble` print and write, and that they create nothing where they refuse.
+/// Prints what `list` and `assemble` print and write, and that they create nothing where they refuse.
 pub fn tell_all(rt: &HostRuntime) -> io::Result<()> {
     tell_lines(
         rt,

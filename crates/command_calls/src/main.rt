@@ -1,4 +1,4 @@
-//! Calls commands over stores in memory, and tells what they gave.
+//! Calls commands over stores in memory, and prints what they gave.
 #![tactic(auto)]
 
 mod commands;

@@ -1,5 +1,5 @@
 -- What the parser of command lines makes of accepted words.
-use Rattle.std.proofs.Common.{arith, ◌≤◌, ◌≡◌, ◌∙◌, ℕ, ◌+◌, ◌<◌, length, get_or, drop, map, add-one, Bool, true, false, not, List, [], ◌∷◌, Option, Some, None, is_some, refl, sym, ap, subst, codes, nat_eq}
+use Rattle.std.proofs.Common.{arith, ◌≤◌, ◌≡◌, ◌∙◌, ℕ, ◌+◌, ◌<◌, length, get_or, drop, map, add-one, Bool, true, false, List, [], ◌∷◌, Option, Some, None, is_some, refl, sym, ap, subst, codes, nat_eq}
 use Rattle.std.proofs.lemmas.Bool.Decides.{nat_tests}
 use Rattle.std.specs.Str.{bytes_eq}
 use Rattle.std.specs.Char.{is_ascii_digit}
@@ -9,6 +9,7 @@ use Rattle.std.specs.Box.{box_value}
 use Rattle.std.specs.Borrow.{Bor}
 use Rattle.std.proofs.lemmas.Slice.Eq.{bytes_eq-Decides}
 use Rattle.std.proofs.Math.Seq.{drop-cons}
+use Rattle.std.proofs.lemmas.Bool.{not-true}
 use Rattle.clap.specs.Words.{App, Row, Text, with_subcommand, first_of, first_value, found_of, is_simple, rows_of, subcommand_name_of, subcommand_of, subcommand_rows, subcommand_rows_of, takes}
 use Rattle.clap.specs.declared.parser.matches.ArgMatches.{ArgMatches}
 use Rattle.clap.specs.declared.parser.matches.ArgMatches.TheViews.{out-ArgMatches, out-SubCommand}
@@ -82,10 +83,6 @@ generate_read : (y : ℕ) (ys : Text) (x : ℕ) (xs : Text) → nat_eq y 45 ≡ 
 unfolding clap_on_literals rows
 generate_read y ys x xs d e = record { simple = refl; taken = simp (d, e); found = simp (d, e) }
 
-is_not : (b : Bool) → not b ≡ true → b ≡ false
-is_not true e = absurd (cc)
-is_not false e = refl
-
 some_where : {X : Type 0} (b : Bool) (x : X) → is_some (if b then Some x else None) ≡ true → b ≡ true
 some_where true x e = refl
 some_where false x e = absurd (cc)
@@ -99,7 +96,7 @@ file_reads word read [] e = absurd (cc)
 file_reads word read ([] ∷ []) e = absurd (cc)
 file_reads word read ((x ∷ xs) ∷ []) e =
     let named : is_name 255 (x ∷ xs) ≡ true = some_where (is_name 255 (x ∷ xs)) _ e in
-    read x xs (is_not (nat_eq x 45) (both _ _ (both _ _ named).0).1)
+    read x xs (not-true (nat_eq x 45) (both _ _ (both _ _ named).0).1)
 file_reads word read (file ∷ more ∷ rest) e = absurd (cc)
 
 -- a number begins with a digit
@@ -121,7 +118,7 @@ number_reads word read ((y ∷ ys) ∷ [] ∷ []) e = let h = number_some (y ∷
 number_reads word read ((y ∷ ys) ∷ (x ∷ xs) ∷ []) e =
     let h = number_some (y ∷ ys) (x ∷ xs) (number_of_word (y ∷ ys)) refl e in
     let digits : list_all is_ascii_digit (y ∷ ys) ≡ true = (both _ _ (both _ _ h.0).0).1 in
-    read y ys x xs (no_dash y (digit-byte 0 (y ∷ ys) (omega arith) digits).0) (is_not (nat_eq x 45) (both _ _ (both _ _ h.1).0).1)
+    read y ys x xs (no_dash y (digit-byte 0 (y ∷ ys) (omega arith) digits).0) (not-true (nat_eq x 45) (both _ _ (both _ _ h.1).0).1)
 number_reads word read (number ∷ prefix ∷ more ∷ rest) e = absurd (cc)
 
 abbrev AllRead : List Kind → Type 0

@@ -7,7 +7,7 @@ use Rattle.command_words.specs.declared.table.Rule.{Rule}
 use Rattle.command_words.specs.declared.table.Rule.TheVariants.{File, NumberAndPrefix}
 use Rattle.command_words.specs.Given.{Given}
 
--- a word that is not empty, does not begin with a dash (45), and has at most so many bytes
+-- a word that is not empty, does not begin with a dash (45), and has at most this many bytes
 abbrev pub is_name : ℕ → List ℕ → Bool
 is_name most word = nat_lt 0 (length word) && not (nat_eq (slice_index word 0) 45) && nat_le (length word) most
 

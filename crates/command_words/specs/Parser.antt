@@ -1,4 +1,4 @@
--- What the parser of command lines is told, and what it gives back.
+-- What the parser of command lines is given, and what it gives back.
 use Rattle.std.specs.Prelude.{◌≡◌, List, [], ◌∷◌, Option, Some, option_map, option_and_then, true, codes}
 use Rattle.clap.specs.Words.{App, Row, Rule, Text, first_of, new_app, new_rule, subcommand_rows_of, with_rule, with_subcommand}
 use Rattle.clap.specs.declared.parser.matches.ArgMatches.{ArgMatches}

@@ -30,7 +30,7 @@ impl<'w> Model for Arguments<'w> {
     ghost view = { λ a. record { number = a.number; file = a.file.now } };
 }
 
-// A word that is not empty, does not begin with a dash, and has at most so many bytes.
+// A word that is not empty, does not begin with a dash, and has at most this many bytes.
 fn is_name(most: usize, word: &str) -> bool
     ensures { result ≡ is_name most word.now }
 {

@@ -96,7 +96,7 @@ fn program<'w>(alloc: Global, table: &[Row]) -> Result<Command<'w>, AllocError>
     Ok(program)
 }
 
-// What is found in accepted words. They are refused for want of memory only.
+// What is found in accepted words. They are refused only where memory runs out.
 fn matches_of<'w>(alloc: Global, words: &'w [String]) -> Result<ArgMatches<'w>, Error>
     requires { is_some (given_in (map string_bytes words.now)) ≡ true }
     ensures read { IfOk result (IsReadAs (map string_bytes words.now)) }

@@ -10,6 +10,8 @@ use Rattle.lk_base.specs.Link.{Settings, IsLink}
 use Rattle.lk_base.specs.declared.word.Aligned.{Aligned}
 use Rattle.lk_base.specs.declared.word.RxWord.{RxWord}
 use Rattle.lk_base.specs.declared.word.RxWord.TheVariants.{Control}
+use Rattle.lk_base.proofs.Lists.{list_all-more}
+use Rattle.lock_model.proofs.Existing.{clash}
 use Rattle.lane_model.specs.Framing.{sync_payload}
 use Rattle.lane_model.specs.declared.role.Role.{Role}
 use Rattle.lock_model.specs.declared.types.LaneStep.{LaneStep}
@@ -35,9 +37,6 @@ use Rattle.deskew.proofs.Running.{running_begins}
 use Rattle.deskew.proofs.Shorter.{ticks_shorter}
 use Rattle.deskew.proofs.Ticking.{all_clocks, all_tick, ticked_with}
 use Rattle.deskew.proofs.Tracks.{length-keep}
-
-clash : {b : Bool} → b ≡ true → b ≡ false → ⊥
-clash e f = (let g : true ≡ false = sym e ∙ f in cc)
 
 -- ---- no group begins while a lane lags
 
@@ -163,7 +162,7 @@ any_lags bits high higher (l ∷ ls) (k ∷ ks) on le lag = elim (either (lags b
 
 -- ---- no lane declares a lock
 
--- it was in its lock when so many bits had come, or none of these steps declares a lock
+-- it was in its lock when this many bits had come, or none of these steps declares a lock
 abbrev IsKept : ℕ → LaneState → List LaneStep → Type 0
 IsKept m l column = ((has_lock l ≡ true) × (m < l.last + 134)) ⊎ (list_all keeps_lock column ≡ true)
 
@@ -233,10 +232,6 @@ all_keep s n m k (lane ∷ lanes) (column ∷ columns) (start ∷ starts) link t
 settled_same : (d : State) → d.settled ≡ true → with_settled d true ≡ d
 settled_same d e = (let f : ◌≡◌ {A = State} (record { settings = d.settings; lanes = d.lanes; phase = d.phase; settled = true }) (record { settings = d.settings; lanes = d.lanes; phase = d.phase; settled = d.settled }) = cc in f)
 
-all_push : {A : Type 0} (f : A → Bool) (xs : List A) (x : A) → list_all f xs ≡ true → f x ≡ true → list_all f (xs ++ x ∷ []) ≡ true
-all_push f [] x h e = rw e refl
-all_push f (y ∷ xs) x h e = (let p = and_parts (f y) (list_all f xs) h in let r = all_push f xs x p.1 e in rw (p.0, r) refl)
-
 record Reached (n m : ℕ) (d : State) (s : Settings) (ticks : List (List LaneStep)) (given : List Aligned) (columns : List (List LaneStep)) : Type 0 where
   phase : is_outside (ticked_all d (ticks_of columns n)).phase ≡ true
   settings : (ticked_all d (ticks_of columns n)).settings ≡ d.settings
@@ -294,7 +289,7 @@ reached_more n m d s ticks given columns at few count are r =
       settings = ap (λ (y : State). y.settings) is ∙ r.settings;
       stands = subst (λ (ts : List (List LaneStep)). Stands (with_settled (ticked_all d (ticks_of columns (n + 1))) true) s ts given) (sym all)
           (subst (λ (y : State). Stands (with_settled y true) s ((ticks ++ gone) ++ tick ∷ []) given) (sym is) g.1);
-      locks = subst (λ (ts : List (List LaneStep)). list_all (list_all keeps_lock) ts ≡ true) (sym (one_more columns n)) (all_push (list_all keeps_lock) gone tick r.locks keep.0);
+      locks = subst (λ (ts : List (List LaneStep)). list_all (list_all keeps_lock) ts ≡ true) (sym (one_more columns n)) (list_all-more (list_all keeps_lock) gone tick r.locks keep.0);
       kept = subst (λ (y : State). AllKept m y.lanes columns) (sym is) (subst (λ (ls : List LaneState). AllKept m ls columns) (sym kept) keep.1);
       lag = subst (λ (y : State). list_any (lags bits (highest y.lanes)) y.lanes ≡ true) (sym is) lag;
     }

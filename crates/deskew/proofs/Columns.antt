@@ -1,7 +1,7 @@
 -- The steps of many ticks, taken lane by lane.
 use Rattle.std.proofs.Common.{ℕ, zero, suc, ◌≡◌, refl, sym, ap, ◌∙◌, subst, ◌+◌, ◌*◌, ◌<◌, ◌≤◌, true, false, List, [], ◌∷◌, ◌++◌, length, map, take, get_or, set, arith}
 use Rattle.std.specs.List.{list_all, range_with_len}
-use Rattle.std.proofs.lemmas.List.{length-map, take_all, take_more}
+use Rattle.std.proofs.lemmas.List.{length-map, take_all, take_more, length_push}
 use Rattle.std.proofs.lemmas.List.FromFn.{length-map-range_with_len, map-range_with_len_more}
 use Rattle.lk_base.specs.declared.word.Aligned.{Aligned}
 use Rattle.lk_base.specs.Link.{Settings}
@@ -14,9 +14,9 @@ use Rattle.deskew.specs.Lanes.{fresh_lane, lane_after}
 use Rattle.deskew.specs.Steps.{lane_after_all, lanes_after, steps_taken, ticked, with_settled}
 use Rattle.deskew.specs.Ticks.{AreTicks, lane_shown, lanes_shown, steps_in, tick_at, ticks_of}
 use Rattle.deskew.specs.Stands.{Stands, StandsWith, kept_lanes, most_ahead, ring_of}
-use Rattle.deskew.specs.Ahead.{AreWhole, can_run_ahead, keeps_lock, ticked_all}
-use Rattle.deskew.specs.Columns.{AreLong, BatchOfColumns, ColumnsAreTicks, columns_taken}
-use Rattle.deskew.proofs.Running.{batch_keeps_locks, batch_runs_ahead}
+use Rattle.deskew.specs.Ahead.{AreLong, can_run_ahead, keeps_lock, ticked_all}
+use Rattle.deskew.specs.Columns.{BatchOfColumns, ColumnsAreTicks, columns_taken}
+use Rattle.deskew.proofs.Running.{batch_keeps_locks, batch_runs_ahead, pushed}
 
 -- ---- one lane
 
@@ -48,14 +48,6 @@ no_columns : (ls : List LaneState) → lanes_all ls [] ≡ ls
 no_columns [] = refl
 no_columns (l ∷ ls) = refl
 
-pushed : {A : Type 0} (xs : List A) (x : A) (ys : List A) → (xs ++ x ∷ []) ++ ys ≡ xs ++ x ∷ ys
-pushed [] x ys = refl
-pushed (z ∷ xs) x ys = ap (λ zs. z ∷ zs) (pushed xs x ys)
-
-length_pushed : {A : Type 0} (xs : List A) (x : A) → length (xs ++ x ∷ []) ≡ length xs + 1
-length_pushed [] x = refl
-length_pushed (y ∷ xs) x = (let e = length_pushed xs x in omega (arith, e))
-
 at_seam : (p : List LaneState) (l : LaneState) (ls : List LaneState) (f : LaneState → LaneState) →
     set (p ++ l ∷ ls) (length p) (f (get_or (p ++ l ∷ ls) (length p) (fresh_lane 0))) ≡ p ++ f l ∷ ls
 at_seam [] l ls f = refl
@@ -77,7 +69,7 @@ columns_from k p (l ∷ ls) column [] d e is count =
     one_taken k p l ls column d e is ∙ ap (λ (zs : List LaneState). held d (p ++ lane_after_all l column ∷ zs)) (sym (no_columns ls))
 columns_from k p (l ∷ ls) column (next ∷ columns) d e is count =
     let x = lane_after_all l column in
-    let n = length_pushed p x in
+    let n = length_push p x in
     let here : steps_taken k (shown_in column) d ≡ held d (p ++ x ∷ ls) = one_taken k p l ls column d e is in
     let on = columns_from (k + 1) (p ++ x ∷ []) ls next columns (held d (p ++ x ∷ ls)) (omega (arith, e, n)) (sym (pushed p x ls)) (omega (arith, count)) in
     ap (columns_taken (k + 1) (next ∷ columns)) here ∙ on ∙ ap (held d) (pushed p x (lanes_all ls (next ∷ columns)))
@@ -171,7 +163,7 @@ kept_count L room [] starts e = refl
 kept_count L room (lane ∷ lanes) [] e = absurd (omega (arith, e))
 kept_count L room (lane ∷ lanes) (start ∷ starts) e = ap suc (kept_count L room lanes starts (omega (arith, e)))
 
-whole_ticks : (columns : List (List LaneStep)) (k m lanes : ℕ) → length columns ≡ lanes → AreWhole lanes (map (tick_at columns) (range_with_len k m))
+whole_ticks : (columns : List (List LaneStep)) (k m lanes : ℕ) → length columns ≡ lanes → AreLong lanes (map (tick_at columns) (range_with_len k m))
 whole_ticks columns k zero lanes e = tt
 whole_ticks columns k (suc m) lanes e = (length-map columns (λ (column : List LaneStep). get_or column k steps.Ended) ∙ e, whole_ticks columns (k + 1) m lanes e)
 

@@ -151,7 +151,7 @@ part_of_two p q first n here f g m a b c d =
     let l = length-drop f p in
     take_of_two (drop f p) (drop g q) n here m (omega (arith, a, b, l)) d ∙ ap (λ (ws : List RxWord). take n ws) (drop_of_two p q first f g b c)
 
--- both have room for the words of so many rows
+-- both have room for the words of this many rows
 pub two_fit : (from step rows room : ℕ) (p q : List RxWord) → length (p ++ q) ≡ rows → from + rows * step < room + step →
     (from + length p * step < room + step) × (from + length p * step + length q * step < room + step)
 two_fit from step rows room p q is within =

@@ -10,8 +10,8 @@ use Rattle.deskew.specs.States.{LaneState, State}
 use Rattle.deskew.specs.Lanes.{has_lock}
 use Rattle.deskew.specs.Ticks.{AreTicks, ticks_of}
 use Rattle.deskew.specs.Stands.{GaveAll, Stands, StandsAhead, most_ahead}
-use Rattle.deskew.specs.Ahead.{is_locked, keeps_lock}
-use Rattle.deskew.specs.Columns.{AreLong, columns_taken}
+use Rattle.deskew.specs.Ahead.{is_locked, keeps_lock, AreLong}
+use Rattle.deskew.specs.Columns.{columns_taken}
 
 abbrev pub is_outside : Phase → Bool
 is_outside phases.First = true

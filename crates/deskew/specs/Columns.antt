@@ -8,17 +8,12 @@ use Rattle.deskew.specs.States.{State}
 use Rattle.deskew.specs.Steps.{steps_taken}
 use Rattle.deskew.specs.Ticks.{AreTicks, ticks_of}
 use Rattle.deskew.specs.Stands.{Stands, StandsAhead, most_ahead}
-use Rattle.deskew.specs.Ahead.{can_run_ahead, ticked_all}
+use Rattle.deskew.specs.Ahead.{AreLong, can_run_ahead, ticked_all}
 
 -- lane i takes the steps that its column shows, lane i + 1 those that the next column shows, and so on
 abbrev pub columns_taken : ℕ → List (List LaneStep) → State → State
 columns_taken i [] d = d
 columns_taken i (column ∷ columns) d = columns_taken (i + 1) columns (steps_taken i (shown_in column) d)
-
--- each has a step for each of n bits
-abbrev pub AreLong : ℕ → List (List LaneStep) → Type 0
-AreLong n [] = Unit {0}
-AreLong n (column ∷ columns) = (length column ≡ n) × AreLong n columns
 
 -- Columns of the same bits, one of each lane, are the ticks of these bits
 abbrev pub ColumnsAreTicks : Type 0

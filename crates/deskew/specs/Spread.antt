@@ -4,12 +4,12 @@ use Rattle.lk_base.specs.declared.word.RxWord.{RxWord}
 use Rattle.deskew.specs.States.{LaneState}
 use Rattle.deskew.specs.Blocks.{word_at}
 
--- the words stand at every so many-th place of the block, the first at this one
+-- the words stand at every `step`-th place of the block, the first at this one
 abbrev pub spread : ℕ → ℕ → List RxWord → List RxWord → List RxWord
 spread step from [] block = block
 spread step from (w ∷ words) block = spread step (from + step) words (set block from w)
 
--- the words of a lane in so many rows, the first of them so many words after the Sync of the last group
+-- the words of a lane in this many rows, the first of them this many words after the Sync of the last group
 abbrev pub column : ℕ → ℕ → LaneState → List RxWord
 column behind zero l = []
 column behind (suc n) l = word_at behind l ∷ column (behind + 1) n l

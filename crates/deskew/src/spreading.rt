@@ -3,7 +3,7 @@ ghost use Rattle.deskew.specs.Spread.{spread};
 
 use lk_base::RxWord;
 
-/// Appends so many words, which are still to be written.
+/// Appends this many words, which are still to be written.
 pub fn make_places(count: usize, block: &mut Vec<RxWord>)
     requires { length block.old.items + count ≤ vec_capacity block.old }
     ensures capacity { vec_capacity block.new ≡ vec_capacity block.old }
@@ -14,7 +14,7 @@ pub fn make_places(count: usize, block: &mut Vec<RxWord>)
     }
 }
 
-/// Writes words to every so many-th place of the block, the first to this one. Returns the place of the word after the last.
+/// Writes words to every `step`-th place of the block, the first to this one. Returns the place of the word after the last.
 pub fn spread(words: &[RxWord], from: usize, step: usize, block: &mut Vec<RxWord>) -> usize
     requires step { step < 2 ^ 62 }
     requires within { from + length words.now * step < length block.old.items + step }

@@ -123,7 +123,7 @@ module _ (old now : List Queue) (filled : List ℕ) (count i : ℕ) (f : AreFill
   more : take (i + 1) filled ≡ take i filled ++ channel ∷ []
   more = take_more filled i 0 inside
 
-  -- the next one stands behind them, and its queue is still to be drained
+  -- the next one stands after them, and its queue is still to be drained
   not_yet : Contains (take i filled) channel → ⊥
   not_yet at =
       let k : ℕ = at.0 in

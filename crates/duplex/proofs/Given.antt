@@ -7,6 +7,7 @@ use Rattle.lk_base.specs.declared.position.Pos.{Pos}
 use Rattle.lk_base.specs.declared.fault.Why.{Why}
 use Rattle.lk_base.specs.declared.word.Word.{Word}
 use Rattle.lk_base.specs.declared.word.RxWord.{RxWord}
+use Rattle.lk_base.specs.Positions.{words_from}
 use Rattle.receive_model.specs.Lists.{last_of}
 use Rattle.receive_model.specs.Positions.{Placed, placed_from}
 use Rattle.receive_model.specs.Stretches.{Item, OfStretch, Break, Verified, stretches, verified, items_of}
@@ -14,7 +15,6 @@ use Rattle.receive_model.specs.Spans.{last_span}
 use Rattle.receive_model.specs.Pieces.{Packet, pieces}
 use Rattle.receive_model.specs.Events.{Event, Setting, Delivered, Dropped, FaultSpan, Flow, is_listed, delivered, run_at_end, drop_why, at_fault, outputs_from, outputs_at, no_word_span, events_of_items, word_events, words_epoch}
 use Rattle.reassembly.specs.SoFar.{ended_epochs, open_words, items_so_far, outputs_so_far, aligned_word}
-use Rattle.reassembly.specs.SoFarLaws.{words_put}
 use Rattle.delivery_laws.specs.LawOnWords.{EachIsPacket, NumbersFit}
 use Rattle.duplex_model.specs.DuplexRun.{Settings, Ends, alone}
 use Rattle.duplex_model.specs.Came.{came, sent_in_time}
@@ -25,7 +25,7 @@ use Rattle.duplex.specs.declared.duplex.Duplex.{Duplex}
 use Rattle.duplex.proofs.Opens.{is_run}
 use Rattle.receive_model.proofs.AllEvents.{faulty-none, no_word_span-none}
 use Rattle.receive_model.proofs.EventPackets.{delivered-append, open_drop-none}
-use Rattle.reassembly.proofs.SoFarHold.{outputs-append}
+use Rattle.reassembly.proofs.SoFarHold.{outputs-append, placed}
 
 -- ---- what is delivered
 
@@ -61,10 +61,10 @@ all_open : (front ps : List Placed) → open_words front (map aligned_word ps) �
 all_open front [] = sym (append-nil front)
 all_open front (p ∷ ps) = all_open (front ++ p ∷ []) ps ∙ append_assoc front (p ∷ []) ps
 
-so_far : (words : List RxWord) → items_so_far (words_put words) ≡ map OfStretch (stretches (placed_from 0 words))
-so_far words = ap₂ (λ epochs ps. items_of epochs ++ map OfStretch (stretches ps)) (none_ended [] (placed_from 0 words)) (all_open [] (placed_from 0 words))
+so_far : (words : List RxWord) → items_so_far (words_from 0 0 words) ≡ map OfStretch (stretches (placed_from 0 words))
+so_far words = ap items_so_far (placed 0 words) ∙ ap₂ (λ epochs ps. items_of epochs ++ map OfStretch (stretches ps)) (none_ended [] (placed_from 0 words)) (all_open [] (placed_from 0 words))
 
-pub outputs_came : (s : Setting) (channel : ℕ) (words : List RxWord) → delivered channel (outputs_so_far s (words_put words) false) ≡ delivered channel (word_events s words)
+pub outputs_came : (s : Setting) (channel : ℕ) (words : List RxWord) → delivered channel (outputs_so_far s (words_from 0 0 words) false) ≡ delivered channel (word_events s words)
 outputs_came s channel words =
     let epoch = words_epoch words in
     let items : List Item = map OfStretch (stretches (placed_from 0 words)) in
@@ -84,7 +84,7 @@ of_channel channel (Flow at word ∷ rest) = of_channel channel rest
 pub all_came : (settings : Settings) (s : Setting) (sent : List Word) (channel slots : ℕ) (got : List (ℕ × Packet)) → GaveAll s (take (slots - settings.delay) sent) got → on_channel channel got ≡ came settings s sent channel slots
 all_came settings s sent channel slots got all =
     let words : List RxWord = map as_sent (take (slots - settings.delay) sent) in
-    ap (on_channel channel) all ∙ of_channel channel (outputs_so_far s (words_put words) false) ∙ outputs_came s channel words
+    ap (on_channel channel) all ∙ of_channel channel (outputs_so_far s (words_from 0 0 words) false) ∙ outputs_came s channel words
 
 pub given_is_sent : (duplex : Duplex) (settings : Settings) (ends : Ends) (setting : Setting) (slots : ℕ) (a b : List Word) (got_a got_b : List (ℕ × Packet)) (channel : ℕ) → is_listed setting channel ≡ true
     → NumbersFit setting.wide (alone ends ends.packets_of_a) → EachIsPacket setting.max_packet (alone ends ends.packets_of_a) → EachIsPacket setting.max_packet (alone ends ends.packets_of_b) → Runs duplex settings ends slots a b → HasGotAll setting settings slots a b got_a got_b

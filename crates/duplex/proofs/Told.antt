@@ -7,7 +7,7 @@ use Rattle.std.proofs.lemmas.List.Elements.{All-push, All-cons}
 use Rattle.lk_base.specs.declared.word.Word.{Word}
 use Rattle.stream_model.specs.declared.rows.LocalRow.{LocalRow}
 use Rattle.calendar.specs.Outgoing.{last_local}
-use Rattle.burst_scheduler.specs.Asked.{Asked, local_added}
+use Rattle.burst_scheduler.specs.Asked.{Asked, having_local, local_added}
 use Rattle.burst_scheduler.specs.Gives.{HasWords}
 use Rattle.burst_scheduler.specs.declared.scheduler.Scheduler.{Scheduler}
 use Rattle.duplex_model.specs.DuplexRun.{Settings, is_data_on, arrival, queue_before, local_row, local_rows}
@@ -15,15 +15,6 @@ use Rattle.duplex.specs.Queues.{empty_queue, queue_at, locals_added, Tells}
 use Rattle.duplex.specs.Sides.{AreListed}
 use Rattle.duplex.specs.declared.queue.Queue.{Queue}
 use Rattle.duplex.proofs.OwnRows.{last_push, AreHere, same_words}
-
-abbrev with_locals : Asked → List LocalRow → Asked
-with_locals a rows = record {
-  source = record { shape = a.source.shape; channels = a.source.channels; entries = a.source.entries; packets = a.source.packets; flow = a.source.flow; local = rows };
-  words = a.words;
-  opened = a.opened;
-  waits = a.waits;
-  closed = a.closed;
-}
 
 -- ---- the queue of a channel changes
 
@@ -54,7 +45,7 @@ module _ (s : Scheduler) (a : Asked) (mark : ℕ) (queues : List Queue) (channel
       record {
         rows = t.rows ++ row ∷ [];
         here = All-push (λ (r : LocalRow). r.slot ≡ length a.words) t.rows row t.here refl;
-        words = subst (λ (rs : List LocalRow). HasWords new (with_locals a rs)) more (adds (locals_added a t.rows) t.words);
+        words = subst (λ (rs : List LocalRow). HasWords new (having_local a rs)) more (adds (locals_added a t.rows) t.words);
         last = λ c h. ap (λ (rs : List LocalRow). last_local rs c) (sym more) ∙ last_push (a.source.local ++ t.rows) row c ∙ elim (cases_eq c channel) [
           | inl e ↦ (rw (eq-eqb channel c (sym e)) (is ∙ ap (λ (q : Queue). nat_lt q.words mark) (sym here) ∙ ap (λ k. nat_lt (queue_at (set queues channel queue) k).words mark) (sym e)))
           | inr ne ↦ (rw (ne_eqb channel c (λ e. ne (sym e))) (t.last c h ∙ ap (λ (q : Queue). nat_lt q.words mark) (sym (other c ne))))
@@ -138,7 +129,7 @@ pub told_before : (s : Scheduler) (a : Asked) (mark : ℕ) (queues : List Queue)
 told_before s a mark queues words last = record {
   rows = [];
   here = λ k d h. absurd (omega (arith, h));
-  words = subst (λ (rs : List LocalRow). HasWords s (with_locals a rs)) (sym (append-nil a.source.local)) words;
+  words = subst (λ (rs : List LocalRow). HasWords s (having_local a rs)) (sym (append-nil a.source.local)) words;
   last = λ c h. ap (λ (rs : List LocalRow). last_local rs c) (append-nil a.source.local) ∙ last c h;
 }
 

@@ -4,7 +4,7 @@ use Rattle.std.specs.List.{AllPairs}
 use Rattle.lk_base.specs.declared.word.Word.{Word}
 use Rattle.stream_model.specs.declared.rows.LocalRow.{LocalRow}
 use Rattle.calendar.specs.Outgoing.{last_local}
-use Rattle.burst_scheduler.specs.Asked.{Asked}
+use Rattle.burst_scheduler.specs.Asked.{Asked, having_local}
 use Rattle.burst_scheduler.specs.Gives.{HasWords}
 use Rattle.burst_scheduler.specs.declared.scheduler.Scheduler.{Scheduler}
 use Rattle.duplex_model.specs.DuplexRun.{Settings, queue_before, peak}
@@ -55,13 +55,7 @@ pub record AreQueues (queues : Queues) : Type 0 where
 
 -- what was asked, with these local rows as well
 abbrev pub locals_added : Asked → List LocalRow → Asked
-locals_added a rows = record {
-  source = record { shape = a.source.shape; channels = a.source.channels; entries = a.source.entries; packets = a.source.packets; flow = a.source.flow; local = a.source.local ++ rows };
-  words = a.words;
-  opened = a.opened;
-  waits = a.waits;
-  closed = a.closed;
-}
+locals_added a rows = having_local a (a.source.local ++ rows)
 
 -- With some rows of the present slot as well, the last row of each channel says what its queue says: on exactly where it is
 -- below the mark. Of a channel that has no row nothing else was told.

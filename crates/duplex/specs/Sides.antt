@@ -21,7 +21,7 @@ pub record Asks (scheduler : Scheduler) (source : Source) (own : List Word) : Ty
   pub words : asked.words ≡ own
   pub still : asked.closed ≡ false
 
--- the rows by which a word that arrives in a slot is heard, behind these words that arrived
+-- the rows by which a word that arrives in a slot is heard, after these words that arrived
 abbrev pub heard_rows : ℕ → List Word → Word → List FlowRow
 heard_rows slot arrived (Data x) = []
 heard_rows slot arrived (Control x) = if nat_lt 0 (controls_in arrived) then record { slot = slot; word = heard_word x } ∷ [] else []
@@ -38,7 +38,7 @@ pub record Hears (s : Side) (source : Source) (own arrived : List Word) : Type 0
   -- whether a control word arrived
   pub heard : s.heard ≡ nat_lt 0 (controls_in arrived)
 
--- behind these words that arrived a word joins the queue of the channel that is named
+-- after these words that arrived a word joins the queue of the channel that is named
 abbrev pub joins : Option ℕ → List Word → Word → Type 0
 joins joined arrived word = (channel : ℕ) → names joined channel ≡ (is_data word && is_burst_on channel (last_control arrived (length arrived)))
 
@@ -55,7 +55,7 @@ pub record HasQueues (s : Side) (settings : Settings) (sent : List Word) (slots 
 abbrev pub AreListed : List ℕ → List Word → Type 0
 AreListed channels sent = (channel slot : ℕ) → is_data_on channel sent slot ≡ true → Contains channels channel
 
--- the end did so many slots, in which it sent its own words, while the other sent these
+-- the end did this many slots, in which it sent its own words, while the other sent these
 pub record IsSideAt (s : Side) (settings : Settings) (ends : Ends) (packets : List (ℕ × List ℕ)) (own sent : List Word) (slots : ℕ) : Type 0 where
   pub hears : Hears s (source_of settings ends packets sent slots) own (take (slots - settings.delay) sent)
   pub queues : HasQueues s settings sent slots

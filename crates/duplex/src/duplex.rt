@@ -40,7 +40,7 @@ pub struct Got {
 }
 
 /// A run of two ends, slot by slot. `Waits duplex settings ends` says that it is before the first slot, with these packets;
-/// `Runs duplex settings ends slots a b`, that so many slots were done, in which the ends sent the words a and b; and
+/// `Runs duplex settings ends slots a b`, that this many slots were done, in which the ends sent the words a and b; and
 /// `HasGot duplex setting settings slots a b got_a got_b`, that these packets of these words were given so far, by channel.
 #[derive(Drop)]
 pub struct Duplex<'a> {
@@ -168,7 +168,7 @@ impl<'a> Duplex<'a> {
         None
     }
 
-    /// Copies the bytes of the packet that `next` gave from the offset on, as many as `buf` has room for, and tells how many.
+    /// Copies the bytes of the packet that `next` gave from the offset on, as many as `buf` has room for, and returns how many.
     pub fn packet_read(&self, offset: u32, buf: &mut [u8]) -> usize
         requires { Lends self.now }
         ensures count { result ≡ min (length buf.old) (length (lent_bytes self.now) - offset) }

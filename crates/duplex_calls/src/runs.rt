@@ -58,7 +58,7 @@ fn take(duplex: &mut Duplex, at_a: &mut Came, at_b: &mut Came)
     }
 }
 
-// Does so many slots, and counts what came.
+// Does this many slots, and counts what came.
 fn run(duplex: &mut Duplex, slots: u32) -> (Came, Came)
     requires ready { (total : ℕ) × IsReady total duplex.old }
     requires few { slots < 2 ^ 24 }

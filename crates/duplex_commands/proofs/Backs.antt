@@ -1,9 +1,9 @@
 -- The rows with captures of end b, one after the other.
-use Rattle.std.proofs.Common.{◌≡◌, ℕ, zero, suc, ◌+◌, ◌<◌, ◌≤◌, ◌==◌, true, cond, List, [], ◌∷◌, length, map, drop, get_or, refl, sym, ap, ◌∙◌, subst, arith, Contains, Some, None, Global, add-one}
+use Rattle.std.proofs.Common.{◌≡◌, ℕ, zero, suc, ◌+◌, ◌<◌, ◌≤◌, cond, List, [], ◌∷◌, length, map, drop, get_or, refl, sym, ap, ◌∙◌, subst, arith, Contains, Some, None, Global, add-one}
 use Rattle.std.specs.declared.string.String.{String}
 use Rattle.std.proofs.lemmas.List.{drop_all}
 use Rattle.std.proofs.Math.Seq.{drop-cons}
-use Rattle.std.proofs.lemmas.Bool.{eqb-true}
+use Rattle.link_plan.proofs.OrderSorted.{listed-contains}
 use Rattle.receive_model.proofs.Cuts.{split}
 use Rattle.link_plan.specs.Plan.{Listed}
 use Rattle.link_plan.specs.Listing.{is_listed, numbers_of}
@@ -31,17 +31,11 @@ no_row numbers back i h = ap (λ (rows : List BackRow). first_unlisted numbers (
 
 -- ---- all channels of end b are listed
 
-listed_among : (numbers : List ℕ) (n : ℕ) → is_listed numbers n ≡ true → Contains numbers n
-listed_among [] n h = cc
-listed_among (m ∷ numbers) n h = split (m == n)
-    (λ e. (0, omega arith, eqb-true m n e))
-    (λ e. let rest = listed_among numbers n (rw e at h) in (suc rest.0, (let lt = rest.1 in omega (arith, lt)), rest.2))
-
 all_listed : (numbers : List ℕ) (back : List BackValue) → first_unlisted numbers back ≡ None → (n : ℕ) → Contains (map (λ (b : BackValue). b.channel) back) n → Contains numbers n
 unfolding first_unlisted
 all_listed numbers [] e n (k, lt, is) = absurd (omega arith)
 all_listed numbers (b ∷ back) e n (zero, lt, is) = split (is_listed numbers b.channel)
-    (λ h. subst (Contains numbers) is (listed_among numbers b.channel h))
+    (λ h. subst (Contains numbers) is (listed-contains numbers b.channel h))
     (λ h. let none : Some b.row ≡ None = rw h at e in cc)
 all_listed numbers (b ∷ back) e n (suc k, lt, is) = split (is_listed numbers b.channel)
     (λ h. all_listed numbers back (rw h at e) n (k, omega arith, is))

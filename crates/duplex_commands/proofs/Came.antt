@@ -8,12 +8,12 @@ use Rattle.lk_base.specs.declared.word.Word.{Word}
 use Rattle.lk_base.specs.declared.word.RxWord.{RxWord}
 use Rattle.lk_base.specs.declared.word.Aligned.{Aligned}
 use Rattle.lk_base.specs.declared.word.Aligned.TheVariants as aligned
+use Rattle.lk_base.specs.Positions.{words_from}
 use Rattle.receive_model.specs.Positions.{numbered}
 use Rattle.receive_model.specs.Pieces.{Packet}
 use Rattle.receive_model.specs.Events.{Event, Setting, Delivered, Dropped, FaultSpan, Flow, delivered, word_events}
 use Rattle.reassembly.specs.OutputLaws.{HasSize, IsOfSize}
 use Rattle.reassembly.specs.SoFar.{outputs_so_far}
-use Rattle.reassembly.specs.SoFarLaws.{words_put}
 use Rattle.reassembly.specs.States.{NothingWaits, event_of, waiting_events}
 use Rattle.reassembly.specs.declared.out.Out.{Out}
 use Rattle.reassembly.proofs.SoFarHold.{outputs_stay, words_come_in_order}
@@ -54,7 +54,7 @@ are_first i settings setting sent slots got g channel =
 -- nothing waits, so all were given
 pub all_given : (i : Inbox) (setting : Setting) (arrived : List Word) (got : List (ℕ × Packet)) → NothingWaits i.reassembly → Gave i setting arrived got → GaveAll setting arrived got
 all_given i setting arrived got none g =
-    let all : g.given ≡ outputs_so_far setting (words_put (map as_sent arrived)) false =
+    let all : g.given ≡ outputs_so_far setting (words_from 0 0 (map as_sent arrived)) false =
     sym (append-nil g.given) ∙ ap (λ (outs : List Out). g.given ++ map (event_of i.reassembly.packet) outs) (sym none.0) ∙ g.stands.outputs in
     sym g.got_is ∙ ap packets_in all
 
@@ -83,7 +83,7 @@ pub packet_fits : (i : Inbox) (setting : Setting) (arrived : List Word) (got : L
 packet_fits i setting arrived got p fits g =
     let most : ℕ = setting.max_packet in
     let given : AllByRecursion (IsOfSize most) g.given = front_sized most g.given (waiting_events i.reassembly)
-    (subst (λ (es : List Event). AllByRecursion (IsOfSize most) es) (sym g.stands.outputs) (packets_fit setting (words_put (map as_sent arrived)) false)) in
+    (subst (λ (es : List Event). AllByRecursion (IsOfSize most) es) (sym g.stands.outputs) (packets_fit setting (words_from 0 0 (map as_sent arrived)) false)) in
     let sized : HasSize most p.1.bytes = last_sized most got p (subst (λ (ps : List (ℕ × Packet)). Sized most ps) g.got_is (packets_sized most g.given given)) in
     record { some = sized.some; fits = at_most (length p.1.bytes) most longest_packet sized.fits fits }
   where
@@ -92,23 +92,23 @@ packet_fits i setting arrived got p fits g =
 
 -- ---- more slots
 
-words_grow : (words more : List RxWord) → (rest : List Aligned) × (words_put (words ++ more) ≡ words_put words ++ rest)
-words_grow words [] = ([], ap words_put (append-nil words) ∙ sym (append-nil (words_put words)))
+words_grow : (words more : List RxWord) → (rest : List Aligned) × (words_from 0 0 (words ++ more) ≡ words_from 0 0 words ++ rest)
+words_grow words [] = ([], ap (words_from 0 0) (append-nil words) ∙ sym (append-nil (words_from 0 0 words)))
 words_grow words (word ∷ more) =
     let next = words_grow (words ++ word ∷ []) more in
     let item : Aligned = aligned.Word (numbered (length words)) word in (
       item ∷ next.0,
-      ap words_put (sym (append_assoc words (word ∷ []) more)) ∙ next.1 ∙ ap (λ (ps : List Aligned). ps ++ next.0) ((words_come_in_order words).next word)
-          ∙ append_assoc (words_put words) (item ∷ []) next.0,
+      ap (words_from 0 0) (sym (append_assoc words (word ∷ []) more)) ∙ next.1 ∙ ap (λ (ps : List Aligned). ps ++ next.0) ((words_come_in_order words).next word)
+          ∙ append_assoc (words_from 0 0 words) (item ∷ []) next.0,
     )
 
 words_deliver : (setting : Setting) (channel : ℕ) (words more : List RxWord) → (rest : List Packet) × (delivered channel (word_events setting (words ++ more)) ≡ delivered channel (word_events setting words) ++ rest)
 words_deliver setting channel words more =
     let grown = words_grow words more in
-    let later = (outputs_stay setting (words_put words) grown.0).0 in (
+    let later = (outputs_stay setting (words_from 0 0 words) grown.0).0 in (
       delivered channel later.0,
       sym (outputs_came setting channel (words ++ more)) ∙ ap (λ put. delivered channel (outputs_so_far setting put false)) grown.1 ∙ ap (delivered channel) later.1
-          ∙ delivered-append channel (outputs_so_far setting (words_put words) false) later.0 ∙ ap (λ (ps : List Packet). ps ++ delivered channel later.0) (outputs_came setting channel words),
+          ∙ delivered-append channel (outputs_so_far setting (words_from 0 0 words) false) later.0 ∙ ap (λ (ps : List Packet). ps ++ delivered channel later.0) (outputs_came setting channel words),
     )
 
 -- what came in the first slots of a run is the first of what came in more

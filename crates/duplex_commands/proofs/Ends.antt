@@ -27,7 +27,8 @@ use Rattle.run_shell.specs.Ends.{held_status}
 use Rattle.run_shell.specs.Outputs.{outs, open_names}
 use Rattle.run_shell.specs.Writing.{Writes, Begin}
 use Rattle.run_shell.proofs.Writing.{stop_writes, done_writes}
-use Rattle.receipts.specs.Received.{bytes_of, capture_name, packets_on}
+use Rattle.receipts.specs.Received.{bytes_of, packets_on}
+use Rattle.pcap_files.specs.Names.{capture_name}
 use Rattle.receipts.specs.Receipts.{capture_of, counts_of}
 use Rattle.receipts.specs.declared.receipt.ChannelReceipt.{ChannelReceipt}
 use Rattle.receipts.proofs.Putting.{open_part}

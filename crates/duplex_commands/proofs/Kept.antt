@@ -16,7 +16,8 @@ use Rattle.run_shell.specs.Open.{Open}
 use Rattle.run_stops.specs.Stops.{StoreStops}
 use Rattle.run_shell.specs.Outputs.{Differ, Grown, IsOpen, Prefixes, more, open_names, outs}
 use Rattle.receipts.specs.declared.receipt.ChannelReceipt.{ChannelReceipt}
-use Rattle.receipts.specs.Received.{capture_name, packets_on}
+use Rattle.receipts.specs.Received.{packets_on}
+use Rattle.pcap_files.specs.Names.{capture_name}
 use Rattle.receipts.specs.Receipts.{capture_of, counts_of}
 use Rattle.receipts.specs.Counts.{numbers_of, with_packet}
 use Rattle.receipts.specs.Firsts.{first_in, IsUnfilled}
@@ -24,9 +25,9 @@ use Rattle.receipts.proofs.Captures.{all_same, more_at, more_behind, next_captur
 use Rattle.receipts.proofs.Firsts.{none_made}
 use Rattle.receipts.proofs.NamesDiffer.{capture_names_differ, differ_behind}
 use Rattle.receipts.proofs.Receiving.{apart_all, numbers_counted}
-use Rattle.receipts.proofs.Putting.{open_part, whole_begins}
+use Rattle.receipts.proofs.Putting.{open_part}
 use Rattle.receipts.proofs.Making.{captures_begin}
-use Rattle.run_shell.proofs.Fills.{part_more}
+use Rattle.run_shell.proofs.Fills.{part_more, same_prefixes}
 use Rattle.run_stops.proofs.Moves.{told_by}
 use Rattle.duplex_commands.proofs.Begins.{map_begins, all_begin}
 use Rattle.duplex.specs.declared.duplex.End.{End}
@@ -297,7 +298,7 @@ part_of b got_a got_b later_a later_b c now is more = record {
 
 pub no_memory_at : (b : Beginning) (got_a got_b : List (ℕ × Packet)) (c : Captures) (now : Option Files) → AreKept b got_a got_b c now → (end : End) (channel : ℕ) (p : Packet) → IsBroken b (more_at_a end channel p got_a) (more_at_b end channel p got_b) stop.OutOfMemory now
 no_memory_at b got_a got_b c now is A channel p = part_of b got_a got_b (got_a ++ (channel, p) ∷ []) got_b c now is
-    (map_begins (capture_of b.link_type (outputs_of got_a)) (capture_of b.link_type (outputs_of (got_a ++ (channel, p) ∷ []))) (begins b got_a channel p) b.setting.channels (end_given b got_b) (end_given b got_b) (whole_begins (end_given b got_b)))
+    (map_begins (capture_of b.link_type (outputs_of got_a)) (capture_of b.link_type (outputs_of (got_a ++ (channel, p) ∷ []))) (begins b got_a channel p) b.setting.channels (end_given b got_b) (end_given b got_b) (same_prefixes (end_given b got_b)))
 no_memory_at b got_a got_b c now is B channel p = part_of b got_a got_b got_a (got_b ++ (channel, p) ∷ []) c now is
     (map_begins (capture_of b.link_type (outputs_of got_a)) (capture_of b.link_type (outputs_of got_a)) (stays b got_a) b.setting.channels (end_given b got_b) (end_given b (got_b ++ (channel, p) ∷ []))
     (all_begin (capture_of b.link_type (outputs_of got_b)) (capture_of b.link_type (outputs_of (got_b ++ (channel, p) ∷ []))) (begins b got_b channel p) b.setting.channels))

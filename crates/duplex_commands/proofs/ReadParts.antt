@@ -27,7 +27,7 @@ use Rattle.duplex_commands.specs.declared.reading.DuplexInputs.{DuplexInputs}
 abbrev Came : (List ℕ → Type 0) → Result DuplexInputs Stop → Result DuplexReading Refusal → Type 0
 Came named r answer = Reads duplex_reading named r answer
 
--- ---- behind the plan
+-- ---- after the plan
 
 module _ (settings : DuplexValue) (plan : PlanValue) where
   abbrev most : ℕ
@@ -137,7 +137,7 @@ module _ (name : List ℕ) where
     named_behind : (plan : PlanValue) (u : Files) (q : List ℕ) → shared_plan_in u settings.plan ≡ Ok plan → IsReadBehind settings plan q → IsReadBy settings u q
     named_behind plan u q e n = inr (subst (λ r. MatchResult r (λ p. IsReadBehind settings p q) (λ f. ⊥)) (sym e) n)
 
-    -- the plan was had, and what stands behind it came to this
+    -- the plan was had, and what stands after it came to this
     pub behind_plan : (z : Option Files) → z ≡ y → (plan : PlanValue) (file : List ℕ) → file ≡ settings.plan → IfSome y (λ files. shared_plan_in files file ≡ Ok plan) → (r : Result DuplexInputs Stop)
         → IfSome z (λ files. Came (IsReadBehind settings plan) r (with_plan files settings plan)) → Whole r x
     behind_plan z again plan file is planned r h =
@@ -145,7 +145,7 @@ module _ (name : List ℕ) where
         (second_reads PlanValue DuplexReading Plan DuplexInputs (λ files. shared_plan_in files settings.plan) (λ files. with_plan files settings) duplex_reading (λ files q. IsReadBehind settings plan q) (IsReadBy settings) plan r y z again
         (λ u q e n. named_behind plan u q e n) (subst (λ (f : List ℕ). IfSome y (λ files. shared_plan_in files f ≡ Ok plan)) is planned) h)
 
--- ---- as the calls tell it
+-- ---- as the calls report it
 
 -- of the plan's own channels and longest packet
 pub of_plan_a : (plan : Plan) (rows : List ChannelRow) (most : ℕ) (r : Result ReadCaptures Stop) (x : Option Files) → rows ≡ plan.channels.items → most ≡ (plan_value plan).settings.max_packet
@@ -161,7 +161,7 @@ pub of_most : (plan : Plan) (longest room : ℕ) (back : List Listed) (r : Resul
     → IfSome x (λ files. Reads (λ (v : ReadCaptures). packet_values v.packets.items) (IsCapture back) r (packets_in files (plan_value plan).settings.max_packet room back))
 of_most plan longest room back r x is h = subst (λ m. IfSome x (λ files. Reads (λ (v : ReadCaptures). packet_values v.packets.items) (IsCapture back) r (packets_in files m room back))) is h
 
--- what is left behind the captures of end a
+-- what is left after the captures of end a
 pub of_room : (plan : Plan) (rows : List ChannelRow) (room limit : ℕ) (x : Option Files) → rows ≡ plan.channels.items → limit ≡ capture_limit
     → IfSome x (λ files. room ≡ limit - capture_sizes files (map listed_of rows)) → IfSome x (λ files. room ≡ room_behind files (plan_value plan).channels)
 of_room plan rows room limit x are is h =

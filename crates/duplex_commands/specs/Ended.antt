@@ -6,7 +6,8 @@ use Rattle.pcap_files.specs.Written.{capture_bytes}
 use Rattle.link_reports.specs.Lines.{end_line, slots_line}
 use Rattle.duplex_model.specs.DuplexRun.{Settings, Ends, IsDuplexRun, peak}
 use Rattle.duplex_model.specs.Came.{came}
-use Rattle.receipts.specs.Received.{capture_name, bytes_of}
+use Rattle.receipts.specs.Received.{bytes_of}
+use Rattle.pcap_files.specs.Names.{capture_name}
 use Rattle.receipts.specs.declared.receipt.ChannelReceipt.{ChannelReceipt}
 use Rattle.run_shell.specs.declared.status.Status.TheVariants.{Done}
 use Rattle.run_shell.specs.Outcome.{Output, Outcome}
@@ -22,7 +23,7 @@ abbrev pub files_under : Beginning → Settings → List ℕ → List Word → L
 files_under b settings prefix sent =
     map (λ channel. record { name = capture_name prefix channel; content = capture_bytes b.link_type (packets_on b settings sent channel) }) b.setting.channels
 
--- what is told of the channels by number, of the end of this letter
+-- what is reported of the channels by number, of the end of this letter
 abbrev pub text_under : Beginning → Settings → ℕ → List Word → List ℕ
 text_under b settings letter sent =
     flat_map (λ channel. end_line letter channel (length (packets_on b settings sent channel)) (sum_by length (packets_on b settings sent channel)) (peak settings sent channel settings.slots)) b.setting.channels

@@ -1,7 +1,7 @@
 -- The names of the outputs.
 use Rattle.std.specs.Prelude.{ℕ, List, ◌++◌, map}
 use lib.Chars.{codes}
-use Rattle.receipts.specs.Received.{capture_name}
+use Rattle.pcap_files.specs.Names.{capture_name}
 
 -- what the names of the outputs of an end begin with
 abbrev pub prefix_of_a : List ℕ → List ℕ

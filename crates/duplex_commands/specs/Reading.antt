@@ -49,7 +49,7 @@ back_channels plan back = unless_unlisted back (first_unlisted (numbers_in plan)
 
 -- ---- the captures
 
--- how many bytes all captures together may have behind those of these channels
+-- how many bytes all captures together may have after those of these channels
 abbrev pub room_behind : Files → List Listed → ℕ
 room_behind files channels = capture_limit - capture_sizes files channels
 
@@ -75,7 +75,7 @@ with_plan files settings plan = behind (back_channels plan settings.back) (with_
 abbrev pub with_settings : Files → DuplexValue → Result DuplexReading Refusal
 with_settings files settings = behind (shared_plan_in files settings.plan) (with_plan files settings)
 
--- the settings in the file of this name, behind them the plan, and behind it the captures; or the first that is refused
+-- the settings in the file of this name, after them the plan, and after it the captures; or the first that is refused
 unfoldable pub duplex_in : Files → List ℕ → Result DuplexReading Refusal
 duplex_in files name = behind (settings_in files name) (with_settings files)
 

@@ -12,7 +12,8 @@ use Rattle.duplex_model.specs.DuplexRun.{Settings, AreSettings, Ends, alone, IsD
 use Rattle.duplex_model.specs.Came.{came}
 use Rattle.plan_inputs.specs.Inputs.{Inputs}
 use Rattle.plan_inputs.specs.Sources.{IsSourceOf}
-use Rattle.receipts.specs.Received.{capture_name, bytes_of}
+use Rattle.receipts.specs.Received.{bytes_of}
+use Rattle.pcap_files.specs.Names.{capture_name}
 use Rattle.receipts.specs.Settings.{IsSettingOf}
 use Rattle.run_shell.specs.declared.status.Status.TheVariants.{Done}
 use Rattle.run_shell.specs.Outcome.{Output, Outcome}

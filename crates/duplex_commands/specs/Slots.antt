@@ -17,7 +17,7 @@ use Rattle.run_shell.specs.Outputs.{outs}
 use Rattle.duplex_commands.specs.declared.captures.Captures.{Captures}
 use Rattle.duplex_commands.specs.Captures.{Beginning, AreKept, names_of, given_of}
 
--- so many slots of the run were done, and these captures have the packets that were given
+-- this many slots of the run were done, and these captures have the packets that were given
 pub record IsAt (b : Beginning) (settings : Settings) (ends : Ends) (slots : ℕ) (d : Duplex) (c : Captures) (now : Option Files) : Type 0 where
   pub from_a : List Word
   pub from_b : List Word
@@ -28,11 +28,11 @@ pub record IsAt (b : Beginning) (settings : Settings) (ends : Ends) (slots : ℕ
   pub kept : AreKept b got_a got_b c now
   pub fits : b.setting.max_packet ≤ longest_packet
 
--- on each channel these are the first of the packets that came in so many slots
+-- on each channel these are the first of the packets that came in this many slots
 abbrev pub AreFirst : Settings → Setting → List Word → ℕ → List (ℕ × Packet) → Type 0
 AreFirst settings setting sent slots got = (channel : ℕ) → (rest : List Packet) × (came settings setting sent channel slots ≡ on_channel channel got ++ rest)
 
--- the run was stopped within so many slots: of the captures of the first packets that came a part stands
+-- the run was stopped within this many slots: of the captures of the first packets that came a part stands
 pub record IsCut (b : Beginning) (settings : Settings) (ends : Ends) (most : ℕ) (s : Stop) (now : Option Files) : Type 0 where
   pub keeps : AreSettings settings
   pub by_store : IsOfStore (Contains (names_of b)) s
@@ -47,7 +47,7 @@ pub record IsCut (b : Beginning) (settings : Settings) (ends : Ends) (most : ℕ
   pub first_b : AreFirst settings b.setting from_a slots got_b
   pub part : Told b.was now (HoldsPart (outs (names_of b) (given_of b got_a got_b)))
 
--- so many slots of the run were done, or it was stopped within them
+-- this many slots of the run were done, or it was stopped within them
 abbrev pub Takes : {T : Type 0} → Beginning → Settings → Ends → ℕ → Result T Stop → Duplex → Captures → Option Files → Type 0
 Takes b settings ends slots (Ok _) d c now = IsAt b settings ends slots d c now
 Takes b settings ends slots (Err s) d c now = IsCut b settings ends slots s now

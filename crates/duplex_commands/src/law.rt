@@ -12,7 +12,7 @@ pub fn captures_are_sent()
     ensures { CapturesAreSent }
 {}
 
-/// The peaks of a channel that has a calendar entry, which the lines tell, stay within the bound of the plan's link.
+/// The peaks of a channel that has a calendar entry, which the lines report, stay within the bound of the plan's link.
 pub fn peaks_are_bounded()
     ensures { PeaksAreBounded }
 {}

@@ -15,7 +15,7 @@ use lk_base::OutOfMemory;
 use plan_inputs::CapturePackets;
 use std::alloc::Global;
 
-// Lends the packets of a capture, which an end sends behind those that it has.
+// Lends the packets of a capture, which an end sends after those that it has.
 fn lend<'a>(
     duplex: &mut Duplex<'a>,
     end: End,

@@ -34,7 +34,7 @@ pub struct DuplexInputs {
     pub packets_of_b: Vec<CapturePackets>,
 }
 
-// What stands behind the plan: where each channel of end b is listed, the captures of end a, and then those of end b.
+// What stands after the plan: where each channel of end b is listed, the captures of end a, and then those of end b.
 fn read_behind_plan<S: Store>(
     alloc: Global,
     store: &mut S,
@@ -63,7 +63,7 @@ fn read_behind_plan<S: Store>(
 }
 
 /// What `duplex FILE` reads: FILE, the plan that it names, and then the captures of end a as the plan names them and those of end
-/// b as FILE does; or the first refusal, but for faults of the store and want of memory. The files are as they were.
+/// b as FILE does; or the first refusal, unless the store fails or memory runs out. The files are as they were.
 pub fn read_duplex_inputs<S: Store>(
     alloc: Global,
     store: &mut S,

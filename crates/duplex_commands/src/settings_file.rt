@@ -13,7 +13,7 @@ use run_stops::{Stop, read_plan as read_plan_bytes};
 use std::alloc::Global;
 
 /// The settings in the file of this name. They are refused exactly where the file is absent, has more than 1,048,576 bytes, or
-/// its rows are refused, but for faults of the store and want of memory. The files are as they were.
+/// its rows are refused, unless the store fails or memory runs out. The files are as they were.
 #[tactic(auto, unfolding(crate::specs::Reading::settings_in))]
 pub fn read_settings_file<S: Store>(
     alloc: Global,

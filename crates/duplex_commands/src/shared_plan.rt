@@ -13,7 +13,7 @@ use run_stops::{Stop, read_input};
 use std::alloc::Global;
 
 /// The plan in the file of this name, as an input. It is refused exactly where the file is absent, has more than 1,048,576
-/// bytes, or its rows are refused, but for faults of the store and want of memory. The files are as they were.
+/// bytes, or its rows are refused, unless the store fails or memory runs out. The files are as they were.
 #[tactic(auto, unfolding(crate::specs::Reading::shared_plan_in))]
 pub fn read_shared_plan<S: Store>(alloc: Global, store: &mut S, name: &str) -> Result<Plan, Stop>
     requires { S.faults store.old < 2 ^ 60 }

@@ -69,7 +69,7 @@ fn take_packets<S: Store>(
     Ok(())
 }
 
-/// Does so many slots from the first on, and puts the packets that arrive into the captures, slot by slot. It takes no memory by
+/// Does this many slots from the first on, and puts the packets that arrive into the captures, slot by slot. It takes no memory by
 /// the slot.
 pub fn run_slots<S: Store>(
     alloc: Global,

@@ -1,4 +1,4 @@
-//! What is told of a run.
+//! What is reported of a run.
 ghost use Rattle.std.specs.Prelude.{◌≡◌, ◌++◌, ℕ, List, All, Contains, IfOk, OnOk, Option};
 ghost use Rattle.std.specs.List.{flat_map};
 ghost use Rattle.lk_base.specs.declared.word.Word.{Word};
@@ -45,7 +45,7 @@ fn end_lines(
     Ok(())
 }
 
-/// What is told of a run once all of its slots are done and all that arrived was given: the lines of end a and then of end b,
+/// What is reported of a run once all of its slots are done and all that arrived was given: the lines of end a and then of end b,
 /// and how many slots there were.
 pub fn text_of(
     alloc: Global,

@@ -32,7 +32,7 @@ use Rattle.duplex_model.specs.OpenStream.{IsOpenStream}
 use Rattle.duplex_model.proofs.Fronts.{right_behind}
 use Rattle.duplex_model.proofs.OpenCarried.{closed, no_heads, shows_the_sent}
 
--- data stand behind a burst word alone
+-- data stand after a burst word alone
 behind_burst : (source : Source) (p : List Word) (x d : ℕ) (q : List Word) → IsOpenStream source (p ++ Control x ∷ Data d ∷ q) → burst_field x ≡ 1
 behind_burst source p x d q stream =
     let front : List Word = p ++ Control x ∷ [] in
@@ -57,7 +57,7 @@ module _ (place : ℕ → Pos) (source : Source) (m : ℕ) (each : EachIsPacket 
   not_empty x rest y [] h z later e = cc
   not_empty x rest y (d ∷ ds) h z later e = cc
 
-  -- an end comes behind data alone
+  -- an end comes after data alone
   end_behind : (p : List Word) (x : ℕ) (ds : List ℕ) (y : ℕ) (rest : List Word) → IsOpenStream source (p ++ Control x ∷ (map Data ds ++ Control y ∷ rest)) → (has_end y && not (has_some ds)) ≡ false
   end_behind p x (d ∷ ds) y rest stream = elim (has_end y) as (λ b. (b && false) ≡ false) [ true ↦ refl | false ↦ refl ]
   end_behind p x [] y rest stream = elim (bit_cases x) [
@@ -109,7 +109,7 @@ module _ (place : ℕ → Pos) (source : Source) (m : ℕ) (each : EachIsPacket 
       let rest = rw (length_push p (Control x)) at (all_pass (p ++ Control x ∷ []) q (rw (append_assoc p (Control x ∷ []) q) stream)) in
       rw (heads-control place (length p) x q) (behind_word p x q stream rest)
 
--- the verified words of an open stream that comes as it was sent are those behind all its stretches
+-- the verified words of an open stream that comes as it was sent are those after all its stretches
 all_verified : (source : Source) (m : ℕ) (w : List Word) → EachIsPacket m source → IsOpenStream source w → verified (word_items (map as_sent w)) ≡ map last_word (sent_stretches w)
 all_verified source m w each stream =
     all-verified (words_epoch (map as_sent w) ∷ [])

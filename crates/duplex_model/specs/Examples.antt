@@ -37,7 +37,7 @@ pub record RunExamples : Type 0 where
   pub nothing_behind_the_end : is_data_on 1 one_burst 6 ≡ false
   -- off where two words are queued
   pub told : local_rows short_way (1 ∷ []) one_burst 7 ≡ row_on 0 ∷ row_on 1 ∷ row_on 2 ∷ row_on 3 ∷ row_on 4 ∷ (record (row_on 5) { on = false }) ∷ row_on 6 ∷ []
-  -- the first control word is left out; a word behind data has another checksum than its own, and is heard with its own
+  -- the first control word is left out; a word after data has another checksum than its own, and is heard with its own
   pub heard : flow_rows short_way one_burst 7 ≡ record { slot = 2; word = 0xe1ffff01004eac73 } ∷ record { slot = 6; word = 0x81ffff0000188177 } ∷ []
   pub heard_in_fewer_slots : flow_rows short_way one_burst 6 ≡ record { slot = 2; word = 0xe1ffff01004eac73 } ∷ []
   pub heard_anew : heard_word 0x81ffff0000000000 ≡ 0x81ffff0000188177

@@ -16,7 +16,7 @@ use Rattle.interlaken.specs.Request.{request_of}
 use Rattle.interlaken.specs.Run.{OutcomeOf}
 use Rattle.interlaken.specs.Answered.{IsAnswered}
 
--- the outcome that was answered, whose files stand: those of the case, and behind them those of its link; and the stream that was sent
+-- the outcome that was answered, whose files stand: those of the case, and after them those of its link; and the stream that was sent
 pub record IsCaseRun (words : List (List ℕ)) (files : Files) (a : Asked) (its_status : Status) (old new : Option Files) : Type 0 where
   pub outcome : Outcome
   pub is_outcome : OutcomeOf words files outcome
@@ -52,13 +52,13 @@ abbrev pub CasesSendAll : List (List ℕ) → Files → Status → Option Files 
 CasesSendAll = OfCases (λ a stream o h. SendsAll (reading_for a) stream o h)
 
 -- Where no accident was counted and no declared lock was lost, each fault span that has both ends holds a damaged word strictly
--- between them. And where two control words or more behind the last of those were received as they were sent, the span does not end
--- behind the second of them.
+-- between them. And where two control words or more after the last of those were received as they were sent, the span does not end
+-- after the second of them.
 abbrev pub CaseSpansAreNarrow : List (List ℕ) → Files → Status → Option Files → Option Files → Type 0
 CaseSpansAreNarrow = OfCases (λ a stream o h. h.counts ≡ no_accidents → LosesNoLock h.reports → NarrowSpans (reading_for a) stream o h)
 
--- The text tells the sent packets that did not come, in the order of their SOP words, and no other; where no accident was counted,
--- these are the sent packets that meet a fault span, each told with the first.
+-- The text lists the sent packets that did not come, in the order of their SOP words, and no other; where no accident was counted,
+-- these are the sent packets that meet a fault span, each listed with the first.
 abbrev pub CaseMissingAreTold : List (List ℕ) → Files → Status → Option Files → Option Files → Type 0
 CaseMissingAreTold = OfCases (λ a stream o h. TellsMissing (reading_for a) stream o h)
 

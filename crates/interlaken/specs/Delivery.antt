@@ -57,13 +57,13 @@ abbrev pub HeldLacksAPacket : List (List ℕ) → Files → Status → Option Fi
 HeldLacksAPacket words files status old new = OfLinks (λ i stream o h. status ≡ Held → LacksAPacket i stream o h) words files status old new
 
 -- Over files of bytes, where no accident was counted and no declared lock was lost, each fault span that has both ends holds a
--- damaged word strictly between them. And where two control words or more behind the last of those were received as they were sent,
--- the span does not end behind the second of them.
+-- damaged word strictly between them. And where two control words or more after the last of those were received as they were sent,
+-- the span does not end after the second of them.
 abbrev pub SpansAreNarrow : List (List ℕ) → Files → Status → Option Files → Option Files → Type 0
 SpansAreNarrow words files status old new = AreBytes files → OfLinks (λ i stream o h. h.counts ≡ no_accidents → LosesNoLock h.reports → NarrowSpans i stream o h) words files status old new
 
--- Over files of bytes, the text tells the sent packets that did not come, in the order of their SOP words, and no other; where no
--- accident was counted, these are the sent packets that meet a fault span, each told with the first.
+-- Over files of bytes, the text lists the sent packets that did not come, in the order of their SOP words, and no other; where no
+-- accident was counted, these are the sent packets that meet a fault span, each listed with the first.
 abbrev pub MissingAreTold : List (List ℕ) → Files → Status → Option Files → Option Files → Type 0
 MissingAreTold words files status old new = AreBytes files → OfLinks TellsMissing words files status old new
 

@@ -1,7 +1,7 @@
 -- The steps of many bits, without those that show nothing.
 use Rattle.std.proofs.Common.{ℕ, zero, suc, ◌≡◌, refl, sym, ap, ◌∙◌, subst, ◌+◌, ◌-◌, ◌*◌, ◌<◌, ◌≤◌, Bool, true, false, cond, List, [], ◌∷◌, ◌++◌, length, replicate, take, drop, append_assoc, get_or, Some, None, arith}
 use Rattle.std.proofs.Math.Seq.{take-add, take-append-add}
-use Rattle.std.proofs.lemmas.List.{length-append, length-replicate, take_all, take_at}
+use Rattle.std.proofs.lemmas.List.{length-append, length-replicate, take_all, take_at, append-nil}
 use Rattle.lk_base.specs.Checksum.{bits_of, bits_of_bytes}
 use Rattle.lane_model.proofs.FilesHold.{length-flat_map_bits}
 use Rattle.lane_model.proofs.Numbers.{length-bits_of}
@@ -12,7 +12,6 @@ use Rattle.lock_model.specs.Shows.{shown_in, shows}
 use Rattle.lane_lock.specs.declared.completed.Completed.{Completed}
 use Rattle.lane_lock.specs.Bytes.{Brings, BringsBatch, IsSparse, StaysSparse, steps_of_bits}
 use Rattle.lane_lock.specs.Lane.{LaneState}
-use Rattle.lane_lock.proofs.Lanes.{append-none}
 use Rattle.lane_lock.proofs.Resting.{brings_both, brings_none}
 
 -- ---- steps that show something
@@ -40,7 +39,7 @@ low_nothings (suc n) = (tt, low_nothings n)
 -- ---- bits after one another
 
 pub batch_none : (v : LaneState) (before : List LaneStep) → BringsBatch v v [] before before
-batch_none v before = record { column = []; long = refl; low = tt; appended = sym (append-none before); brings = brings_none v }
+batch_none v before = record { column = []; long = refl; low = tt; appended = sym (append-nil before); brings = brings_none v }
 
 pub batch_both : (u v w : LaneState) (first second : List Bool) (before between after : List LaneStep) → BringsBatch u v first before between → BringsBatch v w second between after →
     BringsBatch u w (first ++ second) before after
@@ -93,7 +92,7 @@ batch_rests v w width bits before brings = record {
   column = replicate width steps.Nothing;
   long = length-replicate width steps.Nothing ∙ sym (length-bits_of width bits);
   low = low_nothings width;
-  appended = sym (ap (λ (xs : List LaneStep). before ++ xs) (shown_nothings width) ∙ append-none before);
+  appended = sym (ap (λ (xs : List LaneStep). before ++ xs) (shown_nothings width) ∙ append-nil before);
   brings = brings;
 }
 

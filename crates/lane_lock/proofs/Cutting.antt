@@ -3,10 +3,10 @@ use Rattle.std.proofs.Common.{ℕ, ◌≡◌, refl, sym, ap, ◌∙◌, subst, �
 use Rattle.std.specs.Int.{bit_at}
 use Rattle.std.proofs.Math.Nat.{div-lt_iff_lt-mul}
 use Rattle.std.proofs.lemmas.Nat.{and_mask, mod_low, or_shifted, pow-add, pow_pos, shl_whole, shr-shr}
-use Rattle.lk_base.specs.Checksum.{bits_of}
+use Rattle.lk_base.specs.Checksum.{bits_of, digit}
 use Rattle.lk_base.specs.Link.{Settings}
-use Rattle.lane_model.specs.Bits.{digit}
-use Rattle.coding_67b.proofs.Cut.{bits-cut, bits-mod, first_bit, no_bits}
+use Rattle.coding_67b.proofs.Cut.{first_bit}
+use Rattle.lk_base.proofs.Bits.{bits-cut, bits-mod, no_bits}
 use Rattle.lock_model.specs.declared.types.LaneStep.{LaneStep}
 use Rattle.lock_model.specs.declared.types.LaneStep.TheVariants as steps
 use Rattle.lane_lock.specs.Bytes.{Brings, with_bits}
@@ -16,7 +16,7 @@ use Rattle.lane_lock.proofs.LastWord.{held}
 use Rattle.lane_lock.proofs.Resting.{all_at_once, brings_bit, brings_both, brings_none, brings_same, with_both}
 use Rattle.lane_lock.proofs.Windows.{pushed_bit}
 
--- the bits before the bit at a place, this bit, and the bits behind it
+-- the bits before the bit at a place, this bit, and the bits after it
 cut_at : (width x place behind : ℕ) → place + (behind + 1) ≡ width →
     bits_of place (x / 2 ^ (width - place)) ++ ((bit_at x behind == 1) ∷ bits_of behind (x % 2 ^ behind)) ≡ bits_of width x
 cut_at width x place behind e =
@@ -41,7 +41,7 @@ last_pushed v width all place behind lt e =
     ∙ ap (λ (x : ℕ). with_both v (((v.window * 2 ^ place + x) % 2 ^ 67 * 2 + digit (bit_at all behind == 1)) % 2 ^ 67) (v.taken + (place + 1))) half
     ∙ ap (λ (n : ℕ). with_both v (((v.window * 2 ^ place + all / 2 ^ (width - place)) % 2 ^ 67 * 2 + digit (bit_at all behind == 1)) % 2 ^ 67) n) t
 
--- the bits before, the last bit of the word, and the bits behind
+-- the bits before, the last bit of the word, and the bits after it
 pub cut_brings : (v u w : LaneState) (width all place behind : ℕ) (x : LaneStep) (b : Bool) → v.watching ≡ true → place ≡ v.at + 66 - v.taken → behind ≡ width - 1 - place → place < width →
     all / 2 ^ (width - place) < 2 ^ place → b ≡ (bit_at all behind == 1) →
     ((s : Settings) (bits : List Bool) → Stands (with_bits v place (all / 2 ^ (width - place))) s bits → Stands u s (bits ++ b ∷ []) × IsStep s (bits ++ b ∷ []) x) →

@@ -1,13 +1,12 @@
 -- Bits of the dark, many at once.
 use Rattle.std.proofs.Common.{ℕ, zero, suc, ◌≡◌, refl, sym, ap, ◌∙◌, subst, ◌+◌, ◌-◌, ◌*◌, ◌%◌, ◌^◌, ◌≤◌, ◌==◌, Bool, true, false, List, [], ◌∷◌, ◌++◌, length, replicate, append_assoc, arith}
 use Rattle.std.specs.Bool.{MatchBool}
-use Rattle.std.specs.Prelude.{◌&&◌}
 use Rattle.std.specs.List.{list_all}
-use Rattle.std.proofs.lemmas.Bool.{and_parts, eqb-true}
-use Rattle.std.proofs.lemmas.List.{get_or_at, length-append, length-replicate}
-use Rattle.lk_base.specs.Checksum.{bits_of, bits_of_bytes}
+use Rattle.std.proofs.lemmas.Bool.{and_parts, eqb-true, and_right}
+use Rattle.std.proofs.lemmas.List.{get_or_at, length-append, length-replicate, append-nil}
+use Rattle.lk_base.specs.Checksum.{bits_of, bits_of_bytes, digit}
 use Rattle.lk_base.specs.Link.{Settings}
-use Rattle.lane_model.specs.Bits.{digit, high_number}
+use Rattle.lane_model.specs.Bits.{high_number}
 use Rattle.lane_model.specs.Coding.{is_legal, word_of_code}
 use Rattle.lane_model.specs.Framing.{sync_payload}
 use Rattle.lane_model.proofs.FilesHold.{length-flat_map_bits}
@@ -26,7 +25,6 @@ use Rattle.lane_lock.specs.Standing.{Chain, Holds, Hunts, IsStep, Stands, positi
 use Rattle.lane_lock.proofs.Batches.{low_nothings, shown_nothings}
 use Rattle.lane_lock.proofs.Chains.{chain_attempts, step_is}
 use Rattle.lane_lock.proofs.Hunting.{none_found, positions_more}
-use Rattle.lane_lock.proofs.Lanes.{append-none}
 use Rattle.lane_lock.proofs.LastWord.{hunted}
 use Rattle.lane_lock.proofs.Resting.{one_step}
 use Rattle.lane_lock.proofs.Windows.{window_is, window_more}
@@ -63,17 +61,13 @@ unfolding word_of_code
 never_sync true = refl
 never_sync false = refl
 
-and_false : (a b : Bool) → b ≡ false → (a && b) ≡ false
-and_false true b e = e
-and_false false b e = refl
-
 legal_is : (bits : List Bool) (q : ℕ) (b : Bool) → code_at bits q ≡ dark_window b → has_legal bits q ≡ false
-legal_is bits q b e = and_false (has_word bits q) (is_legal (code_at bits q)) (ap is_legal e ∙ never_legal b)
+legal_is bits q b e = and_right (has_word bits q) (is_legal (code_at bits q)) (ap is_legal e ∙ never_legal b)
 
 sync_is : (bits : List Bool) (q : ℕ) (b : Bool) → code_at bits q ≡ dark_window b → has_sync bits q ≡ false
-sync_is bits q b e = and_false (has_word bits q) (is_control_of sync_payload (word_of_code (code_at bits q))) (ap (λ (x : ℕ). is_control_of sync_payload (word_of_code x)) e ∙ never_sync b)
+sync_is bits q b e = and_right (has_word bits q) (is_control_of sync_payload (word_of_code (code_at bits q))) (ap (λ (x : ℕ). is_control_of sync_payload (word_of_code x)) e ∙ never_sync b)
 
--- what is so of a search from this bit position on after so many bits of the dark
+-- what is so of a search from this bit position on after this many bits of the dark
 record InDark (b : Bool) (first : ℕ) (before bits : List Bool) (k : ℕ) : Type 0 where
   long : length bits ≡ length before + k
   window : high_number bits % 2 ^ 67 ≡ dark_window b
@@ -118,17 +112,17 @@ module _ (v : LaneState) (s : Settings) (bits : List Bool) (st : Stands v s bits
 
   begins : InDark b v.from bits (bits ++ []) 0
   begins =
-      let e = sym (append-none bits) in
+      let e = sym (append-nil bits) in
       subst (λ (bs : List Bool). InDark b v.from bits bs 0) e (record {
         long = omega arith;
         window = sym st.window ∙ dark.window;
-        legal = sym (append-none (positions has_legal bits v.from));
-        sync = sym (append-none (positions has_sync bits v.from));
+        legal = sym (append-nil (positions has_legal bits v.from));
+        sync = sym (append-nil (positions has_sync bits v.from));
         none = h.none;
       })
 
   quiet_on : (k : ℕ) (c : Bool) (rest : List Bool) → step_of s ((bits ++ replicate k b) ++ c ∷ rest) st.front ≡ steps.Nothing
-  quiet_on zero c rest = ap (λ (bs : List Bool). step_of s (bs ++ c ∷ rest) st.front) (append-none bits) ∙ h.quiet c rest
+  quiet_on zero c rest = ap (λ (bs : List Bool). step_of s (bs ++ c ∷ rest) st.front) (append-nil bits) ∙ h.quiet c rest
   quiet_on (suc k) c rest = ap (λ (bs : List Bool). step_of s bs st.front) (append_assoc bits (b ∷ replicate k b) (c ∷ rest)) ∙ h.quiet b (replicate k b ++ c ∷ rest)
 
   in_dark : (k : ℕ) → InDark b v.from bits (bits ++ replicate k b) k
@@ -148,10 +142,10 @@ module _ (v : LaneState) (s : Settings) (bits : List Bool) (st : Stands v s bits
       step_is s ((bits ++ replicate k b) ++ b ∷ []) (st.front ++ []) steps.Nothing
       (chain_attempts s.metaframe ((bits ++ replicate k b) ++ b ∷ []) 0 v.from st.front []
       (subst (λ (bs : List Bool). Chain s.metaframe bs 0 st.front v.from) (sym (append_assoc bits (replicate k b) (b ∷ []))) (st.over (replicate k b ++ b ∷ []))) none)
-      (sym (ap (step_of s ((bits ++ replicate k b) ++ b ∷ [])) (append-none st.front) ∙ quiet_on k b []))
+      (sym (ap (step_of s ((bits ++ replicate k b) ++ b ∷ [])) (append-nil st.front) ∙ quiet_on k b []))
 
   pub steps_on : (k : ℕ) (own : List LaneStep) → AreSteps s bits own → AreSteps s (bits ++ replicate k b) (own ++ replicate k steps.Nothing)
-  steps_on zero own are = subst (λ (bs : List Bool). AreSteps s bs (own ++ [])) (sym (append-none bits)) (subst (λ (xs : List LaneStep). AreSteps s bits xs) (sym (append-none own)) are)
+  steps_on zero own are = subst (λ (bs : List Bool). AreSteps s bs (own ++ [])) (sym (append-nil bits)) (subst (λ (xs : List LaneStep). AreSteps s bits xs) (sym (append-nil own)) are)
   steps_on (suc k) own are =
       let e : k + 1 ≡ suc k = omega arith in
       let next = one_step s (bits ++ replicate k b) b (own ++ replicate k steps.Nothing) steps.Nothing (steps_on k own are) (none_shown k) in
@@ -186,7 +180,7 @@ module _ (v : LaneState) (s : Settings) (bits : List Bool) (st : Stands v s bits
         state = subst (λ (x : Bool). MatchBool x (Holds w s (bits ++ given) st.front) (Hunts w s (bits ++ given) st.front)) (sym (ew ∙ dark.searching)) hunts;
       }
 
--- so many bits bring no step
+-- this many bits bring no step
 pub dark_brings : (v w : LaneState) (b : Bool) (k : ℕ) → IsDark b v → w.watch.settings ≡ v.watch.settings → w.window ≡ v.window → w.taken ≡ v.taken + k → w.from ≡ v.from → w.watching ≡ v.watching → w.report ≡ v.report →
     ((hits : List Bool) → Watches v.starts 67 64 v.from hits → Watches w.starts 67 64 v.from (hits ++ replicate k false)) →
     ((given : List Bool) → Recalls v.marks given → Recalls w.marks (given ++ replicate k false)) → Brings v w (replicate k b) (replicate k steps.Nothing)
@@ -226,6 +220,6 @@ dark_batch v w bytes before d brings =
       column = replicate n steps.Nothing;
       long = length-replicate n steps.Nothing ∙ sym (length-flat_map_bits 8 bytes);
       low = low_nothings n;
-      appended = sym (ap (λ (xs : List LaneStep). before ++ xs) (shown_nothings n) ∙ append-none before);
+      appended = sym (ap (λ (xs : List LaneStep). before ++ xs) (shown_nothings n) ∙ append-nil before);
       brings = subst (λ (given : List Bool). Brings v w given (replicate n steps.Nothing)) (sym (dark_bits d.bit bytes d.alike)) (brings d.bit d.dark);
     }

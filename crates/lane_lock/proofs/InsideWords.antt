@@ -3,7 +3,8 @@ use Rattle.std.proofs.Common.{ℕ, ◌≡◌, ◌+◌, ◌-◌, ◌*◌, ◌%◌
 use Rattle.std.proofs.lemmas.Bool.{lt-ltb, ne_eqb}
 use Rattle.lk_base.specs.declared.word.RxWord.{RxWord}
 use Rattle.lk_base.specs.Link.{Settings}
-use Rattle.lane_model.specs.Bits.{digit}
+use Rattle.lk_base.specs.Checksum.{digit}
+use Rattle.std.proofs.lemmas.List.{append-nil}
 use Rattle.lane_model.specs.Coding.{word_of_code}
 use Rattle.lock_model.specs.declared.types.LaneReport.{LaneReport}
 use Rattle.lock_model.specs.declared.types.LaneStep.TheVariants as steps
@@ -16,11 +17,11 @@ use Rattle.lane_lock.specs.Lane.{LaneState}
 use Rattle.lane_lock.specs.Standing.{IsStep, Stands, open_lock, tally}
 use Rattle.lane_lock.specs.Watch.{WatchState}
 use Rattle.lane_lock.specs.Watching.{Answers, WatchesLock}
-use Rattle.lane_lock.proofs.Lanes.{append-none, counts_more, holding_word, word_ends, words_more}
+use Rattle.lane_lock.proofs.Lanes.{counts_more, holding_word, word_ends, words_more}
 use Rattle.lane_lock.proofs.LastWord.{held, last_word_is, there_behind, word_behind}
 use Rattle.lane_lock.proofs.Tallies.{tally_seen}
 
--- a word behind the declaring one is no declaration
+-- a word after the declaring one is no declaration
 covered_step : (s : Settings) (bits : List Bool) (p d t at : ℕ) (seen : Seen) → d < t → at ≡ p + 67 * t → Sees seen s bits (p + 67 * d) (t - d) →
     steps.Word seen.word seen.role at ≡ step_covered s bits p (Some d) t
 covered_step s bits p d t at seen less e k =
@@ -51,7 +52,7 @@ inside_word v w s bits b k ew due word seen at of_window of_word answered e1 e2 
     let less : d < h.t = earlier v.watch s ((bits ++ b ∷ []) ++ []) h.p h.t d h.declared (words_more v s bits b k h []) ed in
     let same = λ (rest : List Bool). same_some h.declared (answers rest).0 d (answers rest).1 ed in
     let sees : Sees seen s (bits ++ b ∷ []) (h.p + 67 * d) (h.t - d) =
-    subst (λ (xs : List Bool). Sees seen s xs (h.p + 67 * d) (h.t - d)) (append-none (bits ++ b ∷ [])) (answers []).2 in
+    subst (λ (xs : List Bool). Sees seen s xs (h.p + 67 * d) (h.t - d)) (append-nil (bits ++ b ∷ [])) (answers []).2 in
     holding_word v s bits b k h due w (Some d) (steps.Word seen.word seen.role at) (e1 ∙ k.of_link) e2 e3 ef eg ea
     (λ rest. subst (λ (x : ℕ). WatchesLock w.watch s ((bits ++ b ∷ []) ++ rest) h.p (h.t + 1) (Some x)) (same rest) (answers rest).3)
     (λ rest. report

@@ -13,7 +13,7 @@ payload_place v h =
     let p = some_where (nat_le (v.settings.skips + 2) v.position) (v.settings.metaframe - 1 - v.position) h in
     (leb-true (v.settings.skips + 2) v.position p.0, omega (arith, p.1))
 
--- behind one of them
+-- after one of them
 pub payload_moves : (v w : InsideState) → 1 ≤ payloads_left v → w.settings ≡ v.settings → w.position ≡ cond (is_last v) 0 (v.position + 1) → payloads_left v ≡ payloads_left w + 1
 payload_moves v w h e f =
     let p = payload_place v h in

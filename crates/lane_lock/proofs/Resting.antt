@@ -3,11 +3,12 @@ use Rattle.std.proofs.Common.{ℕ, zero, suc, ◌≡◌, refl, sym, ap, ◌∙�
 use Rattle.std.specs.Prelude.{slice_get}
 use Rattle.std.specs.Int.{bit_at}
 use Rattle.std.proofs.lemmas.Bool.{cases_lt}
-use Rattle.std.proofs.lemmas.List.{length-append, take-append-le, take_all, reverse-append, length-reverse}
+use Rattle.std.proofs.lemmas.List.{length-append, take-append-le, take_all, reverse-append, length-reverse, append-nil}
 use Rattle.std.proofs.lemmas.Nat.{div-add-mod'}
 use Rattle.std.proofs.Math.Nat.{add-mul, add-mul-mod_self_right, mul_assoc, mul_comm}
 use Rattle.lk_base.specs.Checksum.{bits_of}
 use Rattle.lk_base.specs.Link.{Settings}
+use Rattle.lk_base.proofs.Lists.{some_more, front_more}
 use Rattle.lane_model.specs.Bits.{high_number, low_number}
 use Rattle.lane_model.proofs.Numbers.{length-bits_of, number-bits_of}
 use Rattle.lock_model.specs.declared.types.LaneStep.{LaneStep}
@@ -18,19 +19,10 @@ use Rattle.lock_model.proofs.Reading.{low_number-append}
 use Rattle.lane_lock.specs.Bytes.{Brings, Rests, with_bits}
 use Rattle.lane_lock.specs.Lane.{LaneState, with_bit}
 use Rattle.lane_lock.specs.Standing.{IsStep, Stands}
-use Rattle.lane_lock.proofs.Lanes.{append-none, holding_short}
+use Rattle.lane_lock.proofs.Lanes.{holding_short}
 use Rattle.lane_lock.proofs.LastWord.{held}
 
 -- ---- one step more
-
-some_more : {A : Type 0} (xs : List A) (x : A) → slice_get (xs ++ x ∷ []) (length xs) ≡ Some x
-some_more [] x = refl
-some_more (y ∷ xs) x = some_more xs x
-
-front_more : {A : Type 0} (xs : List A) (x : A) (n : ℕ) → n < length xs → slice_get (xs ++ x ∷ []) n ≡ slice_get xs n
-front_more [] x n h = absurd (omega arith)
-front_more (y ∷ xs) x zero h = refl
-front_more (y ∷ xs) x (suc n) h = (let k : n < length xs = omega arith in front_more xs x n k)
 
 pub one_step : (s : Settings) (bits : List Bool) (b : Bool) (own : List LaneStep) (x : LaneStep) → AreSteps s bits own → IsStep s (bits ++ b ∷ []) x →
     AreSteps s (bits ++ b ∷ []) (own ++ x ∷ [])
@@ -56,8 +48,8 @@ one_step s bits b own x are is = record {
 
 pub brings_none : (v : LaneState) → Brings v v [] []
 brings_none v = λ s bits own st are. (
-  subst (λ (bs : List Bool). Stands v s bs) (sym (append-none bits)) st,
-  subst (λ (bs : List Bool). AreSteps s bs (own ++ [])) (sym (append-none bits)) (subst (λ (g : List LaneStep). AreSteps s bits g) (sym (append-none own)) are),
+  subst (λ (bs : List Bool). Stands v s bs) (sym (append-nil bits)) st,
+  subst (λ (bs : List Bool). AreSteps s bs (own ++ [])) (sym (append-nil bits)) (subst (λ (g : List LaneStep). AreSteps s bits g) (sym (append-nil own)) are),
 )
 
 pub brings_bit : (v w : LaneState) (b : Bool) (x : LaneStep) →
@@ -123,7 +115,7 @@ pushed_mod h k x m =
         let three : a * m * k ≡ (a * k) * m = mul_assoc a m k ∙ ap (λ (y : ℕ). a * y) (mul_comm m k) ∙ sym (mul_assoc a k m) in
         omega (arith, one, two, three)
 
--- the last 67 bits with so many more
+-- the last 67 bits with this many more
 windows_more : (window : ℕ) (bits given : List Bool) → window ≡ high_number bits % 2 ^ 67 → (window * 2 ^ length given + high_number given) % 2 ^ 67 ≡ high_number (bits ++ given) % 2 ^ 67
 windows_more window bits given h =
     let r : length (reverse given) ≡ length given = length-reverse given in
@@ -132,7 +124,7 @@ windows_more window bits given h =
     ap (λ (x : ℕ). (x * 2 ^ length given + high_number given) % 2 ^ 67) h ∙ pushed_mod (high_number bits) (2 ^ length given) (high_number given) (2 ^ 67)
     ∙ ap (λ (x : ℕ). x % 2 ^ 67) (sym parts)
 
--- so many bits at once
+-- this many bits at once
 pub all_at_once : (v : LaneState) (count x : ℕ) → v.watching ≡ true → v.taken + count < v.at + 67 → x < 2 ^ count → Brings v (with_bits v count x) (bits_of count x) (replicate count steps.Nothing)
 all_at_once v count x ew short low = λ s bits own st are. (
     let given = bits_of count x in

@@ -10,7 +10,7 @@ use Rattle.lane_lock.specs.declared.completed.Completed.{Completed}
 use Rattle.lane_lock.specs.Lane.{LaneState}
 use Rattle.lane_lock.specs.Standing.{Stands}
 
--- the steps of so many bits, one for each, where a word of a word lock ends within them or none does
+-- the steps of this many bits, one for each, where a word of a word lock ends within them or none does
 abbrev pub steps_of_bits : ℕ → Option Completed → List LaneStep
 steps_of_bits n None = replicate n steps.Nothing
 steps_of_bits n (Some c) = replicate c.place steps.Nothing ++ c.step ∷ replicate (n - 1 - c.place) steps.Nothing
@@ -33,22 +33,22 @@ pub record BringsBatch (v w : LaneState) (given : List Bool) (before after : Lis
   pub appended : after ≡ before ++ shown_in column
   pub brings : Brings v w given column
 
--- a word of a word lock ends within so many bits
+-- a word of a word lock ends within this many bits
 abbrev pub EndsWithin : LaneState → ℕ → Type 0
 EndsWithin v count = (v.watching ≡ true) × (v.at + 67 ≤ v.taken + count)
 
--- since so many bits had come, words ended at least 67 bits apart: there are so many steps more than there were then
+-- since the first `first` bits had come, words ended at least 67 bits apart: there are `count` steps, and were `before` then
 abbrev pub IsSparse : ℕ → ℕ → LaneState → ℕ → Type 0
 IsSparse first before v count = 67 * (count - before) ≤ v.at + 66 - first
 
 abbrev pub StaysSparse : LaneState → ℕ → LaneState → ℕ → Type 0
 StaysSparse v count w more = (first before : ℕ) → first ≤ v.taken → IsSparse first before v count → IsSparse first before w more
 
--- no word of a word lock ends within so many bits
+-- no word of a word lock ends within this many bits
 abbrev pub Rests : LaneState → ℕ → Type 0
 Rests v count = v.watching ≡ true → v.taken + count < v.at + 67
 
--- so many bits more, which are this number
+-- this many bits more, which are this number
 abbrev pub with_bits : LaneState → ℕ → ℕ → LaneState
 with_bits v count bits = record {
   window = (v.window * 2 ^ count + bits) % 2 ^ 67;

@@ -2,6 +2,7 @@ ghost use Rattle.std.specs.Prelude.{◌≡◌, ◌<◌, ◌≤◌, ◌+◌, ◌*
 ghost use Rattle.lk_base.specs.Checksum.{bits_of, bits_of_bytes};
 
 use crate::words::last_bits;
+use lk_base::eight_at;
 
 /// Some bits of bytes from bit `at` on as a number, the first of them highest. There are at least eight bytes.
 pub fn bits_at(bytes: &[u8], at: usize, width: u32) -> u64
@@ -35,22 +36,4 @@ pub fn code_at(bytes: &[u8], at: usize) -> u128
     let low = eight_at(bytes, place + 8);
     // The remainder is the count; with it the shift is known to be below 64.
     ((high as u128) << 64 | low as u128) >> (after % 64) & ((1 << 67) - 1)
-}
-
-// Eight bytes from this place on as a number, the first of them highest.
-#[inline(always)]
-fn eight_at(bytes: &[u8], place: usize) -> u64
-    requires { place + 8 ≤ length bytes.now }
-    ensures { bits_of 64 result ≡ bits_of_bytes (take 8 (drop place bytes.now)) }
-{
-    u64::from_be_bytes([
-        bytes[place],
-        bytes[place + 1],
-        bytes[place + 2],
-        bytes[place + 3],
-        bytes[place + 4],
-        bytes[place + 5],
-        bytes[place + 6],
-        bytes[place + 7],
-    ])
 }

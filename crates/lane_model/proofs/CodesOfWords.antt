@@ -18,7 +18,7 @@ unfolding codes_behind
 length-codes_behind before [] = refl
 length-codes_behind before (word ∷ rest) = ap suc (length-codes_behind (before ++ code_behind before word ∷ []) rest)
 
--- words in two parts have the codes of the first part and, behind them, those of the second
+-- words in two parts have the codes of the first part and, after them, those of the second
 pub codes_behind-append : (before : List ℕ) (xs ys : List Word) →
     codes_behind before (xs ++ ys) ≡ codes_behind before xs ++ codes_behind (before ++ codes_behind before xs) ys
 codes_behind-append before [] ys = rw (none-codes before, append-nil before) refl
@@ -33,7 +33,7 @@ more words word =
 
 -- ---- the codes are determined
 
--- code number t behind these codes is that of its word
+-- code number t after these codes is that of its word
 abbrev IsCodeAt : List ℕ → List Word → List ℕ → ℕ → Word → Type 0
 IsCodeAt before words codes t d = get_or codes t 0 ≡ code_behind (before ++ take t codes) (get_or words t d)
 

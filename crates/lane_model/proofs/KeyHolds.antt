@@ -2,8 +2,7 @@
 use Rattle.std.proofs.Common.{ℕ, zero, suc, ◌≡◌, refl, ap, ◌∙◌, ◌+◌, ◌-◌, ◌*◌, ◌^◌, ◌<◌, ◌≤◌, Bool, false, List, length, get_or, take, arith}
 use Rattle.std.proofs.lemmas.List.{get_or-take}
 use Rattle.std.specs.Int.{bit_at}
-use Rattle.lk_base.specs.Checksum.{differ}
-use Rattle.lane_model.specs.Bits.{digit}
+use Rattle.lk_base.specs.Checksum.{differ, digit}
 use Rattle.lane_model.specs.Key.{key_until, start_of, state_before, key_word}
 use Rattle.lane_model.specs.KeyLaw.{key_back, key_bit, KeyIsItsSequence}
 use Rattle.lane_model.proofs.Numbers.{below-take, get_or-low_bits, bit-low_number}
@@ -21,7 +20,7 @@ later start zero b h = absurd (omega arith)
 later start (suc n) zero h = let e : suc n - 1 - 0 ≡ n = omega arith in rw e refl
 later start (suc n) (suc b) h = let e : suc n - 1 - suc b ≡ n - 1 - b = omega arith in rw e (back_more start n b ∙ later start n b (omega arith))
 
--- behind n bits stands what was there before them
+-- after n bits stands what was there before them
 pub back_by : (start : List Bool) (n m b : ℕ) → key_back start (n + m) (n + b) ≡ key_back start m b
 back_by start zero m b = let e : zero + m ≡ m = omega arith in let f : zero + b ≡ b = omega arith in rw (e, f) refl
 back_by start (suc n) m b =

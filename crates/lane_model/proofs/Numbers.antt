@@ -1,14 +1,13 @@
 -- Bits and numbers are read back from one another.
-use Rattle.std.proofs.Common.{ℕ, zero, suc, ◌≡◌, refl, sym, ap, ◌∙◌, ◌+◌, ◌*◌, ◌/◌, ◌%◌, ◌^◌, ◌<◌, ◌==◌, Bool, true, false, List, [], ◌∷◌, ◌++◌, length, reverse, arith, take, get_or, ◌-◌, subst}
+use Rattle.std.proofs.Common.{ℕ, zero, suc, ◌≡◌, refl, sym, ap, ◌∙◌, ◌+◌, ◌*◌, ◌/◌, ◌%◌, ◌^◌, ◌<◌, ◌==◌, Bool, true, false, List, [], ◌∷◌, ◌++◌, length, reverse, arith, take, get_or, ◌-◌}
 use Rattle.std.proofs.Math.Nat.{pow-succ', div-div-eq-div-mul}
-use Rattle.std.proofs.Math.Pow.{pow_pos, mod-mod-pow}
-use Rattle.std.proofs.lemmas.Nat.{field_of}
+use Rattle.std.proofs.Math.Pow.{pow_pos}
 use Rattle.std.proofs.lemmas.List.{reverse-append, reverse-reverse, length-reverse}
-use Rattle.std.proofs.lemmas.Bool.{eqb-true, eqb-false}
 use Rattle.std.proofs.lemmas.Nat.Bits.{bit_at-zero, bit_at-suc}
 use Rattle.std.specs.Int.{bit_at}
-use Rattle.lk_base.specs.Checksum.{bits_of}
-use Rattle.lane_model.specs.Bits.{digit, low_bits, low_number, high_number}
+use Rattle.lk_base.specs.Checksum.{bits_of, digit}
+use Rattle.lk_base.proofs.Bits.{digit_of, digit_small}
+use Rattle.lane_model.specs.Bits.{low_bits, low_number, high_number}
 
 pub split : {b : Bool} {P : Type 0} → (b ≡ true → P) → (b ≡ false → P) → P
 split {b} {P} t f = elim b as (λ x. (x ≡ true → P) → (x ≡ false → P) → P) [ true ↦ λ t f. t refl | false ↦ λ t f. f refl ] t f
@@ -17,13 +16,6 @@ pub length-low_bits : (n x : ℕ) → length (low_bits n x) ≡ n
 unfolding low_bits
 length-low_bits zero x = refl
 length-low_bits (suc n) x = ap suc (length-low_bits n (x / 2))
-
--- the lowest bit as a digit
-digit_of : (x : ℕ) → digit (x % 2 == 1) ≡ x % 2
-digit_of x = elim (x % 2 == 1) as (λ b. (x % 2 == 1) ≡ b → digit b ≡ x % 2) [
-  | true ↦ λ e. sym (eqb-true (x % 2) 1 e)
-  | false ↦ λ e. let ne : (x % 2 ≡ 1) → ⊥ = eqb-false (x % 2) 1 e in omega arith
-] refl
 
 pub number-low_bits : (n x : ℕ) → x < 2 ^ n → low_number (low_bits n x) ≡ x
 unfolding low_bits low_number
@@ -42,14 +34,7 @@ get_or-low_bits (suc n) x (suc i) h =
     let p : 2 ^ suc i ≡ 2 * 2 ^ i = pow-succ' 2 i in
     rw (p, ← div-div-eq-div-mul x 2 (2 ^ i)) (get_or-low_bits n (x / 2) i (omega arith))
 
-cut : (x m i : ℕ) → bit_at (x % 2 ^ (m + 1 + i)) i ≡ bit_at x i
-cut x m i = ap (λ y. y % 2) (field_of x (m + 1) i) ∙ mod-mod-pow (x / 2 ^ i) m 1
-
--- each of the n lowest bits of a number is that of what is left of it
-pub bit_at-mod : (x n i : ℕ) → i < n → bit_at (x % 2 ^ n) i ≡ bit_at x i
-bit_at-mod x n i h = let e : n - i - 1 + 1 + i ≡ n = omega arith in subst (λ k. bit_at (x % 2 ^ k) i ≡ bit_at x i) e (cut x (n - i - 1) i)
-
--- the highest of the lowest bits stands behind the others
+-- the highest of the lowest bits stands after the others
 low_bits-last : (n x : ℕ) → low_bits (suc n) x ≡ low_bits n x ++ (bit_at x n == 1) ∷ []
 unfolding low_bits
 low_bits-last zero x = let e : x / 2 ^ 0 ≡ x = omega arith in rw e refl
@@ -132,10 +117,6 @@ pub below-high_number : (bits : List Bool) (n : ℕ) → length bits ≡ n → h
 below-high_number bits n h =
     let l : length (reverse bits) ≡ n = length-reverse bits ∙ h in
     rw l at (below-low_number (reverse bits))
-
-digit_small : (b : Bool) → digit b < 2
-digit_small true = omega arith
-digit_small false = omega arith
 
 half : (d n : ℕ) → d < 2 → (d + 2 * n) / 2 ≡ n
 half d n h = omega arith

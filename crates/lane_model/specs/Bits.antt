@@ -1,10 +1,6 @@
 -- The bits of numbers and the numbers of bits, bit 0 first; and the numbers of bits whose highest comes first.
-use Rattle.std.specs.Prelude.{ℕ, zero, suc, ◌+◌, ◌*◌, ◌/◌, ◌%◌, ◌==◌, Bool, true, false, List, [], ◌∷◌, reverse}
-
--- 1 for true
-abbrev pub digit : Bool → ℕ
-digit true = 1
-digit false = 0
+use Rattle.std.specs.Prelude.{ℕ, zero, suc, ◌+◌, ◌*◌, ◌/◌, ◌%◌, ◌==◌, Bool, List, [], ◌∷◌, reverse}
+use Rattle.lk_base.specs.Checksum.{digit}
 
 -- the lowest `count` bits of x, bit 0 first
 unfoldable pub low_bits : ℕ → ℕ → List Bool

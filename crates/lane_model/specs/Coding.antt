@@ -6,7 +6,7 @@ use Rattle.lk_base.specs.declared.word.Word.TheVariants.{Data, Control}
 use Rattle.lk_base.specs.declared.word.RxWord.{RxWord}
 use Rattle.lk_base.specs.declared.word.RxWord.TheVariants as received
 use Rattle.lk_base.specs.Words.{payload}
-use Rattle.lane_model.specs.Bits.{digit}
+use Rattle.lk_base.specs.Checksum.{digit}
 
 -- bits 65:64 of a word's code
 abbrev pub header_for : Word → ℕ
@@ -22,7 +22,7 @@ unfoldable pub code_of : Bool → Word → ℕ
 code_of inverted word =
     digit inverted * 2 ^ 66 + header_for word * 2 ^ 64 + (if inverted then inverse_of (payload word) else payload word)
 
--- the ones less the zeros of `count` bits of which so many are ones
+-- the ones less the zeros of `count` bits of which this many are ones
 abbrev pub excess : ℕ → ℕ → ℤ
 excess count one = pos one -ℤ pos (count - one)
 
@@ -38,11 +38,11 @@ disparity codes = excess (67 * length codes) (sum_by (ones_in 67) codes)
 unfoldable pub is_inverted : ℤ → ℕ → Bool
 is_inverted r x = (int_le (pos 0) r && int_lt (pos 0) (weight x)) || (int_lt r (pos 0) && int_lt (weight x) (pos 0))
 
--- the code of a word behind these codes
+-- the code of a word after these codes
 abbrev pub code_behind : List ℕ → Word → ℕ
 code_behind before word = code_of (is_inverted (disparity before) (payload word)) word
 
--- the codes of words, told the codes before them
+-- the codes of words, given the codes before them
 unfoldable pub codes_behind : List ℕ → List Word → List ℕ
 codes_behind before [] = []
 codes_behind before (word ∷ rest) = let code = code_behind before word in code ∷ codes_behind (before ++ code ∷ []) rest
@@ -51,7 +51,7 @@ codes_behind before (word ∷ rest) = let code = code_behind before word in code
 abbrev pub codes_of : List Word → List ℕ
 codes_of words = codes_behind [] words
 
--- the disparity behind a word
+-- the disparity after a word
 abbrev pub next_disparity : ℤ → ℕ → ℤ
 next_disparity r x = if is_inverted r x then r -ℤ weight x else r +ℤ weight x
 

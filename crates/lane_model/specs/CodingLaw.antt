@@ -4,7 +4,7 @@ use Rattle.lk_base.specs.declared.word.Word.{Word}
 use Rattle.lk_base.specs.Words.{payload, as_sent}
 use Rattle.lane_model.specs.Coding.{code_of, code_behind, codes_of, disparity, next_disparity, word_of_code}
 
--- each code is that of its word behind the codes before
+-- each code is that of its word after the codes before
 pub record AreCodes (words : List Word) (codes : List ℕ) : Type 0 where
   pub one_each : length codes ≡ length words
   pub each : (t : ℕ) (d : Word) → t < length words → get_or codes t 0 ≡ code_behind (take t codes) (get_or words t d)

@@ -3,12 +3,12 @@ use Rattle.std.specs.Prelude.{ℕ, ◌≡◌, ◌≤◌, ◌+◌, ◌*◌, ◌%�
 use Rattle.std.specs.List.{enumerate_from, list_any}
 use Rattle.lk_base.specs.Link.{Settings}
 
--- the sent bits that are dark: so many from `first` on
+-- the sent bits that are dark: this many from `first` on
 pub record DarkBits : Type 0 where
   pub first : ℕ
   pub count : ℕ
 
--- what happens to a lane: so many ones in front, sent bits that are inverted, and stretches that are dark. Sent bits
+-- what happens to a lane: this many ones in front, sent bits that are inverted, and stretches that are dark. Sent bits
 -- are counted from 0
 pub record LaneDamage : Type 0 where
   pub skew : ℕ

@@ -41,7 +41,7 @@ pub record FramingWords : Type 0 where
   pub diagnostic : idle_word 31 ≡ Control 0x6412ffff2016294b
   pub second_state : idle_word 33 ≡ Control 0x2812fffc3e00163f
 
--- the sent bits 1, 0, 1, 1, 0 behind a skew of 2: bit 1 is named by one flip, bit 3 by two, bit 4 is dark and named by
+-- the sent bits 1, 0, 1, 1, 0 after a skew of 2: bit 1 is named by one flip, bit 3 by two, bit 4 is dark and named by
 -- one, bit 2 is dark, and a flip past the end changes nothing
 pub record DamagedBits : Type 0 where
   pub received : received_bits (record { skew = 2; flips = 1 ∷ 3 ∷ 3 ∷ 4 ∷ 5 ∷ []; darks = record { first = 2; count = 1 } ∷ record { first = 4; count = 9 } ∷ [] })

@@ -3,7 +3,7 @@ use Rattle.std.specs.Prelude.{ℕ, zero, suc, ◌+◌, ◌-◌, ◌*◌, ◌/◌
 use Rattle.lk_base.specs.Checksum.{differ}
 use Rattle.lane_model.specs.Bits.{low_bits, low_number}
 
--- the key bits below number n, the latest first, behind those of the start: each is the exclusive or of the bits 39 and
+-- the key bits below number n, the latest first, after those of the start: each is the exclusive or of the bits 39 and
 -- 58 steps back
 unfoldable pub key_until : List Bool → ℕ → List Bool
 key_until start zero = start

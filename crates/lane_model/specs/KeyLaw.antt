@@ -1,8 +1,7 @@
 -- The law on the key.
 use Rattle.std.specs.Prelude.{ℕ, suc, ◌≡◌, ◌<◌, ◌≤◌, ◌+◌, ◌-◌, ◌*◌, ◌^◌, Bool, false, List, length, get_or}
 use Rattle.std.specs.Int.{bit_at}
-use Rattle.lk_base.specs.Checksum.{differ}
-use Rattle.lane_model.specs.Bits.{digit}
+use Rattle.lk_base.specs.Checksum.{differ, digit}
 use Rattle.lane_model.specs.Key.{key_until, start_of, state_before, key_word}
 
 -- the key bit b+1 steps before number n

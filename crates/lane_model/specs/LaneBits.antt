@@ -12,7 +12,7 @@ use Rattle.lane_model.specs.Striping.{lane_payload}
 unfoldable pub bits_of_codes : List ℕ → List Bool
 bits_of_codes codes = flat_map (bits_of 67) codes
 
--- the bits of lane number `lane` with these payload words in so many metaframes
+-- the bits of lane number `lane` with these payload words in this many metaframes
 unfoldable pub lane_bits : Settings → ℕ → List Word → ℕ → List Bool
 lane_bits s lane sent metaframes = bits_of_codes (codes_of (lane_words s (start_of (first_state lane)) sent metaframes))
 

@@ -35,7 +35,7 @@ covered_at s sent position = covered_as (role_of s (position % s.metaframe)) (pa
 unfoldable pub metaframe_crc : Settings → List Word → ℕ → ℕ
 metaframe_crc s sent m = crc32 (bits_of_words (map (covered_at s sent) (range_with_len (m * s.metaframe) s.metaframe)))
 
--- the word of this role, told the state, the metaframe's payload words and its CRC32
+-- the word of this role, given the state, the metaframe's payload words and its CRC32
 abbrev pub framed_as : Role → ℕ → (ℕ → Word) → ℕ → Word
 framed_as Sync state words crc = Control sync_payload
 framed_as State state words crc = Control (state_payload state)

@@ -4,7 +4,7 @@ use Rattle.std.specs.List.{range_with_len}
 use Rattle.lk_base.specs.declared.word.Word.{Word}
 use Rattle.lk_base.specs.declared.word.Word.TheVariants.{Data}
 
--- how many of so many words lane number i of these lanes gets: as many as there are n with n*lanes + i below `total`
+-- how many of this many words lane number i of these lanes gets: as many as there are n with n*lanes + i below `total`
 abbrev pub share : ℕ → ℕ → ℕ → ℕ
 share lanes total i = (total + (lanes - 1 - i)) / lanes
 

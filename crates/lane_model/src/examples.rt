@@ -1,7 +1,7 @@
 ghost use Rattle.lane_model.specs.Examples.{DamagedBits, FirstBytes, FramingWords, TwoEqualWords};
 
 /// The first three words of lane 0 of a metaframe of 32 words with one Skip word: how they are coded, the disparity
-/// behind each, and the lane's first 25 bytes.
+/// after each, and the lane's first 25 bytes.
 pub fn first_bytes_of_a_lane()
     ensures { FirstBytes }
 {}

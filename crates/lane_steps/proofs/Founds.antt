@@ -34,7 +34,7 @@ count width founds.End within = length-replicate width steps.Ended
 count width founds.Quiet within = length-replicate width steps.Nothing
 count width (founds.Step place step) within = count_step width place step within.0
 
--- behind all steps
+-- after all steps
 pub behind : (xs : List LaneStep) (k : ℕ) → length xs ≤ k → get_or xs k steps.Ended ≡ steps.Ended
 behind [] k le = refl
 behind (x ∷ xs) zero le = absurd (omega (arith, le))
@@ -51,7 +51,7 @@ step_there place width k x r within here elsewhere_is behind_is = elim (cases_Bo
   ]
 ]
 
--- no bit of so many is 0 where a lane has ended, and that of a step is 1
+-- no bit of this many is 0 where a lane has ended, and that of a step is 1
 pub ended_covered : (width k : ℕ) → width ≤ 64 → k < length (steps_found width founds.End) → bit_at (2 ^ 64 - 1) k ≡ 0 → get_or (steps_found width founds.End) k steps.Ended ≡ steps.Nothing
 ended_covered width k le lt zero_there =
     let l = length-replicate width steps.Ended in

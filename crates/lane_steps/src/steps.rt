@@ -70,7 +70,7 @@ impl LaneSteps {
         self.width = 8;
     }
 
-    /// Takes so many bytes at once: the number is that of their bits, the first of them highest. At most 2^60 bits come in all.
+    /// Takes this many bytes at once: the number is that of their bits, the first of them highest. At most 2^60 bits come in all.
     pub fn take(&mut self, bits: u64, count: u32)
         requires some { 1 ≤ count }
         requires most { count ≤ 7 }
@@ -109,7 +109,7 @@ impl LaneSteps {
         self.lock.stays_dark(bytes)
     }
 
-    /// The step of bit k of the last bytes, counted from the first, the highest of the first byte; behind them it has ended.
+    /// The step of bit k of the last bytes, counted from the first, the highest of the first byte; after them it has ended.
     pub fn step(&self, k: u32) -> LaneStep
         ensures value { result ≡ get_or self.now.shown k variants.Ended }
         ensures low { is_low result }

@@ -3,7 +3,7 @@ use Rattle.std.proofs.Common.{ℕ, ◌≡◌, refl, sym, ap, ◌∙◌, ◌+◌,
 use Rattle.std.proofs.Math.Nat.{div-lt_iff_lt-mul, mul_comm}
 use Rattle.std.proofs.Math.Seq.{get_or-append_seam}
 use Rattle.std.proofs.lemmas.Bool.{cases_lt}
-use Rattle.std.proofs.lemmas.List.{get_or-map, length-map, get_or_append_left, length-append}
+use Rattle.std.proofs.lemmas.List.{get_or-map, length-map, get_or_append_left, length_push}
 use Rattle.std.proofs.lemmas.Nat.{mod_below, div-mul-add, mod-mul-add, div-add-mod'}
 use Rattle.lk_base.specs.declared.word.Word.{Word}
 use Rattle.lane_striper.specs.Gathered.{list_of, IsBegun}
@@ -15,9 +15,6 @@ mapped f xs n x h e =
     ∙ get_or-map f xs (n % length xs) x [] (mod_below n (length xs) h)
     ∙ ap f (sym e)
 
-pub length-push : (words : List Word) (w : Word) → length (words ++ w ∷ []) ≡ length words + 1
-length-push words w = length-append words (w ∷ [])
-
 is_last : (n k : ℕ) → n < k + 1 → k ≤ n → k ≡ n
 is_last n k h l = omega arith
 
@@ -27,11 +24,11 @@ step lists words more list w begun e h g p =
     subst (IsBegun lists) (sym p) (record {
       there = λ n k. elim (cases_lt n (length words)) [
         | inl l ↦ begun.there n l
-        | inr l ↦ subst (λ m. m / length lists < length (list_of lists m)) (is_last n (length words) (rw (length-push words w) at k) l) (rw e h)
+        | inr l ↦ subst (λ m. m / length lists < length (list_of lists m)) (is_last n (length words) (rw (length_push words w) at k) l) (rw e h)
       ];
       each = λ n d k. elim (cases_lt n (length words)) [
         | inl l ↦ get_or_append_left words (w ∷ []) d n l ∙ begun.each n d l
-        | inr l ↦ subst (λ m. get_or (words ++ w ∷ []) m d ≡ get_or (list_of lists m) (m / length lists) d) (is_last n (length words) (rw (length-push words w) at k) l)
+        | inr l ↦ subst (λ m. get_or (words ++ w ∷ []) m d ≡ get_or (list_of lists m) (m / length lists) d) (is_last n (length words) (rw (length_push words w) at k) l)
             (get_or-append_seam words w [] d ∙ g d ∙ ap (λ l. get_or l (length words / length lists) d) (sym e))
       ];
     })
@@ -82,5 +79,5 @@ smaller lists words more list w n k some begun e f g h p =
     let q : n / k ≡ length words / length lists = quotient n k (length words) (length lists) e f in
     let there : length words / length lists < length (list_of lists (length words)) = rw (ap (list_of lists) (sym e) ∙ g) (rw q at h) in
     let b : length words < length lists * length (list_of lists 0) = below_all lists words (rw (← f) some) begun there in
-    let l : length more ≡ length words + 1 = ap length p ∙ length-push words w in
+    let l : length more ≡ length words + 1 = ap length p ∙ length_push words w in
     rw f (omega (arith, b, l))

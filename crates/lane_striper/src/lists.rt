@@ -11,7 +11,7 @@ pub fn gathered_is_striped()
     ensures { GatheredIsStriped }
 {}
 
-// How many of so many words a lane gets.
+// How many of this many words a lane gets.
 fn share_of(lanes: u32, total: usize, lane: u32) -> usize
     requires lane { lane < lanes }
     requires lanes { lanes ≤ 64 }

@@ -12,7 +12,8 @@ use Rattle.csv_rows.specs.declared.table.Form.TheVariants.{Number, Text, NumberA
 use Rattle.csv_rows.specs.declared.table.Times.{Times}
 use Rattle.csv_rows.specs.declared.table.Times.TheVariants.{Distinct}
 use Rattle.link_plan.specs.Keys.{keys}
-use Rattle.link_cases.specs.Texts.{number_row, text_row, channel_row, capture_name}
+use Rattle.link_cases.specs.Texts.{number_row, text_row, channel_row}
+use Rattle.pcap_files.specs.Names.{capture_name}
 use Rattle.link_cases.specs.Accepted.{IsPrefix}
 use Rattle.csv_rows.proofs.Decimals.{IsShort, decimal-read, decimal-text, decimal-short}
 

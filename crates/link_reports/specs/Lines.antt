@@ -5,7 +5,7 @@ use lib.Chars.{codes}
 use Rattle.lock_model.specs.declared.types.LaneReport.{LaneReport}
 use Rattle.link_reports.specs.declared.replay.Missing.{Missing}
 
--- a name of a value, its number, and what comes behind it
+-- a name of a value, its number, and what comes after it
 abbrev pub told : List ℕ → ℕ → List ℕ → List ℕ
 told name number rest = name ++ (decimal number ++ rest)
 
@@ -35,7 +35,7 @@ got_line channel packets bytes =
 abbrev pub spans_line : ℕ → List ℕ
 spans_line spans = told (codes "spans ") spans line_end
 
--- how many pieces were dropped for each of the eight reasons, told their counts in the order of the reasons: the first four
+-- how many pieces were dropped for each of the eight reasons, given their counts in the order of the reasons: the first four
 abbrev pub first_drops : List ℕ → List ℕ
 first_drops counts =
     told (codes "dropped bad=") (slice_index counts 0)
@@ -108,7 +108,7 @@ missing_line missing =
     (told (codes " span=") missing.span line_end))))
 
 -- what came at an end of a run on a channel: its packets, their bytes together, and the most words that were queued. The end is
--- told by its letter
+-- named by its letter
 abbrev pub end_line : ℕ → ℕ → ℕ → ℕ → ℕ → List ℕ
 end_line letter channel packets bytes peak =
     (codes "end " ++ letter ∷ []) ++

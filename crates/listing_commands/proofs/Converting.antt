@@ -1,5 +1,6 @@
 -- A command that makes one file of another: its meaning is lawful, and its stops and ends are those of the meaning.
 use Rattle.std.proofs.Common.{◌≡◌, ◌⊎◌, ℕ, zero, suc, Bool, true, false, List, [], ◌∷◌, refl, sym, ◌∙◌, ap, subst, Option, Some, None, IfSome, Result, Ok, Err, MatchResult, inl, inr, Contains, nat_lt, length, if◌then◌else◌, string_bytes, arith}
+use Rattle.run_stops.proofs.Readings.{bytes_by_ok}
 use Rattle.lk_outside.specs.Files.{Files, file, AreBytes, Told}
 use Rattle.run_stops.specs.declared.faults.InputError.{InputError}
 use Rattle.run_stops.specs.declared.faults.InputError.TheVariants as refused
@@ -19,15 +20,6 @@ use Rattle.run_shell.proofs.Works.{store_stops, untouched}
 use Rattle.listing_commands.specs.Conversion.{Conversion, made_outcome, IsAccepted, IsRefused, Converts, CreatesBy, conversion_meaning, IsConversion, Gives}
 
 -- ---- what was read
-
--- bytes that were read are those of the file
-pub of_file : (name : List ℕ) (limit : ℕ) (found : Option (List ℕ)) (bytes : List ℕ) → bytes_by name limit found ≡ Ok bytes → found ≡ Some bytes
-of_file name limit None bytes e = absurd cc
-of_file name limit (Some content) bytes e = by-limit (nat_lt limit (length content)) e
-  where
-    by-limit : (t : Bool) → (if t then Err (reading.of_input name refused.TooLarge) else Ok content) ≡ Ok bytes → Some content ≡ Some bytes
-    by-limit true k = absurd cc
-    by-limit false k = cc
 
 -- a file that is not had is no plan
 abbrev NoPlan : Result (List ℕ) Refusal → Type 0
@@ -68,7 +60,7 @@ module _ (c : Conversion) (law : IsConversion c) where
   some-of bytes (inr (why, h)) = (refused_outcome (reading.of_input c.name why), inr (why, h, refl))
 
   some-by : (files : Files) → AreBytes files → (r : Result (List ℕ) Refusal) → bytes_in files c.name c.limit ≡ r → (o : Outcome) × OutcomeBy r o
-  some-by files are (Ok bytes) is = some-of bytes (law.either bytes (are c.name bytes (of_file c.name c.limit (file files c.name) bytes is)))
+  some-by files are (Ok bytes) is = some-of bytes (law.either bytes (are c.name bytes (bytes_by_ok c.name c.limit (file files c.name) bytes is)))
   some-by files are (Err e) is = (refused_outcome e, refl)
 
   abbrev CauseBy : Result (List ℕ) Refusal → Status → Type 0

@@ -20,7 +20,7 @@ pub record Conversion : Type 1 where
   pub created : List ℕ
   -- what is counted of it
   pub counted : List ℕ
-  -- of these bytes this content is made, with so many of what is counted
+  -- of these bytes this content is made, with this many of what is counted
   pub Makes : List ℕ → List ℕ → ℕ → Type 0
   -- these bytes are refused so
   pub Refuses : List ℕ → InputError → Type 0

@@ -11,7 +11,7 @@ use Rattle.listing_commands.specs.Undoing.{Lists, Assembles}
 abbrev pub lane_text : List ℕ
 lane_text = ended (codes "lane") ++ ended (codes "rest 10100101")
 
--- a Sync word told as any code
+-- a Sync word written as any code
 abbrev pub second_text : List ℕ
 second_text = ended (codes "lane") ++ ended (codes "code 0 10 78F678F678F678F6")
 

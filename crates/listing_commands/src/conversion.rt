@@ -37,7 +37,7 @@ fn counted_line(alloc: Global, counted: &str, count: u64) -> Result<Vec<u8>, Out
     Ok(line)
 }
 
-/// Creates the file whose name is that of another with this ending behind it, fills it with what was made, and counts that in
+/// Creates the file whose name is that of another with this ending after it, fills it with what was made, and counts that in
 /// one line.
 pub fn write_made<S: Store>(
     alloc: Global,

@@ -24,7 +24,7 @@ pub fn output_names()
     ensures assembled { assembled_name (codes "a.txt") ≡ codes "a.txt.bin" }
 {}
 
-/// Worked examples: a lane of one byte, listed and assembled again; and a Sync word told as any code, which is refused.
+/// Worked examples: a lane of one byte, listed and assembled again; and a Sync word written as any code, which is refused.
 pub fn worked_files()
     ensures listed { OneByteListed }
     ensures assembled { OneByteAssembled }

@@ -1,4 +1,4 @@
-//! The commands of listings: `list` tells a words file or a lane file as text, and `assemble` makes the file of a text.
+//! The commands of listings: `list` writes a words file or a lane file as text, and `assemble` makes the file of a text.
 #![tactic(auto)]
 
 mod assemble_text;

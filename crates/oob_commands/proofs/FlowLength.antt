@@ -12,8 +12,9 @@ use Rattle.lk_base.specs.Limits.{rows_limit}
 use Rattle.stream_model.specs.declared.rows.FlowRow.{FlowRow}
 use Rattle.oob_flow.specs.Reading.{rows_of_samples}
 use Rattle.oob_flow.proofs.Going.{few_rows, slots_below}
-use Rattle.oob_commands.specs.FlowFile.{hex, flow_fields, flow_file}
-use Rattle.oob_commands.proofs.Hexes.{hex_length}
+use Rattle.oob_commands.specs.FlowFile.{flow_fields, flow_file}
+use Rattle.lk_base.specs.Hex.{hex}
+use Rattle.lk_base.proofs.HexDigits.{length-hex}
 
 -- ---- fields of digits have no quotation mark
 
@@ -64,7 +65,7 @@ unfolding fields_text is_blank
 row_long row h =
     let digits = length-decimal-le 7 row.slot (omega arith) (omega arith) (omega arith) in
     let slot = field_long (decimal row.slot) (decimal_plain row.slot (omega arith)) in
-    let sixteen = hex_length 16 row.word in
+    let sixteen = length-hex 16 row.word in
     let word = field_long (hex 16 row.word) (hex_plain 16 row.word) in
     simp length-append (omega arith)
 

@@ -20,7 +20,8 @@ use Rattle.link_plan.specs.Refusals.{refused_by}
 use Rattle.oob_flow.specs.Reading.{rows_of_samples}
 use Rattle.oob_flow.proofs.Going.{in_order_of_slots, slots_below, words_below}
 use Rattle.csv_rows.specs.Written.{rows_writer}
-use Rattle.oob_commands.specs.FlowFile.{hex, flow_fields, flow_file}
+use Rattle.oob_commands.specs.FlowFile.{flow_fields, flow_file}
+use Rattle.lk_base.specs.Hex.{hex}
 use Rattle.csv_rows.proofs.Decimals.{IsShort, decimal-read, decimal-text, decimal-some, decimal-ascii}
 use Rattle.oob_commands.proofs.Hexes.{word_back}
 use Rattle.csv_rows.specs.Written.{rows_text}

@@ -7,12 +7,12 @@ use Rattle.std.proofs.lemmas.List.{length-append, length-map}
 use Rattle.std.proofs.Math.Nat.{mul-suc}
 use Rattle.std.specs.List.{flat_map, range_with_len}
 use Rattle.std.proofs.lemmas.List.Concat.{flat_map-append}
+use Rattle.lk_base.proofs.Lists.{split_range}
 use Rattle.stream_model.specs.declared.rows.LocalRow.{LocalRow}
 use Rattle.oob_flow.specs.Frames.{frame_length}
 use Rattle.oob_flow.specs.Written.{written_frame, frame_begin, states_at, BeginsAfterRows, AreWritten}
 use Rattle.oob_flow.proofs.Writings.{frame_long}
 use Rattle.oob_flow.proofs.Blocks.{long_frame, frame_samples_length}
-use Rattle.oob_flow.proofs.ReadingBack.{split_range}
 use Rattle.lk_outside.specs.Files.{Files, Told}
 use Rattle.run_stops.specs.declared.stop.Stop.{Stop}
 use Rattle.run_shell.specs.Outcome.{HoldsPart}

@@ -18,7 +18,8 @@ use Rattle.csv.specs.Writing.{row_text}
 use Rattle.stream_model.specs.declared.rows.FlowRow.{FlowRow}
 use Rattle.oob_flow.specs.Reading.{rows_at, rows_of_samples}
 use Rattle.csv_rows.specs.Written.{rows_writer}
-use Rattle.oob_commands.specs.FlowFile.{hex, flow_fields, flow_file}
+use Rattle.oob_commands.specs.FlowFile.{flow_fields, flow_file}
+use Rattle.lk_base.specs.Hex.{hex}
 
 abbrev one_row : FlowRow → List ℕ
 one_row row = row_text rows_writer (flow_fields row)
@@ -51,10 +52,6 @@ same_file before now e = ap (λ rows. flow_file rows ∷ []) (sym (e ∙ append-
 
 pub rows_count : (before now : List FlowRow) (slot : ℕ) (words : List ℕ) (n : ℕ) → now ≡ before ++ rows_at slot words → n ≡ length words → length now ≡ length before + n
 rows_count before now slot words n e is = ap length e ∙ length-append before (rows_at slot words) ∙ ap (λ m. length before + m) (length-map words _ ∙ sym is)
-
-pub no_elements : (xs : List ℕ) → length xs ≡ 0 → xs ≡ []
-no_elements [] e = refl
-no_elements (x ∷ xs) e = absurd (omega arith)
 
 pub small : (x : ℕ) → nat_lt x 8 ≡ true → x < 8
 small x h = grind (arith, nat_tests)

@@ -1,5 +1,5 @@
 -- The two works: what they come to is lawful, and what is written of a content is what they make.
-use Rattle.std.proofs.Common.{◌≡◌, ℕ, zero, suc, ◌≤◌, true, List, [], ◌∷◌, ◌++◌, length, nat_le, refl, sym, ap, ap₂, ◌∙◌, subst, arith, Option, Result, Contains, All, inr}
+use Rattle.std.proofs.Common.{◌≡◌, ℕ, zero, suc, ◌≤◌, true, List, [], ◌∷◌, ◌++◌, length, nat_le, refl, sym, ap, ap₂, ◌∙◌, subst, arith, Option, Result, All, inr}
 use lib.Chars.{codes}
 use Rattle.std.specs.List.{list_all}
 use Rattle.std.proofs.lemmas.Bool.{and_parts, leb-true}
@@ -51,11 +51,6 @@ read_work name = record {
 
 pub read_means : (name : List ℕ) → IsMeaning (oob_read_meaning name)
 read_means name = is_meaning (oob_read_work name) (read_work name)
-
--- the one name that is created
-pub only_name : (n q : List ℕ) → Contains (n ∷ []) q → q ≡ n
-only_name n q (zero, lt, e) = sym e
-only_name n q (suc k, lt, e) = absurd (omega arith)
 
 -- ---- samples
 

@@ -1,17 +1,12 @@
 -- A flow file as it is written.
-use Rattle.std.specs.Prelude.{ℕ, zero, suc, ◌/◌, ◌%◌, List, [], ◌∷◌, ◌++◌, true}
+use Rattle.std.specs.Prelude.{ℕ, List, [], ◌∷◌}
 use Rattle.std.specs.List.{flat_map}
-use Rattle.std.specs.Fmt.{decimal, digit_glyph}
+use Rattle.std.specs.Fmt.{decimal}
+use Rattle.lk_base.specs.Hex.{hex}
 use Rattle.csv.specs.Writing.{row_text}
 use Rattle.csv_rows.specs.Rows.{Row}
 use Rattle.csv_rows.specs.Written.{rows_writer}
 use Rattle.stream_model.specs.declared.rows.FlowRow.{FlowRow}
-
--- the last n hexadecimal digits of a number, in upper case: the last is that of its remainder by 16, and those before it are
--- the digits of its quotient
-unfoldable pub hex : ℕ → ℕ → List ℕ
-hex zero x = []
-hex (suc n) x = hex n (x / 16) ++ digit_glyph true (x % 16) ∷ []
 
 -- the fields of a row: its slot, and its word in 16 digits
 abbrev pub flow_fields : FlowRow → Row

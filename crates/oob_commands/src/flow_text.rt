@@ -1,38 +1,17 @@
 //! The text of a flow file's rows.
-ghost use Rattle.std.specs.Prelude.{◌≡◌, ◌<◌, ◌≤◌, ◌++◌, [], ◌∷◌, true, Some, OnOk, OnErr, IfOk, map, string_bytes};
-ghost use Rattle.std.specs.Fmt.{decimal, digit_glyph};
+ghost use Rattle.std.specs.Prelude.{◌≡◌, ◌<◌, [], ◌∷◌, true, Some, OnOk, IfOk, map, string_bytes};
+ghost use Rattle.std.specs.Fmt.{decimal};
 ghost use Rattle.std.specs.Io.KnownBytes.{Appends};
 ghost use Rattle.csv.specs.Writing.{text_written, row_text};
 ghost use Rattle.link_reports.specs.TableWriter.{IsBetweenRows};
 ghost use Rattle.oob_flow.specs.Reading.{rows_at};
 ghost use Rattle.csv_rows.specs.Written.{rows_writer};
-ghost use Rattle.oob_commands.specs.FlowFile.{hex, flow_file};
+ghost use Rattle.oob_commands.specs.FlowFile.{flow_file};
+ghost use Rattle.lk_base.specs.Hex.{hex};
 
 use csv::{Writer, WriterBuilder};
-use lk_base::OutOfMemory;
+use lk_base::{OutOfMemory, put_hex};
 use std::alloc::{AllocError, Global};
-
-// The character of a hexadecimal digit.
-fn glyph(digit: u8) -> u8
-    requires { digit < 16 }
-    ensures { result ≡ digit_glyph true digit }
-{
-    if digit < 10 { 48 + digit } else { 55 + digit }
-}
-
-// Appends the last `count` hexadecimal digits of a number.
-#[tactic(auto, unfolding(crate::specs::FlowFile::hex))]
-fn put_hex(text: &mut Vec<u8>, count: u32, x: u64) -> Result<(), OutOfMemory>
-    requires { count ≤ 16 }
-    ensures { OnOk result (text.new.items ≡ text.old.items ++ hex count x) }
-{
-    if count == 0 {
-        return Ok(());
-    }
-    put_hex(text, count - 1, x / 16)?;
-    text.push(glyph((x % 16) as u8))?;
-    Ok(())
-}
 
 // A word in 16 digits.
 fn word_text(alloc: Global, word: u64) -> Result<Vec<u8>, OutOfMemory>

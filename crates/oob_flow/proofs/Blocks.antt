@@ -3,11 +3,10 @@ use Rattle.std.proofs.Common.{◌≡◌, ℕ, zero, suc, ◌+◌, ◌-◌, ◌*�
 use Rattle.std.specs.Int.{bit_at}
 use Rattle.std.proofs.lemmas.Nat.Bits.{bit_at_lowest}
 use Rattle.std.proofs.lemmas.Bool.Decides.{nat_tests}
-use Rattle.control_words.specs.ControlWord.{bit}
 use Rattle.std.specs.List.{flat_map}
 use Rattle.std.proofs.lemmas.Bool.{cases_lt}
 use Rattle.std.proofs.lemmas.List.{length-append, length-take-le, length-drop}
-use Rattle.lk_base.specs.Checksum.{bits_of}
+use Rattle.lk_base.specs.Checksum.{bits_of, digit}
 use Rattle.oob_flow.specs.Frames.{block_sizes, sizes_left, block_bits, block_checksum, blocks_from, frame_bits, frame_length, bit_samples, samples_of_bits, frame_samples}
 
 one_block : (n : ℕ) → 1 ≤ n → n ≤ 64 → block_sizes n ≡ n ∷ []
@@ -108,26 +107,26 @@ four_pushed x xs a b c d e f g h =
 
 -- ---- the sample at a place
 
-pub others_at : (bits : List Bool) (place : ℕ) → place < 2 * length bits → get_or (flat_map (bit_samples false) bits) place 0 ≡ place % 2 + 2 * bit (get_or bits (place / 2) false) + 4 * 0
+pub others_at : (bits : List Bool) (place : ℕ) → place < 2 * length bits → get_or (flat_map (bit_samples false) bits) place 0 ≡ place % 2 + 2 * digit (get_or bits (place / 2) false) + 4 * 0
 others_at [] place h = absurd (omega arith)
 others_at (b ∷ bits) zero h = refl
 others_at (b ∷ bits) (suc zero) h = refl
 others_at (b ∷ bits) (suc (suc place)) h =
-    let rest : get_or (flat_map (bit_samples false) bits) place 0 ≡ place % 2 + 2 * bit (get_or bits (place / 2) false) + 4 * 0 = others_at bits place (omega arith) in
+    let rest : get_or (flat_map (bit_samples false) bits) place 0 ≡ place % 2 + 2 * digit (get_or bits (place / 2) false) + 4 * 0 = others_at bits place (omega arith) in
     let clock : suc (suc place) % 2 ≡ place % 2 = omega arith in
     let half : suc (suc place) / 2 ≡ suc (place / 2) = omega arith in
-    rest ∙ sym (ap₂ (λ (m n : ℕ). m + 2 * bit (get_or (b ∷ bits) n false) + 4 * 0) clock half)
+    rest ∙ sym (ap₂ (λ (m n : ℕ). m + 2 * digit (get_or (b ∷ bits) n false) + 4 * 0) clock half)
 
-pub sample_in : (bits : List Bool) (place : ℕ) → place < 2 * length bits → get_or (samples_of_bits bits) place 0 ≡ place % 2 + 2 * bit (get_or bits (place / 2) false) + 4 * bit (nat_lt place 2)
+pub sample_in : (bits : List Bool) (place : ℕ) → place < 2 * length bits → get_or (samples_of_bits bits) place 0 ≡ place % 2 + 2 * digit (get_or bits (place / 2) false) + 4 * digit (nat_lt place 2)
 sample_in [] place h = absurd (omega arith)
 sample_in (b ∷ bits) zero h = refl
 sample_in (b ∷ bits) (suc zero) h = refl
 sample_in (b ∷ bits) (suc (suc place)) h =
-    let rest : get_or (flat_map (bit_samples false) bits) place 0 ≡ place % 2 + 2 * bit (get_or bits (place / 2) false) + 4 * 0 = others_at bits place (omega arith) in
+    let rest : get_or (flat_map (bit_samples false) bits) place 0 ≡ place % 2 + 2 * digit (get_or bits (place / 2) false) + 4 * 0 = others_at bits place (omega arith) in
     let clock : suc (suc place) % 2 ≡ place % 2 = omega arith in
     let half : suc (suc place) / 2 ≡ suc (place / 2) = omega arith in
     let late : nat_lt (suc (suc place)) 2 ≡ false = grind (arith, nat_tests) in
-    rest ∙ sym (ap₂ (λ (m n : ℕ). m + 2 * bit (get_or (b ∷ bits) n false) + 4 * bit (nat_lt (suc (suc place)) 2)) clock half ∙ ap (λ (t : Bool). place % 2 + 2 * bit (get_or bits (place / 2) false) + 4 * bit t) late)
+    rest ∙ sym (ap₂ (λ (m n : ℕ). m + 2 * digit (get_or (b ∷ bits) n false) + 4 * digit (nat_lt (suc (suc place)) 2)) clock half ∙ ap (λ (t : Bool). place % 2 + 2 * digit (get_or bits (place / 2) false) + 4 * digit t) late)
 
 -- how many blocks there are
 counted_blocks : (q r : ℕ) → length (replicate q 64 ++ r ∷ []) ≡ q + 1

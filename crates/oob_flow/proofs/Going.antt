@@ -6,7 +6,7 @@ use Rattle.std.proofs.lemmas.Bool.{cases_lt}
 use Rattle.std.proofs.lemmas.List.{length_push, length-append, length-map, length-take-le}
 use Rattle.std.proofs.lemmas.List.Sorted.{IsNonDecreasingBy-short, IsNonDecreasingBy-push}
 use Rattle.std.proofs.lemmas.List.Elements.{All-nil, All-cons, All-append, All-weaker, All-head, All-tail}
-use Rattle.control_words.specs.ControlWord.{bit}
+use Rattle.lk_base.specs.Checksum.{digit}
 use Rattle.stream_model.specs.Calendar.{is_valid}
 use Rattle.stream_model.specs.declared.rows.FlowRow.{FlowRow}
 use Rattle.oob_flow.specs.Samples.{clock_of, data_of, sync_of}
@@ -304,14 +304,14 @@ unfolding rows_of_samples
 zero_or_valid entries samples low = All-weaker (λ (row : FlowRow). IsGiven row.word) (λ (row : FlowRow). (row.word ≡ 0) ⊎ IsTrue (is_valid row.word)) (λ row h. h.told) (rows_of_bits entries (taken samples)) (way_of entries samples low).words
 
 -- a bit takes two samples at least, but for the first
-edge : (n sample : ℕ) (samples : List ℕ) (clock before : Bool) → clock_of sample ≡ clock → 2 * length (taken_from (n + 1) (clock_of sample) samples) + bit (clock_of sample) ≤ length samples + 1
-    → 2 * length (taken_at n before sample ++ taken_from (n + 1) (clock_of sample) samples) + bit before ≤ suc (length samples) + 1
+edge : (n sample : ℕ) (samples : List ℕ) (clock before : Bool) → clock_of sample ≡ clock → 2 * length (taken_from (n + 1) (clock_of sample) samples) + digit (clock_of sample) ≤ length samples + 1
+    → 2 * length (taken_at n before sample ++ taken_from (n + 1) (clock_of sample) samples) + digit before ≤ suc (length samples) + 1
 edge n sample samples true true e h = let rest = rw e at h in rw e (omega arith)
 edge n sample samples true false e h = let rest = rw e at h in rw e (omega arith)
 edge n sample samples false true e h = let rest = rw e at h in rw e (omega arith)
 edge n sample samples false false e h = let rest = rw e at h in rw e (omega arith)
 
-edges : (n : ℕ) (before : Bool) (samples : List ℕ) → 2 * length (taken_from n before samples) + bit before ≤ length samples + 1
+edges : (n : ℕ) (before : Bool) (samples : List ℕ) → 2 * length (taken_from n before samples) + digit before ≤ length samples + 1
 edges n true [] = omega arith
 edges n false [] = omega arith
 edges n before (sample ∷ samples) = edge n sample samples (clock_of sample) before refl (edges (n + 1) (clock_of sample) samples)

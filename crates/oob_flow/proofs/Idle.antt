@@ -5,9 +5,10 @@ use Rattle.std.proofs.lemmas.Bool.{cases_lt}
 use Rattle.std.proofs.Math.Nat.{add-mul, mul_comm, mul_assoc, pow-suc}
 use Rattle.std.proofs.lemmas.Nat.Bits.{bit_at_cat_low, bit_at_cat_high}
 use Rattle.std.proofs.lemmas.List.{length-append, length-take-le, get_or-take, get_or_append_left, get_or-append_right, get_or-replicate, get_or_past}
-use Rattle.lk_base.specs.Checksum.{control_crc, crc24, bits_of, bits_of_words}
+use Rattle.lk_base.specs.Checksum.{control_crc, crc24, bits_of, bits_of_words, digit}
 use Rattle.lk_base.specs.Fields.{control_field, burst_field, sop_field, eop_field, reset_field, flow_field, channel_field, multi_field, crc_field, is_control_word}
-use Rattle.control_words.specs.ControlWord.{IsWordOf, bit, eop_format}
+use Rattle.lk_base.proofs.Bits.{digit_small, digit_back}
+use Rattle.control_words.specs.ControlWord.{IsWordOf, eop_format}
 use Rattle.control_words.specs.declared.fields.Control.{Control}
 use Rattle.control_words.specs.declared.fields.Eop.TheVariants.{Going}
 use Rattle.control_words.proofs.SameControl.{word_is_control}
@@ -17,14 +18,6 @@ use Rattle.stream_model.proofs.OneStream.{flow_bit}
 use Rattle.stream_model.proofs.MadeControl.{crc_small}
 
 -- ---- the number that bits spell
-
-pub bit_small : (b : Bool) → bit b < 2
-bit_small true = omega arith
-bit_small false = omega arith
-
-pub bit_back : (b : Bool) → (bit b == 1) ≡ b
-bit_back true = refl
-bit_back false = refl
 
 -- (2 * n + b) * p, where q is twice p
 shifted : (n b p q s : ℕ) → q ≡ p * 2 → (2 * n + b) * p + s ≡ n * q + ((2 * 0 + b) * p + s)
@@ -38,18 +31,18 @@ shifted n b p q s e =
 pub spelled_behind : (n : ℕ) (bits : List Bool) → spelled_from n bits ≡ n * 2 ^ length bits + spelled_from 0 bits
 spelled_behind n [] = omega arith
 spelled_behind n (b ∷ bits) =
-    let here : spelled_from (2 * n + bit b) bits ≡ (2 * n + bit b) * 2 ^ length bits + spelled_from 0 bits = spelled_behind (2 * n + bit b) bits in
-    let alone : spelled_from (2 * 0 + bit b) bits ≡ (2 * 0 + bit b) * 2 ^ length bits + spelled_from 0 bits = spelled_behind (2 * 0 + bit b) bits in
-    here ∙ shifted n (bit b) (2 ^ length bits) (2 ^ suc (length bits)) (spelled_from 0 bits) (pow-suc 2 (length bits)) ∙ ap (λ (m : ℕ). n * 2 ^ suc (length bits) + m) (sym alone)
+    let here : spelled_from (2 * n + digit b) bits ≡ (2 * n + digit b) * 2 ^ length bits + spelled_from 0 bits = spelled_behind (2 * n + digit b) bits in
+    let alone : spelled_from (2 * 0 + digit b) bits ≡ (2 * 0 + digit b) * 2 ^ length bits + spelled_from 0 bits = spelled_behind (2 * 0 + digit b) bits in
+    here ∙ shifted n (digit b) (2 ^ length bits) (2 ^ suc (length bits)) (spelled_from 0 bits) (pow-suc 2 (length bits)) ∙ ap (λ (m : ℕ). n * 2 ^ suc (length bits) + m) (sym alone)
 
 -- one more bit at the end
-pub spelled_push : (n : ℕ) (bits : List Bool) (b : Bool) → spelled_from n (bits ++ b ∷ []) ≡ 2 * spelled_from n bits + bit b
+pub spelled_push : (n : ℕ) (bits : List Bool) (b : Bool) → spelled_from n (bits ++ b ∷ []) ≡ 2 * spelled_from n bits + digit b
 spelled_push n [] b = refl
-spelled_push n (a ∷ bits) b = spelled_push (2 * n + bit a) bits b
+spelled_push n (a ∷ bits) b = spelled_push (2 * n + digit a) bits b
 
 -- the first bit stands highest
-spelled_first : (b : Bool) (bits : List Bool) → spelled_from 0 (b ∷ bits) ≡ bit b * 2 ^ length bits + spelled_from 0 bits
-spelled_first b bits = let z : 2 * 0 + bit b ≡ bit b = omega arith in ap (λ (n : ℕ). spelled_from n bits) z ∙ spelled_behind (bit b) bits
+spelled_first : (b : Bool) (bits : List Bool) → spelled_from 0 (b ∷ bits) ≡ digit b * 2 ^ length bits + spelled_from 0 bits
+spelled_first b bits = let z : 2 * 0 + digit b ≡ digit b = omega arith in ap (λ (n : ℕ). spelled_from n bits) z ∙ spelled_behind (digit b) bits
 
 spelled_below : (bits : List Bool) → spelled_from 0 bits < 2 ^ length bits
 spelled_below [] = omega arith
@@ -59,7 +52,7 @@ spelled_below (b ∷ bits) =
     let double : 2 ^ suc (length bits) ≡ 2 ^ length bits * 2 = pow-suc 2 (length bits) in
     top b (2 ^ length bits) (spelled_from 0 bits) (spelled_from 0 (b ∷ bits)) (2 ^ suc (length bits)) e double rest
   where
-    top : (b : Bool) (p s t q : ℕ) → t ≡ bit b * p + s → q ≡ p * 2 → s < p → t < q
+    top : (b : Bool) (p s t q : ℕ) → t ≡ digit b * p + s → q ≡ p * 2 → s < p → t < q
     top true p s t q e d h = omega arith
     top false p s t q e d h = omega arith
 
@@ -74,16 +67,16 @@ spelled_at (b ∷ bits) zero h =
     let place : suc (length bits) - 1 - 0 ≡ length bits = omega arith in
     let none : length bits - length bits ≡ 0 = omega arith in
     ap₂ (λ (n m : ℕ). bit_at n m == 1) (spelled_first b bits) place
-    ∙ ap (λ (n : ℕ). n == 1) (bit_at_cat_high (bit b) (length bits) (spelled_from 0 bits) (length bits) (spelled_below bits) (omega arith) ∙ ap (bit_at (bit b)) none ∙ own b)
-    ∙ bit_back b
+    ∙ ap (λ (n : ℕ). n == 1) (bit_at_cat_high (digit b) (length bits) (spelled_from 0 bits) (length bits) (spelled_below bits) (omega arith) ∙ ap (bit_at (digit b)) none ∙ own b)
+    ∙ digit_back b
   where
-    own : (b : Bool) → bit_at (bit b) 0 ≡ bit b
+    own : (b : Bool) → bit_at (digit b) 0 ≡ digit b
     own true = refl
     own false = refl
 spelled_at (b ∷ bits) (suc i) h =
     let place : suc (length bits) - 1 - suc i ≡ length bits - 1 - i = omega arith in
     ap₂ (λ (n m : ℕ). bit_at n m == 1) (spelled_first b bits) place
-    ∙ ap (λ (n : ℕ). n == 1) (bit_at_cat_low (bit b) (length bits) (spelled_from 0 bits) (length bits - 1 - i) (omega arith))
+    ∙ ap (λ (n : ℕ). n == 1) (bit_at_cat_low (digit b) (length bits) (spelled_from 0 bits) (length bits - 1 - i) (omega arith))
     ∙ spelled_at bits i (omega arith)
 
 -- ---- flow bits
@@ -170,7 +163,7 @@ module _ (r f c : ℕ) (rs : r < 2) (fs : f < 2 ^ 16) (cs : c < 2 ^ 24) where
 crc_of : Bool → ℕ → ℕ
 crc_of b f = control_crc [] (bare_idle b f)
 
-as_put : (reset : Bool) (flow : ℕ) → idle_word reset flow ≡ put (bit reset) flow (crc_of reset flow)
+as_put : (reset : Bool) (flow : ℕ) → idle_word reset flow ≡ put (digit reset) flow (crc_of reset flow)
 unfolding idle_word put crc_of
 as_put b f = refl
 
@@ -182,8 +175,8 @@ crc_of_small b f = crc_small (bits_of_words [] ++ bits_of 64 (bare_idle b f / 2 
 sealed_alone : (reset : Bool) (flow : ℕ) → flow < 2 ^ 16 → crc_of reset flow ≡ control_crc [] (idle_word reset flow)
 unfolding idle_word put crc_of
 sealed_alone b f h =
-    let cov = cleared (bit b) f (crc_of b f) (bit_small b) h (crc_of_small b f) in
-    let z : 2 ^ 63 + bit b * 2 ^ 56 + f * 2 ^ 40 + 0 ≡ 2 ^ 63 + bit b * 2 ^ 56 + f * 2 ^ 40 = omega arith in
+    let cov = cleared (digit b) f (crc_of b f) (digit_small b) h (crc_of_small b f) in
+    let z : 2 ^ 63 + digit b * 2 ^ 56 + f * 2 ^ 40 + 0 ≡ 2 ^ 63 + digit b * 2 ^ 56 + f * 2 ^ 40 = omega arith in
     sym (ap (λ (x : ℕ). crc24 (bits_of_words [] ++ bits_of 64 x)) (cov ∙ ap (λ (x : ℕ). x / 2 ^ 24 * 2 ^ 24) z))
 
 pub is_word : (reset_bit : Bool) (flow_bits : ℕ) (c : Control) → flow_bits < 2 ^ 16 → c.burst ≡ false → c.sop ≡ false → c.eop ≡ Going → c.reset ≡ reset_bit → c.flow ≡ flow_bits → c.channel ≡ 0 → c.multi ≡ 0
@@ -191,18 +184,18 @@ pub is_word : (reset_bit : Bool) (flow_bits : ℕ) (c : Control) → flow_bits <
 is_word b f c h e1 e2 e3 e4 e5 e6 e7 =
     let crc_is : crc_of b f ≡ control_crc [] (idle_word b f) = sealed_alone b f h in
     let small = crc_of_small b f in
-    let r = bit_small b in
+    let r = digit_small b in
     subst (λ (x : ℕ). IsWordOf c (control_crc [] (idle_word b f)) x) (sym (as_put b f)) (record {
-      sized = sized (bit b) f (crc_of b f) r h small;
-      control = control (bit b) f (crc_of b f) r h small;
-      burst = burst (bit b) f (crc_of b f) r h small ∙ sym (ap bit e1);
-      sop = sop (bit b) f (crc_of b f) r h small ∙ sym (ap bit e2);
-      eop = eop (bit b) f (crc_of b f) r h small ∙ sym (ap eop_format e3);
-      reset = reset (bit b) f (crc_of b f) r h small ∙ sym (ap bit e4);
-      flow = flow (bit b) f (crc_of b f) r h small ∙ sym e5;
-      channel = channel (bit b) f (crc_of b f) r h small ∙ sym e6;
-      multi = multi (bit b) f (crc_of b f) r h small ∙ sym e7;
-      checksum = crc (bit b) f (crc_of b f) r h small ∙ crc_is;
+      sized = sized (digit b) f (crc_of b f) r h small;
+      control = control (digit b) f (crc_of b f) r h small;
+      burst = burst (digit b) f (crc_of b f) r h small ∙ sym (ap digit e1);
+      sop = sop (digit b) f (crc_of b f) r h small ∙ sym (ap digit e2);
+      eop = eop (digit b) f (crc_of b f) r h small ∙ sym (ap eop_format e3);
+      reset = reset (digit b) f (crc_of b f) r h small ∙ sym (ap digit e4);
+      flow = flow (digit b) f (crc_of b f) r h small ∙ sym e5;
+      channel = channel (digit b) f (crc_of b f) r h small ∙ sym e6;
+      multi = multi (digit b) f (crc_of b f) r h small ∙ sym e7;
+      checksum = crc (digit b) f (crc_of b f) r h small ∙ crc_is;
     })
 
 -- the fields that a calendar reads
@@ -220,7 +213,7 @@ idle_valid b f h =
     let same : (crc_field (idle_word b f) == control_crc [] (idle_word b f)) ≡ true = eq-eqb (crc_field (idle_word b f)) (control_crc [] (idle_word b f)) w.checksum in
     rw (control_is, same) refl
 
-pub idle_reset : (b : Bool) (f : ℕ) → f < 2 ^ 16 → reset_field (idle_word b f) ≡ bit b
+pub idle_reset : (b : Bool) (f : ℕ) → f < 2 ^ 16 → reset_field (idle_word b f) ≡ digit b
 unfolding idle_control
 idle_reset b f h = (own_word b f h).reset
 

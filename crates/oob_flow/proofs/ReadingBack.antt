@@ -6,6 +6,7 @@ use Rattle.std.proofs.lemmas.List.{length-map}
 use Rattle.std.proofs.lemmas.List.Concat.{flat_map-append}
 use Rattle.std.proofs.lemmas.List.{get_or_default}
 use Rattle.std.proofs.lemmas.List.Elements.{All-nil, All-append, All-weaker}
+use Rattle.lk_base.proofs.Lists.{split_range}
 use Rattle.stream_model.specs.Calendar.{is_on, is_locally_on, told_from}
 use Rattle.stream_model.specs.declared.rows.FlowRow.{FlowRow}
 use Rattle.stream_model.specs.declared.rows.LocalRow.{LocalRow}
@@ -20,13 +21,6 @@ use Rattle.oob_flow.proofs.Sent.{frame_taken, frame_states, frame_numbers, frame
 use Rattle.oob_flow.proofs.Rightly.{IsBetween, frame_right, right_rows, slots_between}
 use Rattle.oob_flow.proofs.Tells.{Tells, frame_tells}
 use Rattle.oob_flow.proofs.Latest.{frame_counts}
-
-pub split_range : (a m n : ℕ) → range_with_len a (m + n) ≡ range_with_len a m ++ range_with_len (a + m) n
-split_range a zero n = let e : 0 + n ≡ n = omega arith in let z : a ≡ a + 0 = omega arith in ap (range_with_len a) e ∙ ap (λ (b : ℕ). range_with_len b n) z
-split_range a (suc m) n =
-    let e : suc m + n ≡ suc (m + n) = omega arith in
-    let z : a + 1 + m ≡ a + suc m = omega arith in
-    ap (range_with_len a) e ∙ ap (λ (xs : List ℕ). a ∷ xs) (split_range (a + 1) m n ∙ ap (λ (b : ℕ). range_with_len (a + 1) m ++ range_with_len b n) z)
 
 module _ (entries : List ℕ) (local : List LocalRow) (some : 1 ≤ length entries) where
   -- the bits of frame k, and the rows that they are read as

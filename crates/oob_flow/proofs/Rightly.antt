@@ -4,8 +4,7 @@ use Rattle.std.specs.Int.{bit_at}
 use Rattle.std.proofs.lemmas.Bool.Decides.{nat_tests}
 use Rattle.std.proofs.lemmas.List.{length-append, length-take-le, length-drop, take_at, drop_at, drop-map}
 use Rattle.std.proofs.lemmas.List.Elements.{All-nil, All-cons, All-append}
-use Rattle.lk_base.specs.Checksum.{bits_of}
-use Rattle.control_words.specs.ControlWord.{bit}
+use Rattle.lk_base.specs.Checksum.{bits_of, digit}
 use Rattle.stream_model.specs.declared.rows.FlowRow.{FlowRow}
 use Rattle.oob_flow.specs.Frames.{block_sizes, block_checksum, block_bits, blocks_from, frame_bits}
 use Rattle.oob_flow.specs.Taken.{Taken}
@@ -20,7 +19,7 @@ four : (x : ℕ) → length (bits_of 4 x) ≡ 4
 unfolding bits_of
 four x = refl
 
-bit_of : (r : ℕ) → r < 2 → bit (r == 1) ≡ r
+bit_of : (r : ℕ) → r < 2 → digit (r == 1) ≡ r
 bit_of zero h = refl
 bit_of (suc zero) h = refl
 bit_of (suc (suc r)) h = absurd (omega arith)

@@ -1,12 +1,11 @@
--- The idle words that tell the states of a block.
+-- The idle words that carry the states of a block.
 use Rattle.std.specs.Prelude.{ℕ, zero, suc, ◌+◌, ◌*◌, ◌/◌, ◌^◌, Bool, true, false, List, [], ◌∷◌, ◌++◌, length, take, drop, replicate}
-use Rattle.lk_base.specs.Checksum.{control_crc}
-use Rattle.control_words.specs.ControlWord.{bit}
+use Rattle.lk_base.specs.Checksum.{control_crc, digit}
 
 -- the number that bits spell after n, the highest first
 abbrev pub spelled_from : ℕ → List Bool → ℕ
 spelled_from n [] = n
-spelled_from n (b ∷ bits) = spelled_from (2 * n + bit b) bits
+spelled_from n (b ∷ bits) = spelled_from (2 * n + digit b) bits
 
 unfoldable pub spelled : List Bool → ℕ
 spelled bits = spelled_from 0 bits
@@ -17,7 +16,7 @@ flow_bits states = spelled (take 16 (states ++ replicate 16 true))
 
 -- the idle word with these flow bits, before it has its checksum: no start, no end, channel 0, multiple use 0
 abbrev pub bare_idle : Bool → ℕ → ℕ
-bare_idle reset flow = 2 ^ 63 + bit reset * 2 ^ 56 + flow * 2 ^ 40
+bare_idle reset flow = 2 ^ 63 + digit reset * 2 ^ 56 + flow * 2 ^ 40
 
 -- the same with the checksum of the word alone
 unfoldable pub idle_word : Bool → ℕ → ℕ

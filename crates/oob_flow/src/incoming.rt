@@ -76,7 +76,7 @@ impl OobIn {
     }
 
     /// Takes the next sample, a byte below 8. `words` gets the words of the block that it ends, if it ends one: those that
-    /// tell the block's states, or the one word 0 where the checksum is wrong. Their slot is the number of the sample.
+    /// carry the block's states, or the one word 0 where the checksum is wrong. Their slot is the number of the sample.
     pub fn sample(&mut self, byte: u8, words: &mut ArrayVec<u64, 4>)
         requires sample { byte < 8 }
         requires empty { words.old.items ≡ [] }

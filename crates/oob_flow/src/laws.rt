@@ -52,7 +52,7 @@ pub fn rows_are_few()
     ensures { (entries : ℕ) (samples : List ℕ) → 1 ≤ entries → 10 * length (rows_of_samples entries samples) ≤ length samples + 1 }
 {}
 
-/// The word 0, which tells a wrong checksum, is an invalid word: no word after it counts before one with the reset bit. Each
+/// The word 0, which stands for a wrong checksum, is an invalid word: no word after it counts before one with the reset bit. Each
 /// word that samples give is 0 or valid.
 pub fn a_wrong_block_is_an_invalid_word()
     ensures invalid { is_valid 0 ≡ false }

@@ -22,7 +22,7 @@ zeros : (k : ℕ) (acc : List ℕ) → hex k 0 acc ≡ replicate k 48 ++ acc
 zeros zero acc = refl
 zeros (suc k) acc = zeros k (48 ∷ acc) ∙ sym (append_assoc (replicate k 48) (48 ∷ []) acc) ∙ ap (λ (l : List ℕ). l ++ acc) (one_more k 48)
 
--- the digits behind as many zeros as they want of k
+-- the digits after as many zeros as they lack of k
 filled : ℕ → List ℕ → List ℕ → List ℕ
 filled k acc ds = replicate (k + length acc - length ds) 48 ++ ds
 
@@ -53,7 +53,7 @@ padded-hex (suc f) (suc (suc k)) n acc small some le =
     by_test f (suc k) n acc (eqb (n / 16) 0) refl
     (λ ne. padded-hex f (suc k) (n / 16) (glyph n ∷ acc) (smaller (suc k) n small) (omega arith) (omega arith))
 
--- the digits stand behind zeros
+-- the digits stand after zeros
 laid : (ds : List ℕ) → padded_integral (format_spec 32 0 4 8 (2 ^ 64 - 1)) false [] ds ≡ filled 8 [] ds
 unfolding padded_integral char_count filled
 laid ds = let e : 8 - length ds - 0 - 0 ≡ 8 + 0 - length ds = omega arith in ap (λ (m : ℕ). replicate m 48 ++ (ds ++ [])) e ∙ ap (λ (l : List ℕ). replicate (8 + 0 - length ds) 48 ++ l) (append-nil ds)

@@ -1,4 +1,4 @@
--- What is left of a capture behind a packet: any bound that is above the bytes gives the same.
+-- What is left of a capture after a packet: any bound that is above the bytes gives the same.
 use Rattle.std.proofs.Common.{◌≡◌, ◌≢◌, ℕ, zero, suc, ◌+◌, ◌<◌, Bool, true, false, cond, List, length, Option, Some, None, Result, Ok, Err, refl, ap, arith, add-one}
 use Rattle.std.proofs.lemmas.Bool.{eqb-false}
 use Rattle.std.proofs.lemmas.List.{length-drop}
@@ -16,11 +16,11 @@ has_bytes p packet h =
     let ne : length p.rest ≢ 0 = eqb-false (length p.rest) 0 (not_first _ packet _ h) in
     omega arith
 
--- less is left behind a record
+-- less is left after a record
 pub shorter : (p : Place) (packet : List ℕ) → packet_at p ≡ Ok (Some packet) → length (behind p (length packet)).rest < length p.rest
 shorter p packet h = let has = has_bytes p packet h in simp length-drop (omega arith)
 
--- two ways on that agree behind the packet of a place
+-- two ways on that agree after the packet of a place
 agree : (f g : ℕ → Packets) (p : Place) (r : Result (Option (List ℕ)) PcapError) → packet_at p ≡ r → ((packet : List ℕ) → packet_at p ≡ Ok (Some packet) → f (length packet) ≡ g (length packet)) → packets_by f r ≡ packets_by g r
 agree f g p (Ok None) e h = refl
 agree f g p (Ok (Some packet)) e h = ap (with_packet packet) (h packet e)

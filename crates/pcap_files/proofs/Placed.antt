@@ -1,4 +1,4 @@
--- Each packet stands behind the head of its record.
+-- Each packet stands after the head of its record.
 use Rattle.std.proofs.Common.{◌≡◌, ℕ, zero, suc, ◌+◌, ◌≤◌, List, [], ◌∷◌, ◌++◌, length, map, take, drop, Some, Result, Ok, Err, IsOk, All, refl, sym, subst, ap, ap₂, ◌∙◌, arith, append_assoc}
 use Rattle.std.proofs.lemmas.List.{append-nil, drop-drop, length-drop, length-take, map-append, take_min}
 use Rattle.std.proofs.lemmas.List.Elements.{All-append}
@@ -12,7 +12,7 @@ use Rattle.pcap_files.specs.Records.{space_of, place_behind, IsWithin}
 use Rattle.pcap_files.proofs.Sizes.{packet-at}
 use Rattle.pcap_files.proofs.Stand.{records-stand}
 
--- a packet of a capture, behind the records of these packets
+-- a packet of a capture, after the records of these packets
 record StandsBehind (most : ℕ) (bytes : List ℕ) (before : List (List ℕ)) (packet : List ℕ) : Type 0 where
   within : IsWithin most packet
   inside : 24 + space_of before + (16 + length packet) ≤ length bytes

@@ -67,7 +67,7 @@ at-end p e =
     eqb-true (length p.rest) 0 (ended (length p.rest == 0) _
     (not_ended (nat_lt (length p.rest) 16) (size_at p == 0) (nat_lt p.most (size_at p)) (nat_lt (length p.rest - 16) (size_at p)) (Short p.offset) (Empty p.number) (Long p.number (size_at p)) (Short p.offset) (take (size_at p) (drop 16 p.rest))) e)
 
--- the packets that a place gives are within their limits, if those behind its packet are
+-- the packets that a place gives are within their limits, if those after its packet are
 within_by : (most : ℕ) (f : ℕ → Packets) (p : Place) (r : Result (Option (List ℕ)) PcapError) → p.most ≡ most → packet_at p ≡ r → ((q : List ℕ) → packet_at p ≡ Ok (Some q) → AllByRecursion (IsWithin most) (f (length q)).packets) → AllByRecursion (IsWithin most) (packets_by f r).packets
 within_by most f p (Ok None) m e h = tt
 within_by most f p (Err x) m e h = tt

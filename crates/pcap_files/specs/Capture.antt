@@ -35,7 +35,7 @@ pub record Place : Type 0 where
   pub offset : ℕ
   pub rest : List ℕ
 
--- the captured length that the record at a place tells
+-- the captured length that the record at a place states
 abbrev pub size_at : Place → ℕ
 size_at p = number p.order 4 8 p.rest
 
@@ -49,7 +49,7 @@ packet_at p =
     else if nat_lt (length p.rest - 16) (size_at p) then Err (Short p.offset)
     else Ok (Some (take (size_at p) (drop 16 p.rest)))
 
--- the place behind a record with a packet of this length
+-- the place after a record with a packet of this length
 abbrev pub behind : Place → ℕ → Place
 behind p size = record p { number = p.number + 1; offset = p.offset + (16 + size); rest = drop (16 + size) p.rest }
 
@@ -76,7 +76,7 @@ answer_by [] (Some e) = Err e
 abbrev pub answer_of : Packets → Result (Option (List ℕ)) PcapError
 answer_of p = answer_by p.packets p.refusal
 
--- what a place gives, where `more` gives what the place behind its packet does
+-- what a place gives, where `more` gives what the place after its packet does
 abbrev pub packets_by : (ℕ → Packets) → Result (Option (List ℕ)) PcapError → Packets
 packets_by more (Ok None) = nothing
 packets_by more (Ok (Some packet)) = with_packet packet (more (length packet))

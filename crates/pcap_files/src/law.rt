@@ -7,8 +7,8 @@ ghost use Rattle.pcap_files.specs.Records.{AreRecords, IsWithin, space_of};
 ghost use Rattle.pcap_files.specs.Written.{Fits, header_bytes, capture_bytes};
 ghost use Rattle.pcap_files.specs.Examples.{little_header, big_header, little_head, big_head, newer_format};
 
-/// The packets of a capture are those of its records, one behind the other from the header on, and a refusal is that of
-/// the record behind them. There is none exactly where the bytes end there.
+/// The packets of a capture are those of its records, one after the other from the header on, and a refusal is that of
+/// the record after them. There is none exactly where the bytes end there.
 pub fn records_stand()
     ensures records { (bytes : List ℕ) (most : ℕ) (order : Order) →
         header_of bytes ≡ Ok order → AreRecords order most bytes (reading_of bytes most) }

@@ -5,6 +5,7 @@
 mod capture;
 mod error;
 mod law;
+mod name;
 mod order;
 mod place;
 mod places;
@@ -14,7 +15,8 @@ mod writer;
 pub use capture::{CaptureError, packets_of};
 pub use error::{PcapError, refusal_text};
 pub use law::{examples, packets_fit, records_stand, written_is_read};
+pub use name::capture_name;
 pub use place::PacketPlace;
 pub use places::places_of;
 pub use reader::PcapReader;
-pub use writer::{write_header, write_packet};
+pub use writer::{put_record_head, write_header, write_packet};

@@ -10,7 +10,7 @@ pub enum Order {
     Little,
 }
 
-/// The order that the first four bytes tell, read high byte first.
+/// The order that the first four bytes give, read high byte first.
 pub fn order_by_magic(magic: u32) -> Option<Order>
     ensures { result ≡ order_of magic }
 {

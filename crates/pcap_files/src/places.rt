@@ -21,7 +21,7 @@ fn place_at(offset: u32, packet: &[u8]) -> PacketPlace
     }
 }
 
-// The offset behind a packet.
+// The offset after a packet.
 fn behind(place: PacketPlace) -> u32
     requires { place.start + place.size < 2 ^ 32 }
     ensures { result ≡ place.start + place.size }

@@ -1,17 +1,10 @@
-ghost use Rattle.std.specs.Prelude.{◌≡◌, ◌+◌, ◌^◌, ◌<◌, ◌≤◌, MatchResult, IfOk, IfSome, IfErr, IsOk, OnOk, None, Ok, Err, length, drop, option_map};
+ghost use Rattle.std.specs.Prelude.{◌≡◌, ◌+◌, ◌^◌, ◌<◌, ◌≤◌, MatchResult, IfOk, IfSome, IfErr, IsOk, OnOk, None, Ok, Err, length, option_map};
 ghost use Rattle.pcap_files.specs.Capture.{Packets, answer_of, header_of, packet_at, reading_of, nothing, refused, with_packet};
 
 use crate::error::PcapError;
 use crate::order::{Order, order_by_magic, u16_at, u32_at};
+use lk_base::tail;
 use std::marker::Model;
-
-// The bytes from a place on.
-fn tail(bytes: &[u8], at: usize) -> &[u8]
-    requires { at ≤ length bytes.now }
-    ensures { result.now ≡ drop at bytes.now }
-{
-    &bytes[at..]
-}
 
 // The order of a capture's fields.
 #[tactic(auto, unfolding(crate::specs::Capture::header_of))]
@@ -75,7 +68,7 @@ fn packet_of(
     Ok(Some(&captured[..size as usize]))
 }
 
-/// Lends the packets of a capture in order. A contract sees it as the packets that are left, and the refusal behind
+/// Lends the packets of a capture in order. A contract sees it as the packets that are left, and the refusal after
 /// them, if there is one.
 #[derive(Drop)]
 pub struct PcapReader<'a> {

@@ -6,7 +6,7 @@ use byteorder::{ByteOrder, LittleEndian};
 use lk_base::{LONGEST_PACKET, OutOfMemory};
 use std::alloc::Global;
 
-// Writes a number of two bytes behind what was written.
+// Writes a number of two bytes after what was written.
 fn put_u16(bytes: &mut [u8], at: usize, number: u16)
     requires { at + 2 ≤ length bytes.old }
     ensures { take (at + 2) bytes.new ≡ take at bytes.old ++ little_bytes 2 number }
@@ -14,7 +14,7 @@ fn put_u16(bytes: &mut [u8], at: usize, number: u16)
     LittleEndian::write_u16(&mut bytes[at..], number);
 }
 
-// Writes a number of four bytes behind what was written.
+// Writes a number of four bytes after what was written.
 fn put_u32(bytes: &mut [u8], at: usize, number: u32)
     requires { at + 4 ≤ length bytes.old }
     ensures { take (at + 4) bytes.new ≡ take at bytes.old ++ little_bytes 4 number }
@@ -36,8 +36,9 @@ fn put_header(bytes: &mut [u8], link_type: u32)
     put_u32(bytes, 20, link_type);
 }
 
+/// Writes what stands before a packet of this size in its record: two stamps of 0 and both lengths.
 #[tactic(auto, unfolding(crate::specs::Written::record_head))]
-fn put_record_head(bytes: &mut [u8], size: u32)
+pub fn put_record_head(bytes: &mut [u8], size: u32)
     requires { length bytes.old ≡ 16 }
     ensures { bytes.new ≡ record_head size }
 {

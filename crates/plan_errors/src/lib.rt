@@ -1,4 +1,4 @@
-//! Why plans and other files of rows are refused, and what is told of it.
+//! Why plans and other files of rows are refused, and what is reported of it.
 #![tactic(auto)]
 
 mod error;

@@ -7,7 +7,7 @@ use Rattle.reassembly.specs.Packets.{Packets, grown, with_kept}
 use Rattle.reassembly.proofs.Folds.{grown-more, kept-more}
 use Rattle.reassembly.proofs.Room.{set_over}
 
--- so many of the words came, and whether all are kept
+-- this many of the words came, and whether all are kept
 pub record Adding (old now : Packets) (place : ℕ) (words : List ℕ) (i : ℕ) (all : Bool) : Type 0 where
   pub state : now ≡ with_kept old place (grown_by old.greatest (bytes_at old.kept place) (take i words))
   pub kept : all ≡ are_kept old.greatest (bytes_at old.kept place) (take i words)

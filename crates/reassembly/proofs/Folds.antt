@@ -5,6 +5,7 @@ use Rattle.std.proofs.lemmas.Bool.{false≢true, lt-ltb, ne_eqb}
 use Rattle.std.proofs.lemmas.List.{set-get_or}
 use Rattle.lk_base.specs.Checksum.{bits_of, bits_of_words, register_after}
 use Rattle.lk_base.specs.declared.position.Pos.{Pos}
+use Rattle.std.proofs.Math.Bool.{and_assoc}
 use Rattle.lk_crc.proofs.Registers.{register_after-append}
 use Rattle.cell_pool.specs.Stored.{bytes_at}
 use Rattle.reassembly.specs.declared.channel.Channel.{Channel}
@@ -33,10 +34,6 @@ all_fit greatest (x ∷ xs) bytes whole fit =
     let fit_then : length xs ≤ (greatest - length (bytes ++ to_be_bytes w64 x) + 7) / 8 = omega arith in
     let rest = all_fit greatest xs (bytes ++ to_be_bytes w64 x) whole_then fit_then in
     (rw kept rest.0, rw kept (rest.1 ∙ append_assoc bytes (to_be_bytes w64 x) (flat_map (to_be_bytes w64) xs)))
-
-pub and_assoc : (a b c : Bool) → ((a && b) && c) ≡ (a && (b && c))
-and_assoc true b c = refl
-and_assoc false b c = refl
 
 -- the words up to one, and that one
 pub grown-more : (greatest : ℕ) (xs bytes : List ℕ) (x : ℕ) → grown_by greatest bytes (xs ++ x ∷ []) ≡ grown greatest (grown_by greatest bytes xs) x

@@ -1,14 +1,14 @@
 -- Words that all are kept of an open packet: the pool has cells for them, and shows the packet with them.
-use Rattle.std.proofs.Common.{ℕ, zero, suc, ◌≡◌, ◌+◌, ◌-◌, ◌*◌, ◌/◌, ◌%◌, ◌<◌, ◌≤◌, refl, sym, ap, ◌∙◌, subst, Bool, true, List, [], ◌∷◌, ◌++◌, length, set, flat_map, Option, Some, None, arith, length-append}
+use Rattle.std.proofs.Common.{ℕ, zero, suc, ◌≡◌, ◌+◌, ◌-◌, ◌*◌, ◌/◌, ◌%◌, ◌<◌, ◌≤◌, refl, sym, ap, ◌∙◌, subst, true, List, [], ◌∷◌, ◌++◌, length, set, flat_map, Option, Some, None, arith, length-append}
 use Rattle.std.specs.Int.{w64, to_be_bytes}
 use Rattle.std.proofs.lemmas.List.Sums.{sum_by-cons}
 use Rattle.std.proofs.Math.Nat.{suc-mul}
+use Rattle.lk_base.proofs.Bits.{length-words}
 use Rattle.cell_pool.specs.Stored.{Stored, bytes_at, cells_for, used_by, with_bytes}
 use Rattle.reassembly.specs.Folds.{are_kept, grown_by}
-use Rattle.reassembly.specs.Packets.{IsRoomy, Packets, delivered_bytes, most, with_kept}
+use Rattle.reassembly.specs.Packets.{IsRoomy, delivered_bytes, with_kept}
 use Rattle.reassembly.proofs.Delivered.{shown}
 use Rattle.reassembly.proofs.Folds.{all_fit}
-use Rattle.reassembly.proofs.Outs.{length-bytes}
 use Rattle.reassembly.proofs.Room.{all_most, roomy_next}
 
 -- all lists but one use at most as many cells as fit the others
@@ -45,7 +45,7 @@ module _ (greatest : ℕ) (pool : Stored) (d : Option ℕ) (roomy : IsRoomy grea
     both = all_fit greatest xs (bytes_at pool.lists place) whole_bytes fit
 
     long_now : length (bytes_at pool.lists place ++ flat_map (to_be_bytes w64) xs) ≡ length (bytes_at pool.lists place) + 8 * length xs
-    long_now = length-append (bytes_at pool.lists place) (flat_map (to_be_bytes w64) xs) ∙ ap (λ k. length (bytes_at pool.lists place) + k) (length-bytes xs)
+    long_now = length-append (bytes_at pool.lists place) (flat_map (to_be_bytes w64) xs) ∙ ap (λ k. length (bytes_at pool.lists place) + k) (length-words xs)
 
     pub many_room : used_by pool.lists + cells_for (length (bytes_at pool.lists place) + 8 * length xs) ≤ pool.cells + cells_for (length (bytes_at pool.lists place))
     many_room =

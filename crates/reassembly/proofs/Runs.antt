@@ -1,5 +1,5 @@
 -- Words of one group that are put many at once are put as one after another.
-use Rattle.std.proofs.Common.{ℕ, suc, zero, ◌≡◌, inl, inr, ◌+◌, ◌-◌, ◌<◌, ◌≤◌, refl, sym, ap, ◌∙◌, subst, Bool, true, false, cond, List, [], ◌∷◌, ◌++◌, append_assoc, append-nil, length, map, take, drop, get_or, arith}
+use Rattle.std.proofs.Common.{ℕ, suc, ◌≡◌, inr, ◌+◌, ◌-◌, ◌<◌, ◌≤◌, refl, sym, ap, ◌∙◌, subst, Bool, true, false, cond, List, [], ◌∷◌, ◌++◌, append_assoc, append-nil, length, map, take, drop, get_or, arith}
 use Rattle.std.specs.List.{list_all}
 use Rattle.std.proofs.lemmas.Bool.{and_parts, false≢true}
 use Rattle.std.proofs.Math.ListN.{drop_of_length-le}
@@ -11,12 +11,12 @@ use Rattle.lk_base.specs.declared.word.Aligned.TheVariants.{Group, Word, Break}
 use Rattle.lk_base.specs.declared.word.RxWord.{RxWord}
 use Rattle.lk_base.specs.declared.word.RxWord.TheVariants as words
 use Rattle.lk_base.specs.Positions.{is_before, words_from}
-use Rattle.receive_model.specs.Behind.{is_earlier}
+use Rattle.receive_model.specs.Behind.{is_earlier, is_after}
 use Rattle.receive_model.specs.Events.{Event, Setting}
 use Rattle.receive_model.proofs.Cuts.{split}
 use Rattle.receive_model.proofs.Order.{before-trans, before_from}
 use Rattle.reassembly.specs.Folds.{with_data_at_once, with_data_words}
-use Rattle.reassembly.specs.Runs.{after_words, ends_quietly, is_after, run_of}
+use Rattle.reassembly.specs.Runs.{after_words, ends_quietly, run_of}
 use Rattle.reassembly.specs.Stands.{Stands}
 use Rattle.reassembly.specs.States.{NothingWaits, State, gives_nothing_word}
 use Rattle.reassembly.specs.Steps.{after_word}
@@ -36,7 +36,7 @@ earlier-next g i (Group at) h = refl
 earlier-next g i (Word at word) h = before-trans at (place g i) (place g (i + 1)) h (next-place g i)
 earlier-next g i (Break at why) h = before-trans at (place g i) (place g (i + 1)) h (next-place g i)
 
-after-next : (g i : ℕ) (w : RxWord) (put : List Aligned) → is_after (place g i) put ≡ true → is_after (place g (i + 1)) (put ++ Word (place g i) w ∷ []) ≡ true
+pub after-next : (g i : ℕ) (w : RxWord) (put : List Aligned) → is_after (place g i) put ≡ true → is_after (place g (i + 1)) (put ++ Word (place g i) w ∷ []) ≡ true
 after-next g i w [] h = rw (next-place g i) refl
 after-next g i w (x ∷ rest) h =
     let both = and_parts (is_earlier (place g i) x) (list_all (is_earlier (place g i)) rest) h in
@@ -150,3 +150,17 @@ data-run_of ws ns n few e =
     ∙ ap (λ (xs : List RxWord). run_of (xs ++ drop n ws)) e
     ∙ data-count (take n ns) (drop n ws)
     ∙ ap (λ (k : ℕ). k + run_of (drop n ws)) (length-take-le n ns few)
+
+-- ---- how many are put at once
+
+within_by : (quiet : Bool) (n m : ℕ) → n ≤ m → suc (cond quiet n 0) ≤ suc m
+within_by true n m le = omega arith
+within_by false n m le = omega arith
+
+pub run_within : (words : List RxWord) → run_of words ≤ length words
+run_within [] = omega arith
+run_within (w ∷ words) = within_by (gives_nothing_word w) (run_of words) (length words) (run_within words)
+
+pub run_some : (words : List RxWord) → 0 < length words → 0 < run_of words
+run_some [] lt = absurd (omega arith)
+run_some (w ∷ words) lt = omega arith

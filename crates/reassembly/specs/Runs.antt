@@ -1,11 +1,7 @@
 -- Words of one group that are put many at once.
-use Rattle.std.specs.Prelude.{ℕ, ◌≡◌, ◌+◌, ◌-◌, suc, Bool, true, cond, List, [], ◌∷◌, slice_index_or}
-use Rattle.std.specs.List.{list_all}
-use Rattle.lk_base.specs.declared.position.Pos.{Pos}
-use Rattle.lk_base.specs.declared.word.Aligned.{Aligned}
+use Rattle.std.specs.Prelude.{ℕ, ◌+◌, ◌-◌, suc, Bool, cond, List, [], ◌∷◌, slice_index_or}
 use Rattle.lk_base.specs.declared.word.RxWord.{RxWord}
 use Rattle.lk_base.specs.declared.word.RxWord.TheVariants as words
-use Rattle.receive_model.specs.Behind.{is_earlier}
 use Rattle.reassembly.specs.States.{State, gives_nothing_word}
 use Rattle.reassembly.specs.Steps.{after_word}
 
@@ -13,10 +9,6 @@ use Rattle.reassembly.specs.Steps.{after_word}
 abbrev pub run_of : List RxWord → ℕ
 run_of [] = 0
 run_of (w ∷ ws) = suc (cond (gives_nothing_word w) (run_of ws) 0)
-
--- the place stands after those of all words and breaks of these
-abbrev pub is_after : Pos → List Aligned → Bool
-is_after at put = list_all (is_earlier at) put
 
 -- the last of the first n of these words, where there is one, leaves no outputs
 abbrev pub ends_quietly : ℕ → List RxWord → Bool

@@ -4,16 +4,12 @@ use Rattle.lk_outside.specs.Files.{Files, Told}
 use Rattle.run_shell.specs.Outcome.{HoldsPart}
 use Rattle.run_shell.specs.Open.{Open}
 use Rattle.run_shell.specs.Outputs.{IsOpen, Prefixes, more, open_names, outs}
-use Rattle.run_shell.proofs.Fills.{given_prefixes, part_more, prefix_part}
+use Rattle.run_shell.proofs.Fills.{given_prefixes, part_more, prefix_part, same_prefixes}
 use Rattle.run_stops.proofs.Moves.{told_by}
-
-pub whole_begins : (xs : List (List ℕ)) → Prefixes xs xs
-whole_begins [] = tt
-whole_begins (x ∷ xs) = (([], sym (append-nil x)), whole_begins xs)
 
 more_begins : (gs : List (List ℕ)) (i : ℕ) (bytes : List ℕ) → Prefixes gs (more gs i bytes)
 more_begins [] i bytes = tt
-more_begins (g ∷ gs) zero bytes = ((bytes, refl), whole_begins gs)
+more_begins (g ∷ gs) zero bytes = ((bytes, refl), same_prefixes gs)
 more_begins (g ∷ gs) (suc i) bytes = (([], sym (append-nil g)), more_begins gs i bytes)
 
 -- a part of what was given stands

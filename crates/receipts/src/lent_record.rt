@@ -1,34 +1,21 @@
 //! The record of a packet whose bytes are lent, made in one piece.
 ghost use Rattle.std.specs.Prelude.{◌≡◌, ◌≤◌, ◌+◌, ◌++◌, true, length, take, OnOk};
-ghost use Rattle.byteorder.specs.Endian.{little_bytes};
 ghost use Rattle.lk_base.specs.Limits.{longest_packet};
 ghost use Rattle.pcap_files.specs.Written.{record_bytes, record_head};
 
 use crate::lender::Lender;
-use byteorder::{ByteOrder, LittleEndian};
 use lk_base::OutOfMemory;
+use pcap_files::put_record_head;
 
 // How many bytes stand in a record before those of its packet.
 const HEAD: usize = 16;
 
-// Writes a number of four bytes after what was written.
-fn put_u32(bytes: &mut [u8], at: usize, number: u32)
-    requires { at + 4 ≤ length bytes.old }
-    ensures { take (at + 4) bytes.new ≡ take at bytes.old ++ little_bytes 4 number }
-{
-    LittleEndian::write_u32(&mut bytes[at..], number);
-}
-
-// Writes what stands before a packet of this size: two stamps of 0 and both lengths.
-#[tactic(auto, unfolding(pcap_files::specs::Written::record_head))]
+// Writes what stands before a packet of this size.
 fn put_head(bytes: &mut [u8], size: u32)
     requires { HEAD ≤ length bytes.old }
     ensures { take HEAD bytes.new ≡ record_head size }
 {
-    put_u32(bytes, 0, 0);
-    put_u32(bytes, 4, 0);
-    put_u32(bytes, 8, size);
-    put_u32(bytes, 12, size);
+    put_record_head(&mut bytes[..HEAD], size);
 }
 
 // Copies the packet that is lent after what was written.

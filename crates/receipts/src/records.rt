@@ -59,7 +59,7 @@ pub fn put_made<S: Store>(
     Ok(())
 }
 
-/// Puts the record of a packet into the capture at this place behind those that stand ahead, and counts it at the place. After
+/// Puts the record of a packet into the capture at this place after those that stand ahead, and counts it at the place. After
 /// an error each output has a prefix of what it was given, the record with it.
 pub fn put_record<S: Store>(
     alloc: Global,

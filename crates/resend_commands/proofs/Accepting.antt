@@ -11,7 +11,8 @@ use Rattle.stream_commands.proofs.PartsOfStreams.{words_before}
 use Rattle.resend_events.specs.declared.event.Event.{Event}
 use Rattle.resend_events.specs.declared.event.Event.TheVariants.{Send, Rewind, Take, Lose, Repeat, TakeBack, LoseBack, RepeatBack}
 use Rattle.retransmit.specs.Pieces.{Piece, words_of, words_of_piece}
-use Rattle.retransmit.specs.Rows.{events_of, count_of}
+use Rattle.retransmit.specs.Rows.{events_of}
+use Rattle.resend_events.specs.Events.{count_of}
 use Rattle.retransmit.specs.Resending.{Setting, State, after, state_from, does_nothing, effect, taken, taken_back}
 use Rattle.retransmit.specs.Carried.{Carried, Follows, setting_of}
 use Rattle.retransmit.specs.declared.answer.Did.{Did}

@@ -1,5 +1,7 @@
 -- What stands of the words file while it is filled.
-use Rattle.std.proofs.Common.{◌≡◌, ℕ, suc, false, List, [], ◌∷◌, ◌++◌, length, refl, sym, ap, ◌∙◌, subst, Option, Ok, Err, Contains, append-nil}
+use Rattle.std.proofs.Common.{◌≡◌, ℕ, false, List, [], ◌∷◌, ◌++◌, length, refl, sym, ap, ◌∙◌, subst, Option, Ok, Err, Contains, append-nil}
+use Rattle.run_shell.proofs.Fills.{open_part, same_prefixes}
+use Rattle.run_shell.proofs.OutputNames.{blank_one}
 use Rattle.lk_outside.specs.Files.{Files, Told}
 use Rattle.run_stops.specs.declared.stop.Stop.{Stop}
 use Rattle.run_stops.specs.declared.stop.Stop.TheVariants as stop
@@ -11,23 +13,13 @@ use Rattle.run_shell.specs.Open.{Open}
 use Rattle.run_shell.specs.Outputs.{outs, blank, Prefixes, open_names, IsOpen, Grown}
 use Rattle.run_shell.specs.Writing.{Writes, Begin}
 use Rattle.run_shell.proofs.Writing.{stop_writes, none_writes, done_writes}
-use Rattle.stream_commands.proofs.PartsOfStreams.{open_part, part_of_more, same_prefixes, blank_alike}
+use Rattle.stream_commands.proofs.PartsOfStreams.{part_of_more}
 use Rattle.run_shell.specs.Names.{words_name}
 use Rattle.resend_commands.specs.Plan.{ResendReading, IsPlanResent}
 use Rattle.resend_commands.specs.Carried.{IsWritten, FilledWords, written}
 use Rattle.resend_commands.proofs.PlanResent.{one_outcome, is_written}
 
 -- ---- the one output
-
-pub as_many : (xs ys : List Open) → open_names xs ≡ open_names ys → length xs ≡ length ys
-as_many [] [] e = refl
-as_many [] (y ∷ ys) e = absurd (cc)
-as_many (x ∷ xs) [] e = absurd (cc)
-as_many (x ∷ xs) (y ∷ ys) e = ap suc (as_many xs ys (cc))
-
--- nothing in the one output
-pub blank_one : (opens : List Open) → length opens ≡ 1 → blank (open_names opens) ≡ [] ∷ []
-blank_one opens many = blank_alike {X = ℕ} opens (0 ∷ []) many
 
 -- after an error a part stands of what was given, and so of what begins with it
 pub grown_less : (T : Type 0) (old opens now : List Open) (s : Stop) (given whole : List ℕ) (was is : Option Files) → open_names opens ≡ open_names old → Prefixes (given ∷ []) (whole ∷ [])

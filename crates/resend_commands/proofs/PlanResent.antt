@@ -1,6 +1,7 @@
 -- A plan, its inputs and its events come to one outcome, and it is what is made of them.
 use Rattle.std.proofs.Common.{◌≡◌, ℕ, ◌<◌, Bool, true, false, All, arith, List, [], ◌∷◌, length, take, refl, sym, ap, ◌∙◌, subst, Result, Ok, Err, IfOk}
 use Rattle.lk_base.specs.declared.word.Word.{Word}
+use Rattle.plan_inputs.proofs.InputsRead.{same_numbers}
 use Rattle.stream_model.specs.BurstStream.{Source, IsBurstStream}
 use Rattle.stream_model.proofs.OneStream.{one_stream}
 use Rattle.words_files.specs.WordsFile.{words_file}
@@ -18,7 +19,6 @@ use Rattle.link_plan.proofs.InOrder.{width_in_order}
 use Rattle.plan_inputs.specs.Inputs.{Inputs, Reading}
 use Rattle.plan_inputs.specs.Values.{inputs_value, reading_value}
 use Rattle.plan_inputs.specs.declared.inputs.PlanReading.{PlanReading}
-use Rattle.stream_commands.proofs.PlanSource.{numbers_same}
 use Rattle.plan_inputs.specs.Sources.{IsSourceOf}
 use Rattle.plan_inputs.proofs.SameSource.{same_source}
 use Rattle.stream_commands.specs.Payload.{IsStreamOfPlan}
@@ -102,7 +102,7 @@ narrow_source plan inputs source narrow is =
     let numbers = numbers_of plan.channels.items in
     let fit : fit_width false numbers ≡ true = subst (λ (w : Bool). fit_width w numbers ≡ true) narrow plan.in_width in
     let low = width_in_order false numbers fit in
-    let same : source.channels ≡ channels_in_order numbers = is.channels ∙ ap channels_in_order (sym (numbers_same plan.channels.items)) in
+    let same : source.channels ≡ channels_in_order numbers = is.channels ∙ ap channels_in_order (sym (same_numbers plan.channels.items)) in
     subst (All (λ channel. channel < 256)) (sym same) (λ k d lt. let h = low k d lt in omega arith)
 
 -- so its stream is sealed

@@ -1,7 +1,8 @@
 //! A stream is carried by the events of rows, and what is accepted is written meanwhile.
 ghost use Rattle.std.specs.Prelude.{◌≡◌, ◌+◌, ◌<◌, ◌≤◌, ◌^◌, [], ◌∷◌, length, replicate, Contains, OnOk, Option};
 ghost use Rattle.lk_outside.specs.Files.{Files};
-ghost use Rattle.retransmit.specs.Rows.{count_of, events_of};
+ghost use Rattle.retransmit.specs.Rows.{events_of};
+ghost use Rattle.resend_events.specs.Events.{count_of};
 ghost use Rattle.run_stops.specs.Stops.{StopCount, StoreStops};
 ghost use Rattle.run_shell.specs.Outputs.{Differ, open_names, IsOpen, Grown};
 ghost use Rattle.resend_commands.specs.Carried.{accepted_file, events_done};

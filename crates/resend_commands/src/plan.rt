@@ -5,7 +5,7 @@ ghost use Rattle.link_plan.specs.Listing.{numbers_of};
 ghost use Rattle.plan_inputs.specs.Values.{inputs_value, reading_value, FitPlan};
 ghost use Rattle.run_stops.specs.Stops.{StopCount, StoreStops};
 ghost use Rattle.run_shell.specs.Outputs.{Differ, open_names, IsOpen, blank};
-ghost use Rattle.retransmit.specs.Rows.{count_of};
+ghost use Rattle.resend_events.specs.Events.{count_of};
 ghost use Rattle.resend_commands.specs.Carried.{IsBegun, FilledWords, line_of};
 
 use crate::carrying::carry;
@@ -49,7 +49,7 @@ fn told(alloc: Global, resend: &Resend) -> Result<Vec<u8>, OutOfMemory>
 }
 
 /// Carries the stream of a plan that is not wide and its inputs by the events of these rows, gives the one output the words of
-/// the pieces that are accepted, as they are, and tells the line of it.
+/// the pieces that are accepted, as they are, and returns the line of it.
 pub fn fill_words<S: Store>(
     alloc: Global,
     store: &mut S,

@@ -57,7 +57,7 @@ fn read_resend_plan<S: Store>(alloc: Global, store: &mut S, name: &str) -> Resul
 }
 
 // The rows of the events file; none where the plan names no such file. It is refused exactly where it is absent, has more than
-// 16,777,216 bytes, or its rows are refused, but for faults of the store and want of memory. The files are as they were.
+// 16,777,216 bytes, or its rows are refused, unless the store fails or memory runs out. The files are as they were.
 fn read_events_file<S: Store>(
     alloc: Global,
     store: &mut S,
@@ -80,9 +80,9 @@ fn read_events_file<S: Store>(
     }
 }
 
-/// The plan in the file of this name, behind it its inputs, and behind these its events, each read and checked whole before the
-/// next. The first that is absent, too large or refused is refused, and so is a plan that names no events or is wide, but for
-/// faults of the store and want of memory. The files are as they were.
+/// The plan in the file of this name, after it its inputs, and after these its events, each read and checked whole before the
+/// next. The first that is absent, too large or refused is refused, and so is a plan that names no events or is wide, unless
+/// the store fails or memory runs out. The files are as they were.
 pub fn read_resend<S: Store>(alloc: Global, store: &mut S, name: &str) -> Result<ResendInputs, Stop>
     requires { S.faults store.old < 2 ^ 60 }
     ensures cause { StopCount result (S.faults store.old) (S.faults store.new) }

@@ -5,7 +5,7 @@ ghost use Rattle.plan_inputs.specs.Values.{inputs_value, reading_value, FitPlan}
 ghost use Rattle.run_stops.specs.Stops.{StopCount};
 ghost use Rattle.run_shell.specs.Outputs.{Differ};
 ghost use Rattle.run_shell.specs.Writing.{Writes};
-ghost use Rattle.retransmit.specs.Rows.{count_of};
+ghost use Rattle.resend_events.specs.Events.{count_of};
 ghost use Rattle.run_shell.specs.Names.{words_name};
 ghost use Rattle.resend_commands.specs.Plan.{IsPlanResent};
 

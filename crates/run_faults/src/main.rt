@@ -1,4 +1,4 @@
-//! Runs commands over a store in memory. Fails each read, create and append of each of them in turn, and its one write, and tells
+//! Runs commands over a store in memory. Fails each read, create and append of each of them in turn, and its one write, and prints
 //! how many bytes the outputs have then, and what was printed; or which file is no prefix of what it would hold.
 #![tactic(auto)]
 
@@ -56,7 +56,7 @@ fn wrong_file(
     None
 }
 
-// Tells the bytes of an output.
+// Prints the bytes of an output.
 fn print_length(rt: &HostRuntime, file: Option<&[u8]>) -> io::Result<()> {
     match file {
         Some(bytes) => print!(rt; " {}", bytes.len()),
@@ -64,7 +64,7 @@ fn print_length(rt: &HostRuntime, file: Option<&[u8]>) -> io::Result<()> {
     }
 }
 
-// Tells how a run ended.
+// Prints how a run ended.
 fn print_ended(rt: &HostRuntime, ended: &Ended, outputs: &[&'static str]) -> io::Result<()> {
     print!(rt; "status {}, bytes", number(ended.status))?;
     for name in outputs {
@@ -78,7 +78,7 @@ fn print_ended(rt: &HostRuntime, ended: &Ended, outputs: &[&'static str]) -> io:
     }
 }
 
-// Tells what came of a run one of whose calls was to fail, and whether that call was made.
+// Prints what came of a run one of whose calls was to fail, and whether that call was made.
 fn print_failed(
     rt: &HostRuntime,
     call: (Call, u64),
@@ -129,7 +129,7 @@ fn fail_each(
     println!(rt; "{call:?}: no end")
 }
 
-// Tells how a command ended, and then how it ends where one of its calls fails.
+// Prints how a command ended, and then how it ends where one of its calls fails.
 fn print_trials(
     rt: &HostRuntime,
     words: [&str; 2],

@@ -3,18 +3,18 @@ use Rattle.std.proofs.Common.{◌≡◌, ℕ, zero, suc, ◌<◌, ◌≤◌, ◌
 use Rattle.std.proofs.lemmas.List.{length-map, take-append-drop}
 use Rattle.run_stops.specs.declared.stop.Stop.{Stop}
 use Rattle.run_shell.specs.declared.finished.Finished.{Finished}
-use Rattle.lk_outside.specs.Files.{Files, file, Told}
+use Rattle.lk_outside.specs.Files.{Files, file, Told, Extends}
 use Rattle.run_shell.specs.Outcome.{Outcome, Holds, HoldsPart}
 use Rattle.run_stops.specs.Stops.{StoreStops}
 use Rattle.run_shell.specs.Open.{Open}
-use Rattle.run_shell.specs.Outputs.{Differ, Extends, AppendedBy, outs, blank, Prefixes, more, open_names, in_turn, FilledAll, FilledInTurn}
+use Rattle.run_shell.specs.Outputs.{Differ, AppendedBy, outs, blank, Prefixes, more, open_names, in_turn, FilledAll, FilledInTurn}
 use Rattle.run_shell.specs.Writing.{Writes, Begin, delivered}
 use Rattle.run_shell.proofs.Creating.{named}
 use Rattle.run_shell.proofs.Fills.{blank_prefixes, grows, part_more, prefix_part, stands_at}
 use Rattle.run_stops.proofs.Moves.{told_by, told_then}
 use Rattle.run_shell.proofs.Writing.{stop_writes, done_writes}
 
--- so many of the outputs were given their contents
+-- this many of the outputs were given their contents
 pub filled : ℕ → List (List ℕ) → List (List ℕ) → List (List ℕ)
 filled zero ns cs = blank ns
 filled (suc k) (n ∷ ns) (c ∷ cs) = c ∷ filled k ns cs
@@ -98,7 +98,7 @@ module _ (names contents : List (List ℕ)) (each : length contents ≡ length n
   pub nothing_delivered : (T : Type 0) (s : Stop) (x y : Option Files) → StoreStops {T = T} (Contains names) (Err s) → Told x y (HoldsPart (outs names (blank names))) → Writes IsDelivered names (Err s) x y
   nothing_delivered T s x y store h = stop_writes IsDelivered names T s (blank names) x y (λ o e. (contents, ap (λ (p : Outcome). p.files) e, blank_prefixes names contents each)) store h
 
-  -- so many of them were given their contents, and a part of that stands
+  -- this many of them were given their contents, and a part of that stands
   pub delivery_stops : (T : Type 0) (k : ℕ) (s : Stop) (x y : Option Files) → k ≤ length contents → StoreStops {T = T} (Contains names) (Err s) → Told x y (HoldsPart (outs names (filled k names contents))) → Writes IsDelivered names (Err s) x y
   delivery_stops T k s x y le store h = stop_writes IsDelivered names T s (filled k names contents) x y (begin k le) store h
 
@@ -129,7 +129,7 @@ blank_same [] (c ∷ cs) e = absurd (omega arith)
 blank_same (n ∷ ns) [] e = absurd (omega arith)
 blank_same (n ∷ ns) (c ∷ cs) e = ap (λ (r : List (List ℕ)). [] ∷ r) (blank_same ns cs (omega arith))
 
--- behind so many whole contents stand the first bytes of the next
+-- after this many whole contents stand the first bytes of the next
 filled_part : (k m : ℕ) (ns cs : List (List ℕ)) → k < length cs → length cs ≡ length ns → more (filled k ns cs) k (take m (get_or cs k [])) ≡ in_turn k m cs
 unfolding filled
 filled_part zero m [] [] lt e = absurd (omega arith)

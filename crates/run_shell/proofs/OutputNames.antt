@@ -1,15 +1,16 @@
 -- The names of a stream's files differ.
-use Rattle.std.proofs.Common.{◌≡◌, ◌≢◌, ℕ, zero, suc, ◌+◌, ◌<◌, ◌^◌, List, [], ◌∷◌, ◌++◌, map, sym, ap, ◌∙◌, arith, Contains, string_bytes, Global}
+use Rattle.std.proofs.Common.{◌≡◌, ◌≢◌, ℕ, zero, suc, ◌+◌, ◌<◌, ◌^◌, List, [], ◌∷◌, ◌++◌, map, sym, ap, ◌∙◌, arith, Contains, string_bytes, Global, length, refl}
 use Rattle.std.specs.Prelude.{slice_index_or}
 use Rattle.std.specs.List.{range_with_len}
 use Rattle.std.specs.Fmt.{decimal}
 use Rattle.std.specs.declared.string.String.{String}
 use Rattle.std.proofs.lemmas.Fmt.{decimal_injective}
-use Rattle.std.proofs.lemmas.List.{map-append}
+use Rattle.std.proofs.lemmas.List.{map-append, length-map}
 use Rattle.std.proofs.lemmas.List.FromFn.{length-map-range_with_len, get_or-map-range_with_len, map-range_with_len_more}
+use Rattle.run_shell.specs.Open.{Open}
 use lib.Chars.{codes}
 use Rattle.run_shell.specs.Names.{lane_name, lane_names}
-use Rattle.run_shell.specs.Outputs.{Differ}
+use Rattle.run_shell.specs.Outputs.{Differ, blank, open_names}
 
 from_zero : (k : ℕ) → 0 + k ≡ k
 from_zero k = omega arith
@@ -57,3 +58,15 @@ one_more_name prefix names new n lane e h is =
     ∙ ap (λ (ns : List (List ℕ)). ns ++ string_bytes n ∷ []) h
     ∙ ap (λ (x : List ℕ). lane_names prefix lane ++ x ∷ []) is
     ∙ sym (map-range_with_len_more (lane_name prefix) 0 lane lane (from_zero lane))
+
+-- ---- open outputs
+
+-- outputs of the same names are as many
+pub as_many_opens : (a b : List Open) → open_names a ≡ open_names b → length a ≡ length b
+as_many_opens a b e = sym (length-map a (λ (x : Open). x.name)) ∙ ap length e ∙ length-map b (λ (x : Open). x.name)
+
+-- nothing in the one output
+pub blank_one : (opens : List Open) → length opens ≡ 1 → blank (open_names opens) ≡ [] ∷ []
+blank_one [] e = absurd (omega arith)
+blank_one (o ∷ []) e = refl
+blank_one (o ∷ p ∷ os) e = absurd (omega arith)

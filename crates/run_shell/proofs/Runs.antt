@@ -145,7 +145,7 @@ module _ (m : Meaning) (one : (files : Files) (o p : Outcome) → m.IsOutcome fi
     part = λ a. (text, ends_text status text x y e, h);
   }
 
-  -- with no rise there is the outcome's answer, or want of memory
+  -- with no rise there is the outcome's answer, or memory ran out
   complete_work : (status : Status) (f : Bool) (text : List ℕ) (sb sa : ℕ) (x y : Option Files) → TellsStore status f → StoreCount f sb sa → Ends m u status text x y → sa ≡ sb → (status ≡ o.status) ⊎ (status ≡ OutOfMemory)
   complete_work StoreFault f text sb sa x y t c e same = let rose = store_rose f sb sa t c in absurd (omega arith)
   complete_work OutOfMemory f text sb sa x y t c e same = inr refl

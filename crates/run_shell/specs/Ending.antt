@@ -18,7 +18,7 @@ abbrev pub said_bytes : Said → List ℕ
 said_bytes (Made text) = text.items
 said_bytes NoMemory = memory_line
 
--- the line of a stop with its status, or want of memory
+-- the line of a stop with its status, or memory ran out
 pub record IsEndingOf (s : Stop) (e : Ended) : Type 0 where
   pub is : ((e.status ≡ stop_status s) × (e.text ≡ stop_text s)) ⊎ ((e.status ≡ OutOfMemory) × (e.text ≡ memory_line))
   pub store : e.store_failed ≡ is_of_store s

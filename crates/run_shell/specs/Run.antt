@@ -6,7 +6,7 @@ use Rattle.lk_outside.specs.Files.{Files, Told}
 use Rattle.run_stops.specs.Faults.{store_line, memory_line}
 use Rattle.run_shell.specs.Outcome.{Outcome, IsFault, IsAnswer, Holds, HoldsPart}
 
--- the store failed where that is the status, and did not at an answer; want of memory may hide it
+-- the store failed where that is the status, and did not at an answer; out of memory may hide it
 abbrev pub TellsStore : Status → Bool → Type 0
 TellsStore StoreFault failed = failed ≡ true
 TellsStore OutOfMemory failed = Unit {0}

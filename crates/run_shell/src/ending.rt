@@ -140,7 +140,7 @@ pub fn end<C: Command, S: Store>(alloc: Global, command: &C, store: &mut S) -> E
     }
 }
 
-/// The ending where the words are not accepted: the line of the usage, or want of memory for it.
+/// The ending where the words are not accepted: the line of the usage, or memory ran out for it.
 pub fn misused(alloc: Global) -> Ending
     ensures { IsMisused result }
 {

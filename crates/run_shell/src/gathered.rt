@@ -4,10 +4,10 @@ ghost use Rattle.std.specs.Prelude.{◌≡◌, ◌+◌, ◌<◌, ◌≤◌, [], 
 use std::alloc::{AllocError, Global};
 use std::marker::Model;
 
-/// So many bytes go on at least.
+/// At least this many bytes go on at once.
 pub const ENOUGH: usize = 64;
 
-/// Fewer bytes than `ENOUGH`, and up to eight behind them. Contracts see the bytes.
+/// Fewer bytes than `ENOUGH`, and up to eight after them. Contracts see the bytes.
 #[derive(Drop)]
 pub struct Gathered {
     // They are the first `count` of these.
@@ -25,7 +25,7 @@ impl Model for Gathered {
     ghost invariant = { λ g. g.count ≤ 72 };
 }
 
-// Puts nine bytes behind the first so many.
+// Puts nine bytes after the first `count`.
 fn put_nine(bytes: &mut [u8], at: usize, nine: &[u8; 9])
     requires { at + 9 ≤ length bytes.old }
     ensures long { length bytes.new ≡ length bytes.old }
@@ -52,7 +52,7 @@ impl Gathered {
         self.count
     }
 
-    /// Takes the first of nine bytes behind the others.
+    /// Takes the first of nine bytes after the others.
     pub fn add(&mut self, nine: &[u8; 9], count: usize)
         requires few { length self.old < 64 }
         requires count { count ≤ 9 }
@@ -62,7 +62,7 @@ impl Gathered {
         self.count += count;
     }
 
-    /// Puts the bytes behind a rest. Then none is here, be there memory for them or not.
+    /// Puts the bytes after a rest. Then none is left here, whether there was memory for them or not.
     pub fn pour(&mut self, rest: &mut Vec<u8>) -> Result<(), AllocError>
         ensures poured { OnOk result (rest.new.items ≡ rest.old.items ++ self.old) }
         ensures none { self.new ≡ [] }
@@ -72,7 +72,7 @@ impl Gathered {
         rest.extend_from_slice(&self.bytes[..count])
     }
 
-    /// The bytes behind others.
+    /// The bytes after others.
     pub fn behind(&self, alloc: Global, others: &[u8]) -> Result<Vec<u8>, AllocError>
         ensures { IfOk result (λ v. v.items ≡ others.now ++ self.now) }
     {

@@ -1,9 +1,10 @@
--- Readings one behind another, where the files are told.
-use Rattle.std.proofs.Common.{◌≡◌, ℕ, List, ap, refl, sym, subst, Option, Some, None, IfSome, Result, Ok, Err, string_bytes}
+-- Readings one after another, where the files are told.
+use Rattle.std.proofs.Common.{◌≡◌, ℕ, List, ap, refl, sym, subst, Option, Some, None, IfSome, Result, Ok, Err, string_bytes, Bool, true, false, nat_lt, cond, length}
+use Rattle.run_stops.specs.declared.faults.InputError.TheVariants.{TooLarge}
 use Rattle.run_stops.specs.declared.stop.Stop.{Stop}
 use Rattle.run_stops.specs.declared.stop.Stop.TheVariants as stop
 use Rattle.lk_outside.specs.Files.{Files}
-use Rattle.run_stops.specs.Reading.{Refusal, of_plan, of_input, behind, Reads}
+use Rattle.run_stops.specs.Reading.{Refusal, of_plan, of_input, behind, Reads, bytes_by}
 
 -- what was told of the files then is told of the files before, which are the same
 pub told_back : (P : Files → Type 0) (x y : Option Files) → y ≡ x → IfSome y P → IfSome x P
@@ -51,3 +52,11 @@ module _ (A B T U : Type 0) (first : Files → Result A Refusal) (next : Files �
   second_reads more named names a r (Some u) y same are had h =
       let here : Reads more (named u) r (next u a) = subst (λ z. IfSome z (λ files. Reads more (named files) r (next files a))) same h in
       subst (λ w. Reads more (names u) r w) (sym (behind_read A B T U (first u) (next u) a had)) (widened more (named u) (names u) r (next u a) (λ q n. are u q had n) here)
+
+pub bytes_by_ok : (name : List ℕ) (limit : ℕ) (o : Option (List ℕ)) (bytes : List ℕ) → bytes_by name limit o ≡ Ok bytes → o ≡ Some bytes
+bytes_by_ok name limit None bytes e = absurd cc
+bytes_by_ok name limit (Some b) bytes e = ap Some (by (nat_lt limit (length b)) e)
+  where
+    by : (c : Bool) → cond c (Err (of_input name TooLarge)) (Ok b) ≡ Ok bytes → b ≡ bytes
+    by true d = absurd cc
+    by false d = cc

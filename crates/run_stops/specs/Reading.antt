@@ -15,12 +15,12 @@ pub data Refusal : Type 0 where
   of_plan : PlanError → Refusal
   of_input : List ℕ → InputError → Refusal
 
--- what is read next, behind what was read
+-- what is read next, after what was read
 abbrev pub behind : {A B : Type 0} → Result A Refusal → (A → Result B Refusal) → Result B Refusal
 behind (Ok a) next = next a
 behind (Err r) next = Err r
 
--- the bytes of a file that may be there, of at most so many
+-- the bytes of a file that may be there, of at most this many
 abbrev pub bytes_by : List ℕ → ℕ → Option (List ℕ) → Result (List ℕ) Refusal
 bytes_by name limit None = Err (of_input name refused.NoFile)
 bytes_by name limit (Some bytes) = if nat_lt limit (length bytes) then Err (of_input name refused.TooLarge) else Ok bytes
@@ -28,7 +28,7 @@ bytes_by name limit (Some bytes) = if nat_lt limit (length bytes) then Err (of_i
 abbrev pub bytes_in : Files → List ℕ → ℕ → Result (List ℕ) Refusal
 bytes_in files name limit = bytes_by name limit (file files name)
 
--- the bytes of a plan, of at most so many
+-- the bytes of a plan, of at most this many
 abbrev pub plan_by : ℕ → Option (List ℕ) → Result (List ℕ) Refusal
 plan_by limit None = Err (of_plan plans.NoFile)
 plan_by limit (Some bytes) = if nat_lt limit (length bytes) then Err (of_plan plans.TooLarge) else Ok bytes

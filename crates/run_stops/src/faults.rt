@@ -28,7 +28,7 @@ pub enum InputError {
     Samples(u64),
 }
 
-/// What stops a run, and is told in one line alone.
+/// What stops a run, and is reported in one line alone.
 #[derive(Debug, Drop)]
 pub enum Fault {
     /// The words of the command are not accepted.
@@ -80,7 +80,7 @@ fn store_text(alloc: Global, name: &str) -> Result<String, AllocError>
     format!(in alloc; "store fault: {name}\n")
 }
 
-/// The line of want of memory, which itself needs none.
+/// The line that says that memory ran out, which itself needs none.
 pub fn memory_line() -> &'static [u8]
     ensures { result.now ≡ memory_line }
 {

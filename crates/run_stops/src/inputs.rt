@@ -9,8 +9,8 @@ use lk_outside::{ReadError, Store, WholeError, read_whole};
 use plan_errors::PlanError;
 use std::alloc::Global;
 
-/// The whole of an input of at most `limit` bytes. It is refused exactly where it is absent or longer, but for faults of
-/// the store and want of memory. The files are as they were.
+/// The whole of an input of at most `limit` bytes. It is refused exactly where it is absent or longer, unless the
+/// store fails or memory runs out. The files are as they were.
 pub fn read_input<S: Store>(
     alloc: Global,
     store: &mut S,
@@ -32,8 +32,8 @@ pub fn read_input<S: Store>(
     }
 }
 
-/// The whole of a plan of at most `limit` bytes. It is refused exactly where it is absent or longer, but for faults of the
-/// store and want of memory. The files are as they were.
+/// The whole of a plan of at most `limit` bytes. It is refused exactly where it is absent or longer, unless the
+/// store fails or memory runs out. The files are as they were.
 pub fn read_plan<S: Store>(
     alloc: Global,
     store: &mut S,
@@ -55,8 +55,8 @@ pub fn read_plan<S: Store>(
 }
 
 /// Bytes of an input that is there, from an offset on: how many, which is 0 exactly where `buf` is empty or the offset is at
-/// or past the end; they stand at the front of `buf`. It is refused exactly where it is absent, but for faults of the store
-/// and want of memory. The files are as they were.
+/// or past the end; they stand at the front of `buf`. It is refused exactly where it is absent, unless the store fails
+/// or memory runs out. The files are as they were.
 pub fn read_piece<S: Store>(
     alloc: Global,
     store: &mut S,
@@ -79,7 +79,7 @@ pub fn read_piece<S: Store>(
 }
 
 /// Asks for an input of at most `limit` bytes that is read later: for its first byte, and for a byte at the limit. It is
-/// refused exactly where it is absent or longer, but for faults of the store and want of memory. The files are as they were.
+/// refused exactly where it is absent or longer, unless the store fails or memory runs out. The files are as they were.
 pub fn probe_input<S: Store>(
     alloc: Global,
     store: &mut S,

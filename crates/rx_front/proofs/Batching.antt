@@ -18,15 +18,15 @@ use Rattle.lock_model.proofs.StepsHold.{steps_determined, steps_exist}
 use Rattle.lane_lock.proofs.Dark.{dark_shows_nothing}
 use Rattle.event_model.specs.Fed.{Fed, first_bits}
 use Rattle.event_model.proofs.Clocks.{length-bits}
-use Rattle.deskew.specs.Ahead.{is_inside, is_locked, keeps_lock}
+use Rattle.deskew.specs.Ahead.{is_inside, is_locked, keeps_lock, AreLong}
 use Rattle.deskew.specs.Awaits.{AreKept, highest, is_outside, lags}
-use Rattle.deskew.specs.Columns.{AreLong, columns_taken}
+use Rattle.deskew.specs.Columns.{columns_taken}
 use Rattle.deskew.specs.Stands as deskews
 use Rattle.deskew.specs.States as deskew
 use Rattle.deskew.specs.Steps.{steps_taken}
 use Rattle.deskew.specs.Ticks.{AreTicks, steps_in, tick_at, ticks_of}
 use Rattle.deskew.proofs.Awaiting.{batch_awaits}
-use Rattle.deskew.proofs.Columns.{batch_of_columns, columns_keep_locks, columns_more}
+use Rattle.deskew.proofs.Columns.{batch_of_columns, columns_keep_locks, columns_more, one_more}
 use Rattle.deskew.proofs.Running.{running_ends}
 use Rattle.rx_front.specs.Batches.{AreBatches, IsBatch, IsBatchOf, IsDarkFor, KeepLocks, MayTake, TookBatch, both}
 use Rattle.rx_front.specs.Lanes.{AllStand, AreCovered, AreWide, HasBytes, LaneStands, bytes_left}
@@ -38,11 +38,10 @@ use Rattle.rx_front.proofs.Locks.{lock_past, no_more_locks}
 use Rattle.rx_front.proofs.Rounds.{column_length, took_steps}
 use Rattle.rx_front.proofs.RoundsMade.{far, get_front, same_ticks}
 use Rattle.rx_front.proofs.Taking.{there_at}
-use Rattle.rx_front.proofs.Ticking.{one_more}
 
 -- ---- a lane
 
--- it took so many bytes, and kept no step
+-- it took this many bytes, and kept no step
 pub is_batch : (u v : Lane) (ring : List ℕ) (later : LaneState) (given kept : List LaneStep) (n : ℕ) → v ≡ u → length given ≡ 8 * n → 1 ≤ n → n ≤ length v.ring → ring ≡ drop n v.ring → kept ≡ [] →
     Brings v.lock later (bits_of_bytes (take n v.ring)) given →
     IsBatch n u (record { ring = ring; finished = v.finished; fed = v.fed; lock = later; steps = kept }) given

@@ -1,17 +1,18 @@
 -- The steps of all lanes, as the deskew takes them, show the lanes as they are at the clock.
-use Rattle.std.proofs.Common.{ℕ, zero, suc, ◌≡◌, refl, sym, ap, ◌∙◌, subst, ◌+◌, ◌-◌, ◌*◌, ◌<◌, ◌≤◌, Bool, true, false, List, [], ◌∷◌, ◌++◌, length, map, take, drop, get_or, replicate, fold, append-nil, arith, inl, inr, rules}
+use Rattle.std.proofs.Common.{ℕ, zero, suc, ◌≡◌, refl, sym, ap, ◌∙◌, subst, ◌+◌, ◌-◌, ◌*◌, ◌<◌, ◌≤◌, Bool, true, false, List, [], ◌∷◌, ◌++◌, length, map, take, drop, get_or, replicate, append-nil, arith, inl, inr, rules}
 use Rattle.std.specs.Prelude.{◌&&◌, nat_lt, slice_get, Some}
-use Rattle.std.proofs.lemmas.List.Sums.{fold-append}
 use Rattle.std.specs.List.{range_with_len, list_any}
 use Rattle.std.proofs.lemmas.Bool.{cases_Bool, cases_lt, lt-ltb, le-ltb}
 use Rattle.std.proofs.lemmas.List.FromFn.{map-range_with_len_more}
 use Rattle.std.proofs.lemmas.List.{map-append, length-take, take-append-drop, take-append-le, take_all, take-take}
 use Rattle.lk_base.specs.Checksum.{bits_of_bytes}
 use Rattle.lk_base.specs.Link.{Settings, IsLink}
+use Rattle.lk_base.proofs.Lists.{head_same, tail_same}
+use Rattle.deskew.proofs.Stepped.{shown_same}
 use Rattle.lock_model.specs.declared.types.LaneStep.{LaneStep}
 use Rattle.lock_model.specs.declared.types.LaneStep.TheVariants as steps
 use Rattle.lock_model.specs.Steps.{AreSteps}
-use Rattle.lock_model.specs.Tracks.{Track, grown, shown_tracks}
+use Rattle.lock_model.specs.Tracks.{Track, shown_tracks}
 use Rattle.lock_model.proofs.StepsHold.{first_steps, steps_show_tracks}
 use Rattle.lock_model.proofs.StepsHold.{steps_fit}
 use Rattle.epoch_model.specs.GroupLaw.{HasAttempts, tracks_received}
@@ -45,13 +46,6 @@ none_steps_ended s bits own long are = elim (cases_Bool (list_any is_ended own))
   | inl h ↦ (let found = end_at own h in absurd (steps_fit s bits own found.0 steps.Ended long are found.1))
   | inr h ↦ h
 ]
-
-ended_more : (ts : List Track) (n : ℕ) → fold grown ts (replicate n steps.Ended) ≡ ts
-ended_more ts zero = refl
-ended_more ts (suc n) = ended_more ts n
-
-shown_same : (own : List LaneStep) (n : ℕ) → shown_tracks (own ++ replicate n steps.Ended) ≡ shown_tracks own
-shown_same own n = fold-append grown [] own (replicate n steps.Ended) ∙ ended_more (shown_tracks own) n
 
 -- a lane at the clock: the steps of its bits up to there, and then its end
 pub record AtClock (s : Settings) (clock : ℕ) (fed : Fed) (given : List LaneStep) : Type 0 where
@@ -214,13 +208,6 @@ are_ticks lanes s rounds clock fed columns count le st = λ i lt. (
       shown = column_is columns i clock (let m = k.0 in omega (arith, lt, count, m)) each.long ∙ each.at.shown;
     })
 
--- and show the lanes at the clock
-head_bits : {A : Type 0} (x y : A) (xs ys : List A) → ◌≡◌ {A = List A} (x ∷ xs) (y ∷ ys) → x ≡ y
-head_bits x y xs ys e = cc
-
-tail_bits : {A : Type 0} (x y : A) (xs ys : List A) → ◌≡◌ {A = List A} (x ∷ xs) (y ∷ ys) → xs ≡ ys
-tail_bits x y xs ys e = cc
-
 no_bits_of : (x : List Bool) (xs : List (List Bool)) → ◌≡◌ {A = List (List Bool)} [] (x ∷ xs) → ⊥
 no_bits_of x xs e = search rules
 
@@ -233,9 +220,9 @@ lane_is (v ∷ lanes) s rounds clock [] columns received i d link le st e lt = a
 lane_is (v ∷ lanes) s rounds clock (lane ∷ fed) [] received i d link le st e lt = absurd st
 lane_is (v ∷ lanes) s rounds clock (lane ∷ fed) (column ∷ columns) [] i d link le st e lt = absurd (no_bits_of (first_bits clock lane) (map (first_bits clock) fed) e)
 lane_is (v ∷ lanes) s rounds clock (lane ∷ fed) (column ∷ columns) (x ∷ received) zero d link le st e lt =
-    shows_lane s clock lane (take clock column) x link (head_bits x.bits (first_bits clock lane) (bits_in s.metaframe received) (map (first_bits clock) fed) e) (at_clock s rounds clock lane column le st.0.in_time st.0.completed)
+    shows_lane s clock lane (take clock column) x link (head_same x.bits (first_bits clock lane) (bits_in s.metaframe received) (map (first_bits clock) fed) e) (at_clock s rounds clock lane column le st.0.in_time st.0.completed)
 lane_is (v ∷ lanes) s rounds clock (lane ∷ fed) (column ∷ columns) (x ∷ received) (suc i) d link le st e lt =
-    lane_is lanes s rounds clock fed columns received i d link le st.1 (tail_bits x.bits (first_bits clock lane) (bits_in s.metaframe received) (map (first_bits clock) fed) e) (omega (arith, lt))
+    lane_is lanes s rounds clock fed columns received i d link le st.1 (tail_same x.bits (first_bits clock lane) (bits_in s.metaframe received) (map (first_bits clock) fed) e) (omega (arith, lt))
 
 map_range_is : (F : ℕ → LaneSoFar) (a : ℕ) (ls : List LaneSoFar) → ((i : ℕ) (d : LaneSoFar) → i < length ls → F (a + i) ≡ get_or ls i d) → map F (range_with_len a (length ls)) ≡ ls
 map_range_is F a [] h = refl
@@ -250,7 +237,7 @@ map_range_is F a (l ∷ ls) h =
 count_at_clock : (s : Settings) (clock : ℕ) (fed : List Fed) (received : List (HasAttempts s.metaframe)) → bits_in s.metaframe received ≡ map (first_bits clock) fed → length (lanes_at s clock fed received) ≡ length fed
 count_at_clock s clock [] received e = refl
 count_at_clock s clock (lane ∷ fed) [] e = absurd (no_bits_of (first_bits clock lane) (map (first_bits clock) fed) e)
-count_at_clock s clock (lane ∷ fed) (x ∷ received) e = ap suc (count_at_clock s clock fed received (tail_bits x.bits (first_bits clock lane) (bits_in s.metaframe received) (map (first_bits clock) fed) e))
+count_at_clock s clock (lane ∷ fed) (x ∷ received) e = ap suc (count_at_clock s clock fed received (tail_same x.bits (first_bits clock lane) (bits_in s.metaframe received) (map (first_bits clock) fed) e))
 
 pub shown_at_clock : (lanes : List Lane) (s : Settings) (rounds clock : ℕ) (fed : List Fed) (columns : List (List LaneStep)) (received : List (HasAttempts s.metaframe)) → IsLink s → length fed ≡ s.lanes → clock ≤ 8 * rounds →
     AllStand lanes s rounds fed columns → bits_in s.metaframe received ≡ map (first_bits clock) fed →

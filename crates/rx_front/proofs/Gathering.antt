@@ -1,28 +1,17 @@
 -- The bits of bytes as a number.
 use Rattle.std.proofs.Common.{ℕ, zero, suc, ◌≡◌, refl, sym, ap, ◌∙◌, subst, ◌+◌, ◌-◌, ◌*◌, ◌/◌, ◌^◌, ◌<◌, ◌≤◌, List, [], ◌∷◌, ◌++◌, length, get_or, take, drop, append-nil, arith}
 use Rattle.std.proofs.Math.Pow.{pow_mono}
-use Rattle.std.specs.Int.{from_be_bytes, w64}
 use Rattle.std.proofs.Math.Nat.{div-lt_iff_lt-mul}
 use Rattle.std.proofs.lemmas.List.{take_more, take_all, take-append-le, take-take}
-use Rattle.std.proofs.lemmas.Nat.{mod_low, pow-add, pow_pos, shr_high}
+use Rattle.std.proofs.lemmas.Nat.{pow-add, pow_pos}
 use Rattle.circular_buffer.specs.Buffer.{Buffer, buffer}
 use Rattle.lk_base.specs.Checksum.{bits_of, bits_of_bytes}
-use Rattle.lk_crc.proofs.Pieces.{bits_low, bits_split}
+use Rattle.lk_base.proofs.Bits.{bits-cut, no_bits, bits-joined}
 use Rattle.lane_model.proofs.Numbers.{length-bits_of}
 use Rattle.event_model.proofs.Clocks.{bits-append}
 use Rattle.rx_front.proofs.Rounds.{bits_taken, drop_one}
 
-no_bits : (x : ℕ) → bits_of 0 x ≡ []
-unfolding bits_of
-no_bits x = refl
-
-bits_joined : (n a b : ℕ) → b < 256 → bits_of (n + 8) (a * 256 + b) ≡ bits_of n a ++ bits_of 8 b
-bits_joined n a b low =
-    bits_split n 8 (a * 256 + b)
-    ∙ ap (λ (x : ℕ). bits_of n x ++ bits_of 8 (a * 256 + b)) (shr_high a 8 b low)
-    ∙ ap (λ bits. bits_of n a ++ bits) (sym (bits_low 8 8 (a * 256 + b) (omega arith)) ∙ ap (bits_of 8) (mod_low a 8 b low))
-
--- so many bytes were taken from a ring, and these are their bits
+-- this many bytes were taken from a ring, and these are their bits
 pub record Gathered (before now : Buffer ℕ) (k bits : ℕ) : Type 0 where
   pub ring : now ≡ buffer (drop k before.items) before.capacity
   pub are : bits_of (8 * k) bits ≡ bits_of_bytes (take k before.items)
@@ -46,7 +35,7 @@ one_gathered before now later k bits byte lt low g is rest =
     let b = g.below in
     record {
       ring = rest ∙ ap (λ (b : Buffer ℕ). buffer (drop 1 b.items) b.capacity) g.ring ∙ ap (λ (xs : List ℕ). buffer xs before.capacity) (drop_one k before.items);
-      are = ap (λ (n : ℕ). bits_of n (bits * 256 + byte)) e ∙ bits_joined (8 * k) bits byte low ∙ ap (λ b. b ++ bits_of 8 byte) g.are
+      are = ap (λ (n : ℕ). bits_of n (bits * 256 + byte)) e ∙ bits-joined (8 * k) 8 bits byte low ∙ ap (λ b. b ++ bits_of 8 byte) g.are
           ∙ sym (ap bits_of_bytes (take_more before.items k 0 lt ∙ ap (λ (x : ℕ). take k before.items ++ x ∷ []) (sym here)) ∙ bits-append (take k before.items) (byte ∷ [])
           ∙ ap (λ b. bits_of_bytes (take k before.items) ++ b) (append-nil (bits_of 8 byte)));
       below = omega (arith, p, b, low);
@@ -58,42 +47,13 @@ gathered_low before now k bits le g = (let b = g.below in let m : 2 ^ (8 * k) �
 
 -- ---- eight bytes at once
 
-byte_more : (bytes : List ℕ) (k a b : ℕ) → k < length bytes → b < 256 → b ≡ get_or bytes k 0 → bits_of (8 * k) a ≡ bits_of_bytes (take k bytes) →
-    bits_of (8 * (k + 1)) (a * 256 + b) ≡ bits_of_bytes (take (k + 1) bytes)
-byte_more bytes k a b lt low is h =
-    let e : 8 * (k + 1) ≡ 8 * k + 8 = omega arith in
-    ap (λ (n : ℕ). bits_of n (a * 256 + b)) e ∙ bits_joined (8 * k) a b low ∙ ap (λ z. z ++ bits_of 8 b) h
-    ∙ sym (ap bits_of_bytes (take_more bytes k 0 lt ∙ ap (λ (x : ℕ). take k bytes ++ x ∷ []) (sym is)) ∙ bits-append (take k bytes) (b ∷ [])
-    ∙ ap (λ z. bits_of_bytes (take k bytes) ++ z) (append-nil (bits_of 8 b)))
-
--- the number of eight bytes
-abbrev pub eight_at_once : ℕ → ℕ → ℕ → ℕ → ℕ → ℕ → ℕ → ℕ → ℕ
-eight_at_once a b c d e f g h = ((((((a * 256 + b) * 256 + c) * 256 + d) * 256 + e) * 256 + f) * 256 + g) * 256 + h
-
-pub eight_bits : (bytes : List ℕ) (a b c d e f g h : ℕ) → 8 ≤ length bytes → a < 256 → b < 256 → c < 256 → d < 256 → e < 256 → f < 256 → g < 256 → h < 256 →
-    a ≡ get_or bytes 0 0 → b ≡ get_or bytes 1 0 → c ≡ get_or bytes 2 0 → d ≡ get_or bytes 3 0 → e ≡ get_or bytes 4 0 → f ≡ get_or bytes 5 0 → g ≡ get_or bytes 6 0 → h ≡ get_or bytes 7 0 →
-    bits_of 64 (eight_at_once a b c d e f g h) ≡ bits_of_bytes (take 8 bytes)
-eight_bits bytes a b c d e f g h long la lb lc ld le lf lg lh ia ib ic id ie if_ ig ih =
-    let z : 0 * 256 + a ≡ a = omega arith in
-    let one = ap (bits_of 8) (sym z) ∙ byte_more bytes 0 0 a (omega (arith, long)) la ia (no_bits 0) in
-    let two = byte_more bytes 1 a b (omega (arith, long)) lb ib one in
-    let three = byte_more bytes 2 (a * 256 + b) c (omega (arith, long)) lc ic two in
-    let four = byte_more bytes 3 ((a * 256 + b) * 256 + c) d (omega (arith, long)) ld id three in
-    let five = byte_more bytes 4 (((a * 256 + b) * 256 + c) * 256 + d) e (omega (arith, long)) le ie four in
-    let six = byte_more bytes 5 ((((a * 256 + b) * 256 + c) * 256 + d) * 256 + e) f (omega (arith, long)) lf if_ five in
-    let seven = byte_more bytes 6 (((((a * 256 + b) * 256 + c) * 256 + d) * 256 + e) * 256 + f) g (omega (arith, long)) lg ig six in
-    byte_more bytes 7 ((((((a * 256 + b) * 256 + c) * 256 + d) * 256 + e) * 256 + f) * 256 + g) h (omega (arith, long)) lh ih seven
-
-pub number_of_eight : (a b c d e f g h : ℕ) → from_be_bytes w64 (a ∷ b ∷ c ∷ d ∷ e ∷ f ∷ g ∷ h ∷ []) ≡ eight_at_once a b c d e f g h
-number_of_eight a b c d e f g h = omega arith
-
 -- the highest bits of eight bytes are those of the first of them
 pub first_of_eight : (front behind items : List ℕ) (x n : ℕ) → 8 ≤ length front → n ≤ 7 → front ++ behind ≡ items → bits_of 64 x ≡ bits_of_bytes (take 8 front) →
     bits_of (8 * n) (x / 2 ^ (64 - 8 * n)) ≡ bits_of_bytes (take n items)
 first_of_eight front behind items x n long few are h =
     let e : 8 * n + (64 - 8 * n) ≡ 64 = omega (arith, few) in
     let l = length-bits_of (8 * n) (x / 2 ^ (64 - 8 * n)) in
-    let split = sym (bits_split (8 * n) (64 - 8 * n) x) ∙ ap (λ (m : ℕ). bits_of m x) e ∙ h in
+    let split = sym (bits-cut (8 * n) (64 - 8 * n) x) ∙ ap (λ (m : ℕ). bits_of m x) e ∙ h in
     let whole : take (8 * n) (bits_of (8 * n) (x / 2 ^ (64 - 8 * n))) ≡ bits_of (8 * n) (x / 2 ^ (64 - 8 * n)) = take_all (8 * n) (bits_of (8 * n) (x / 2 ^ (64 - 8 * n))) (omega (arith, l)) in
     sym whole ∙ sym (take-append-le (8 * n) (bits_of (8 * n) (x / 2 ^ (64 - 8 * n))) (bits_of (64 - 8 * n) x) (omega (arith, l))) ∙ ap (take (8 * n)) split
     ∙ bits_taken n (take 8 front) ∙ ap bits_of_bytes (take-take n 8 front (omega (arith, few)) ∙ sym (take-append-le n front behind (omega (arith, long, few))) ∙ ap (take n) are)

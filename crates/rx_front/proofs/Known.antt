@@ -1,11 +1,12 @@
 -- What is known where a front stands.
 use Rattle.std.proofs.Common.{ℕ, suc, ◌≡◌, refl, sym, ap, ◌∙◌, subst, ◌*◌, ◌≤◌, ◌==◌, Bool, true, false, List, [], ◌∷◌, ◌++◌, length, take, drop, Option, Some, None, min, append_assoc, append-nil, arith, inl, inr, eqb-true}
-use Rattle.std.specs.Prelude.{◌⊎◌, ◌||◌, cond, not}
-use Rattle.std.proofs.lemmas.Bool.{cases_Bool}
+use Rattle.std.specs.Prelude.{◌||◌, cond, not}
+use Rattle.std.proofs.lemmas.Bool.{cases_Bool, not-false}
 use Rattle.std.proofs.lemmas.List.{length-drop, take-append-drop}
 use Rattle.std.proofs.lemmas.Option.{none-some, same_Some}
 use Rattle.lk_base.specs.declared.word.Aligned.{Aligned}
 use Rattle.lk_base.specs.Link.{Settings}
+use Rattle.event_model.proofs.Clocks.{one_or_none}
 use Rattle.lock_model.specs.declared.types.LaneStep.{LaneStep}
 use Rattle.receive_model.specs.Behind.{comes_behind}
 use Rattle.epoch_model.specs.SoFar.{AreKnown, LaneSoFar}
@@ -22,10 +23,6 @@ use Rattle.rx_front.specs.Standing.{AtRound, GivesItem, Progress, Stands}
 use Rattle.rx_front.proofs.Clocked.{shown_at_clock}
 
 -- ---- the clock is within that of all rounds
-
-one_or_none : (o : Option ℕ) → (o ≡ None) ⊎ ((n : ℕ) × (o ≡ Some n))
-one_or_none None = inl refl
-one_or_none (Some n) = inr (n, refl)
 
 lesser_from : (r n : ℕ) (least : Option ℕ) → r ≤ n → ((m : ℕ) → least ≡ Some m → r ≤ m) → r ≤ lesser n least
 lesser_from r n None le h = le
@@ -118,10 +115,6 @@ item_given v d item s fed items t none settled gives st =
 
 -- ---- words
 
-pub no_items : (items : List Aligned) → length items ≡ 0 → items ≡ []
-no_items [] e = refl
-no_items (a ∷ items) e = absurd (omega (arith, e))
-
 abbrev pub with_words : deskew.State → List Aligned → State → State
 with_words d words v = record { lanes = v.lanes; left = v.left; deskew = d; waiting = words; over = v.over }
 
@@ -153,13 +146,9 @@ words_taken v n s fed items t st = record {
 
 -- ---- a lane that is not finished lacks a byte
 
-not_false : (b : Bool) → not b ≡ false → b ≡ true
-not_false true e = refl
-not_false false e = absurd (let f : true ≡ false = e in cc)
-
 parts : (over : Bool) (ring : List ℕ) → (over || not (length ring == 0)) ≡ false → (over ≡ false) × (length ring ≡ 0)
 parts true ring e = absurd (let f : true ≡ false = e in cc)
-parts false ring e = (refl, eqb-true (length ring) 0 (not_false (length ring == 0) e))
+parts false ring e = (refl, eqb-true (length ring) 0 (not-false (length ring == 0) e))
 
 with_rest : (over : Bool) (n m r : ℕ) (rest : Option ℕ) → rest ≡ Some m → m ≤ r → (k : ℕ) × (cond over rest (Some (lesser n rest)) ≡ Some k) × (k ≤ r)
 with_rest true n m r rest e le = (m, e, le)

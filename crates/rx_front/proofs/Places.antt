@@ -111,7 +111,7 @@ all_finish i (v ∷ lanes) s rounds (lane ∷ fed) [] o st = absurd st
 all_finish zero (v ∷ lanes) s rounds (lane ∷ fed) (column ∷ columns) o st = (one_finished v s rounds lane column st.0, st.1)
 all_finish (suc i) (v ∷ lanes) s rounds (lane ∷ fed) (column ∷ columns) o st = (st.0, all_finish i lanes s rounds fed columns o st.1)
 
--- ---- the room behind a feed
+-- ---- the room after a feed
 
 room_behind : (i : ℕ) (bytes : List ℕ) (lanes : List Lane) → is_open i lanes ≡ true → length bytes ≤ room_at i lanes → room_at i (lanes_fed i bytes lanes) + length bytes ≡ room_at i lanes
 room_behind i bytes [] o le = absurd (let f : false ≡ true = o in cc)
@@ -124,7 +124,7 @@ room_left i k piece lanes o e =
     let l = length-take-le k piece (omega (arith, e)) in
     subst (λ (n : ℕ). room_at i (lanes_fed i (take k piece) lanes) + n ≡ room_at i lanes) l (room_behind i (take k piece) lanes o (omega (arith, l, e)))
 
--- ---- a list behind a call on its slice
+-- ---- a list after a call on its slice
 
 -- a slice of the same length is written back whole
 pub written : {A : Type 0} (n : ℕ) (later old : List A) → length later ≡ n → take n (later ++ drop (length later) old) ≡ later

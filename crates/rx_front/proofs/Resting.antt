@@ -17,7 +17,7 @@ use Rattle.rx_front.specs.Standing.{MovesQuietly, Progress, Stands}
 use Rattle.rx_front.proofs.Locks.{lock_there, moves_as, moves_none, moves_then, quiet_lock}
 use Rattle.rx_front.proofs.Ticking.{ticked}
 
--- with so many bits of the last round left
+-- with this many bits of the last round left
 abbrev with_left : ℕ → State → State
 with_left left v = record { lanes = v.lanes; left = left; deskew = v.deskew; waiting = v.waiting; over = v.over }
 

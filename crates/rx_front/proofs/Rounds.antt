@@ -6,6 +6,7 @@ use Rattle.std.proofs.lemmas.Option.{none-some, same_Some}
 use Rattle.std.proofs.lemmas.List.{length-append, length-drop, length-replicate, length-take, take_all, replicate-append-replicate}
 use Rattle.lk_base.specs.Checksum.{bits_of, bits_of_bytes}
 use Rattle.lk_base.specs.Link.{Settings}
+use Rattle.lk_base.proofs.Lists.{none_is}
 use Rattle.lane_model.proofs.Numbers.{length-bits_of}
 use Rattle.lock_model.specs.declared.types.LaneStep.{LaneStep}
 use Rattle.lock_model.specs.declared.types.LaneStep.TheVariants as steps
@@ -36,10 +37,6 @@ drop_one zero bytes = refl
 drop_one (suc r) [] = (let e : suc r + 1 ≡ suc (r + 1) = omega arith in sym (ap (λ n. drop n []) e))
 drop_one (suc r) (b ∷ bytes) = (let e : suc r + 1 ≡ suc (r + 1) = omega arith in drop_one r bytes ∙ sym (ap (λ n. drop n (b ∷ bytes)) e))
 
-is_nil : (xs : List ℕ) → slice_get xs 0 ≡ None → xs ≡ []
-is_nil [] e = refl
-is_nil (x ∷ xs) e = absurd (none-some x (sym e))
-
 ready_over : (over : Bool) (ring : List ℕ) → ring ≡ [] → (over || not (length ring == 0)) ≡ true → over ≡ true
 ready_over true ring e h = refl
 ready_over false ring e h = absurd (clash h (ap (λ (r : List ℕ). not (length r == 0)) e))
@@ -66,7 +63,7 @@ bits_next r bytes byte e =
     bits_taken (r + 1) bytes ∙ ap bits_of_bytes (take_next r bytes byte e) ∙ bits-append (take r bytes) (byte ∷ [])
     ∙ ap (λ b. bits_of_bytes (take r bytes) ++ b) (append-nil (bits_of 8 byte)) ∙ ap (λ b. b ++ bits_of 8 byte) (sym (bits_taken r bytes))
 
--- how many steps a lane has behind so many rounds
+-- how many steps a lane has after this many rounds
 pub column_length : (s : Settings) (rounds : ℕ) (fed : Fed) (column : List LaneStep) → IsColumn s rounds fed column → length column ≡ 8 * rounds
 column_length s rounds fed column is =
     let a = ap length is.shown in
@@ -114,7 +111,7 @@ pub found_at_end : (v : Lane) (ring : List ℕ) (given : List LaneStep) (s : Set
     slice_get v.ring 0 ≡ None → ring ≡ drop 1 v.ring → given ≡ replicate 8 steps.Ended → is_ready v ≡ true → LaneStands v s rounds fed column →
     LaneStands (record { ring = ring; finished = v.finished; fed = v.fed; lock = v.lock; steps = given }) s (rounds + 1) fed (column ++ given)
 found_at_end v ring given s rounds fed column none rest ended ready st =
-    let empty : v.ring ≡ [] = is_nil v.ring none in
+    let empty : v.ring ≡ [] = none_is v.ring none in
     let over : fed.finished ≡ true = sym st.finished ∙ ready_over v.finished v.ring empty ready in
     let len : length (drop rounds fed.bytes) ≡ 0 = ap length (sym st.ring ∙ empty) in
     let d = length-drop rounds fed.bytes in
@@ -158,7 +155,7 @@ bits_more r n bytes =
     bits_taken (r + n) bytes ∙ ap bits_of_bytes (take-add r n bytes) ∙ bits-append (take r bytes) (take n (drop r bytes))
     ∙ ap (λ b. b ++ bits_of_bytes (take n (drop r bytes))) (sym (bits_taken r bytes))
 
--- a lane that took so many bytes and these steps, and kept these of them
+-- a lane that took this many bytes and these steps, and kept these of them
 pub took_steps : (v : Lane) (ring : List ℕ) (later : LaneState) (given kept : List LaneStep) (n : ℕ) (s : Settings) (rounds : ℕ) (fed : Fed) (column : List LaneStep) → length given ≡ 8 * n → 1 ≤ n → n ≤ length v.ring → ring ≡ drop n v.ring →
     Brings v.lock later (bits_of_bytes (take n v.ring)) given → kept ≡ drop (8 * (rounds + n) - length kept) (column ++ given) → LaneStands v s rounds fed column →
     LaneStands (record { ring = ring; finished = v.finished; fed = v.fed; lock = later; steps = kept }) s (rounds + n) fed (column ++ given)

@@ -105,7 +105,7 @@ same_ticks columns more (suc n) same =
     ∙ sym (map-range_with_len_more (tick_at columns) 0 n n (omega arith))
     ∙ ap (λ m. map (tick_at columns) (range_with_len 0 m)) (sym e)
 
--- ---- the relation behind so many rounds
+-- ---- the relation after this many rounds
 
 abbrev pub after_rounds : ℕ → List Lane → Bool → State → State
 after_rounds n later over v = record { lanes = later; left = 8 * n; deskew = v.deskew; waiting = v.waiting; over = over }
@@ -143,7 +143,7 @@ found_one v later true s fed items t run left ready empty taken st =
 found_one v later false s fed items t run left ready empty taken st =
     made 1 v later false s fed items t left taken st (some_has_byte v.lanes s t.rounds fed t.columns (sym empty) st.lanes)
 
--- so many of each lane
+-- this many of each lane
 pub far : (n : ℕ) (lanes : List Lane) (s : Settings) (rounds : ℕ) (fed : List Fed) (columns : List (List LaneStep)) → 1 ≤ length fed → 0 < n → All (HasBytes n) lanes → AllStand lanes s rounds fed columns →
     rounds + n ≤ longest fed
 far n [] s rounds [] columns some more has st = absurd (omega (arith, some))

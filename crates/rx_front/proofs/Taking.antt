@@ -59,7 +59,7 @@ there_at n i [] d lt h = absurd (omega (arith, lt))
 there_at n zero (v ∷ lanes) d lt h = All-head (HasBytes n) v lanes h
 there_at n (suc i) (v ∷ lanes) d lt h = there_at n i lanes d (omega (arith, lt)) (All-tail (HasBytes n) v lanes h)
 
--- the next lane has so many bytes
+-- the next lane has this many bytes
 pub next_there : (n : ℕ) (lanes : List Lane) (i : ℕ) (now : List Lane) (d : Lane) → i < length lanes → FirstMade (IsTaken n) i lanes now → All (HasBytes n) lanes → HasBytes n (get_or now i d)
 next_there n lanes i now d lt h has = subst (HasBytes n) (sym (still (IsTaken n) i lanes now d lt h)) (there_at n i lanes d lt has)
 

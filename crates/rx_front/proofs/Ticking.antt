@@ -2,9 +2,9 @@
 use Rattle.std.proofs.Common.{ℕ, zero, suc, ◌≡◌, refl, sym, ap, ◌∙◌, subst, ◌+◌, ◌-◌, ◌*◌, ◌<◌, ◌≤◌, List, [], ◌∷◌, ◌++◌, length, map, get_or, drop, arith}
 use Rattle.std.specs.List.{cons_option}
 use Rattle.std.proofs.lemmas.List.{length-drop, map-append}
-use Rattle.std.proofs.lemmas.List.FromFn.{map-range_with_len_more}
 use Rattle.lk_base.specs.declared.word.Aligned.{Aligned}
 use Rattle.lk_base.specs.Link.{Settings}
+use Rattle.deskew.proofs.Columns.{one_more}
 use Rattle.lock_model.specs.declared.types.LaneStep.{LaneStep}
 use Rattle.lock_model.specs.declared.types.LaneStep.TheVariants as steps
 use Rattle.event_model.specs.Fed.{Fed}
@@ -42,9 +42,6 @@ steps_are (v ∷ lanes) s rounds clock k width (lane ∷ fed) (column ∷ column
   where
     joined : (x y : LaneStep) (xs ys : List LaneStep) → x ≡ y → xs ≡ ys → ◌≡◌ {A = List LaneStep} (x ∷ xs) (y ∷ ys)
     joined x y xs ys e f = cc
-
-pub one_more : (columns : List (List LaneStep)) (clock : ℕ) → ticks_of columns (clock + 1) ≡ ticks_of columns clock ++ tick_at columns clock ∷ []
-one_more columns clock = map-range_with_len_more (tick_at columns) 0 clock clock (omega arith)
 
 -- the locks of the ticks before, and that of this one
 pub locks_more : (i : ℕ) (ticks : List (List LaneStep)) (tick : List LaneStep) → locks_in (steps_in i (ticks ++ tick ∷ [])) ≡ locks_in (steps_in i ticks) ++ cons_option (lock_of (get_or tick i steps.Ended)) []

@@ -6,11 +6,8 @@ use Rattle.lk_base.specs.declared.word.Aligned.{Aligned}
 use Rattle.lk_base.specs.declared.word.Aligned.TheVariants.{Word}
 use Rattle.lk_base.specs.declared.word.RxWord.{RxWord}
 use Rattle.lk_base.specs.Positions.{words_from}
+use Rattle.deskew.proofs.Rows.{words_count}
 use Rattle.rx_front.specs.Waiting.{words_in}
-
-pub length-words : (group index : ℕ) (ws : List RxWord) → length (words_from group index ws) ≡ length ws
-length-words group index [] = refl
-length-words group index (w ∷ ws) = ap suc (length-words group (index + 1) ws)
 
 -- the first of them, and the others
 pub words_first : (n group index : ℕ) (ws : List RxWord) → take n (words_from group index ws) ≡ words_from group index (take n ws)
@@ -29,7 +26,7 @@ words_are group index (w ∷ ws) = ap (λ (xs : List RxWord). w ∷ xs) (words_a
 
 -- some that wait, of a list of words
 pub some_within : (group index n cursor : ℕ) (ws : List RxWord) → cursor ≤ length ws → n ≤ length (words_from group index (drop cursor ws)) → cursor + n ≤ length ws
-some_within group index n cursor ws le some = (let l = length-words group index (drop cursor ws) in let d = length-drop cursor ws in omega (arith, le, some, l, d))
+some_within group index n cursor ws le some = (let l = words_count group index (drop cursor ws) in let d = length-drop cursor ws in omega (arith, le, some, l, d))
 
 -- as many of them taken
 pub words_passed : (group index n cursor : ℕ) (ws : List RxWord) → words_from group (index + (cursor + n)) (drop (cursor + n) ws) ≡ drop n (words_from group (index + cursor) (drop cursor ws))
@@ -41,7 +38,7 @@ words_passed group index n cursor ws =
 
 pub none_waits_where : (group index cursor : ℕ) (ws : List RxWord) → cursor ≤ length ws → (cursor == length ws) ≡ (length (words_from group index (drop cursor ws)) == 0)
 none_waits_where group index cursor ws le =
-    let l = length-words group index (drop cursor ws) in
+    let l = words_count group index (drop cursor ws) in
     let d = length-drop cursor ws in
     let e : length (words_from group index (drop cursor ws)) ≡ length ws - cursor = omega (arith, l, d) in
     is_none cursor (length ws) le ∙ ap (λ (n : ℕ). n == 0) (sym e)

@@ -15,7 +15,7 @@ use Rattle.event_model.specs.Fed.{Fed}
 use Rattle.rx_front.specs.Lanes.{LaneStands}
 use Rattle.rx_front.specs.States.{Lane, State}
 
--- a lane before and after so many rounds, whose bits completed these steps
+-- a lane before and after this many rounds, whose bits completed these steps
 pub record IsBatch (n : ℕ) (v w : Lane) (column : List LaneStep) : Type 0 where
   pub ring : w.ring ≡ drop n v.ring
   pub kept : w.steps ≡ []
@@ -34,17 +34,17 @@ AreBatches n [] [] [] = Unit {0}
 AreBatches n (v ∷ lanes) (w ∷ later) (column ∷ columns) = IsBatch n v w column × AreBatches n lanes later columns
 AreBatches n lanes later columns = ⊥
 
--- it is dark in its next bytes, so many
+-- it is dark in this many of its next bytes
 abbrev pub IsDarkFor : ℕ → Lane → Type 0
 IsDarkFor n v = StaysDark v.lock (take n v.ring)
 
--- each lane is in a declared lock, or dark in its next bytes, so many
+-- each lane is in a declared lock, or dark in this many of its next bytes
 abbrev pub KeepLocks : ℕ → List deskew.LaneState → List Lane → Type 0
 KeepLocks n [] lanes = Unit {0}
 KeepLocks n (l ∷ ls) [] = Unit {0}
 KeepLocks n (l ∷ ls) (v ∷ lanes) = ((is_locked l ≡ true) ⊎ IsDarkFor n v) × KeepLocks n ls lanes
 
--- all bits of so many rounds may be taken before an item is given
+-- all bits of this many rounds may be taken before an item is given
 abbrev pub MayTake : ℕ → State → Type 0
 MayTake n v = (can_run_ahead v.deskew ≡ true) ⊎ ((awaits_lock v.deskew ≡ true) × KeepLocks n v.deskew.lanes v.lanes)
 

@@ -7,7 +7,7 @@ use Rattle.event_model.specs.Fed.{Fed, first_bits}
 use Rattle.rx_front.specs.Lanes.{fed_lane, finished_lane}
 use Rattle.rx_front.specs.States.{Lane}
 
--- nothing was fed of so many lanes
+-- nothing was fed of this many lanes
 abbrev pub nothing_fed : ℕ → List Fed
 nothing_fed lanes = replicate lanes (record { bytes = []; finished = false })
 
@@ -53,7 +53,7 @@ bytes_at i [] = 0
 bytes_at zero (lane ∷ fed) = length lane.bytes
 bytes_at (suc i) (lane ∷ fed) = bytes_at i fed
 
--- this is the report over the bytes that so many rounds took of lane number i
+-- this is the report over the bytes that this many rounds took of lane number i
 abbrev pub IsReportOf : Settings → ℕ → ℕ → List Fed → LaneReport → Type 0
 IsReportOf s rounds i [] report = Unit {0}
 IsReportOf s rounds zero (lane ∷ fed) report = IsReport s (first_bits (8 * rounds) lane) report

@@ -36,7 +36,7 @@ are_ready lanes = list_all is_ready lanes
 abbrev pub bytes_left : List Lane → ℕ
 bytes_left lanes = sum_by (λ lane. length lane.ring) lanes
 
--- it holds so many bytes
+-- it holds this many bytes
 abbrev pub HasBytes : ℕ → Lane → Type 0
 HasBytes n v = n ≤ length v.ring
 
@@ -46,13 +46,13 @@ step_at k v = get_or v.steps k steps.Ended
 
 -- ---- the relation
 
--- these are the steps of a lane behind so many rounds: those of its bits, and then it has ended
+-- these are the steps of a lane after this many rounds: those of its bits, and then it has ended
 pub record IsColumn (s : Settings) (rounds : ℕ) (fed : Fed) (column : List LaneStep) : Type 0 where
   pub own : List LaneStep
   pub are : AreSteps s (first_bits (8 * rounds) fed) own
   pub shown : column ≡ own ++ replicate (8 * rounds - length own) steps.Ended
 
--- so many rounds were made, which completed these steps
+-- this many rounds were made, which completed these steps
 pub record LaneStands (v : Lane) (s : Settings) (rounds : ℕ) (fed : Fed) (column : List LaneStep) : Type 0 where
   pub ring : v.ring ≡ drop rounds fed.bytes
   pub finished : v.finished ≡ fed.finished
@@ -75,13 +75,13 @@ AreEach R [] [] = Unit {0}
 AreEach R (v ∷ lanes) (w ∷ later) = R v w × AreEach R lanes later
 AreEach R lanes later = ⊥
 
--- the steps behind further rounds
+-- the steps after further rounds
 abbrev pub longer : List (List LaneStep) → List Lane → List (List LaneStep)
 longer [] lanes = []
 longer (column ∷ columns) [] = column ∷ columns
 longer (column ∷ columns) (v ∷ lanes) = (column ++ v.steps) ∷ longer columns lanes
 
--- a lane before and behind so many rounds
+-- a lane before and after this many rounds
 pub record IsTaken (n : ℕ) (v w : Lane) : Type 0 where
   pub ring : w.ring ≡ drop n v.ring
   pub count : length w.steps ≡ 8 * n
@@ -90,7 +90,7 @@ pub record IsTaken (n : ℕ) (v w : Lane) : Type 0 where
 abbrev pub AreTaken : ℕ → List Lane → List Lane → Type 0
 AreTaken n lanes later = AreEach (IsTaken n) lanes later
 
--- each keeps the steps of so many bits
+-- each keeps the steps of this many bits
 abbrev pub AreWide : ℕ → List Lane → Type 0
 AreWide width [] = Unit {0}
 AreWide width (v ∷ lanes) = (length v.steps ≡ width) × AreWide width lanes

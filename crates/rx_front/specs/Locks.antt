@@ -19,7 +19,7 @@ abbrev pub locks_in : List LaneStep → List ℕ
 locks_in [] = []
 locks_in (x ∷ xs) = cons_option (lock_of x) (locks_in xs)
 
--- the lock that a lane declares at the last bit before so many of those of the last rounds
+-- the lock that a lane declares at the last bit before this many of those of the last rounds
 abbrev pub declared_by : ℕ → Lane → Option ℕ
 declared_by left v = cond (nat_lt left (length v.steps)) (lock_of (step_at (length v.steps - left - 1) v)) None
 

@@ -13,14 +13,14 @@ use Rattle.rx_front.specs.Lanes.{AllStand, bytes_left}
 use Rattle.rx_front.specs.Locks.{declared_at, locks_in}
 use Rattle.rx_front.specs.States.{State}
 
--- How far a front has come. So many rounds were made, and the clock has run by so many of their bits; the columns are the steps
+-- How far a front has come. `rounds` rounds were made, and the clock has run by `clock` of their bits; the columns are the steps
 -- of each lane, one for each bit of the rounds.
 pub record Progress : Type 0 where
   pub rounds : ℕ
   pub clock : ℕ
   pub columns : List (List LaneStep)
 
--- of so many lanes, before the first round
+-- of this many lanes, before the first round
 abbrev pub begun : ℕ → Progress
 begun lanes = record { rounds = 0; clock = 0; columns = replicate lanes [] }
 

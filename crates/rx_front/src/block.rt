@@ -9,7 +9,7 @@ ghost use Rattle.deskew.specs.Work.{work};
 ghost use Rattle.rx_front.specs.Waiting.{words_in};
 
 use deskew::Deskew;
-use lk_base::{OutOfMemory, Pos, RxWord};
+use lk_base::{OutOfMemory, Pos, RxWord, tail};
 use std::alloc::Global;
 use std::marker::Model;
 
@@ -36,14 +36,6 @@ impl Model for Block {
     ghost view = { λ a. words_from a.first.group (a.first.index + a.cursor) (drop a.cursor a.words.items) };
 
     ghost invariant = { λ a. (a.cursor ≤ length a.words.items) × (a.first.index + length a.words.items < 2 ^ 32) × (a.first.group < 2 ^ 60) × (512 ≤ vec_capacity a.words) };
-}
-
-// The words from this one on.
-fn tail(words: &[RxWord], from: usize) -> &[RxWord]
-    requires { from ≤ length words.now }
-    ensures { result.now ≡ drop from words.now }
-{
-    &words[from..]
 }
 
 impl Block {
@@ -103,7 +95,7 @@ impl Block {
         tail(&self.words, self.cursor)
     }
 
-    /// So many of them, the first, were taken.
+    /// This many of them, the first, were taken.
     pub fn pass(&mut self, count: usize)
         requires { count ≤ length self.old }
         ensures { self.new ≡ drop count self.old }

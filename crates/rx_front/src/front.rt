@@ -87,7 +87,7 @@ impl Front {
         })
     }
 
-    /// Takes the longest prefix of the piece that the lane's ring has room for, and tells how many bytes that are. The lane is
+    /// Takes the longest prefix of the piece that the lane's ring has room for, and returns how many bytes that is. The lane is
     /// below the link's lanes and not finished. Fewer than 2^57 bytes come of a lane. It is less than the piece's length exactly
     /// where the piece is longer than the room; the ring is then full.
     pub fn feed(&mut self, lane: u32, piece: &[u8]) -> usize
@@ -172,7 +172,7 @@ impl Front {
         self.block.words()
     }
 
-    /// So many of the words that wait, the first of them, were taken.
+    /// This many of the words that wait, the first of them, were taken.
     pub fn pass(&mut self, count: usize)
         requires { count ≤ length self.old.waiting }
         ensures stands { (s : Settings) (fed : List Fed) (items : List Item) (t : Progress) →
@@ -282,7 +282,7 @@ impl Front {
         count
     }
 
-    // Whether all bits of so many rounds may be taken before an item is given: an epoch goes on in which each lane is in a declared
+    // Whether all bits of this many rounds may be taken before an item is given: an epoch goes on in which each lane is in a declared
     // lock; or none goes on, and none can begin before a lane declares a lock, which no lane does.
     fn may_take(&self, count: usize) -> bool
         requires { All (HasBytes count) self.now.lanes }
@@ -295,7 +295,7 @@ impl Front {
         self.deskew.awaits_lock() && keep_locks(&self.lanes, count, &self.deskew)
     }
 
-    // So many rounds at once, each of which finds a byte of every lane. The clock moves on by all their bits.
+    // This many rounds at once, each of which finds a byte of every lane. The clock moves on by all their bits.
     fn take_batch(&mut self, count: usize)
         requires some { 1 ≤ count }
         requires most { count ≤ 536 }
@@ -334,7 +334,7 @@ impl Front {
         self.one_round()
     }
 
-    // So many rounds, which find a byte of every lane each.
+    // This many rounds, which find a byte of every lane each.
     fn rounds(&mut self, count: u32)
         requires none { self.old.left ≡ 0 }
         requires running { self.old.over ≡ false }

@@ -14,7 +14,7 @@ use crate::batch::Batch;
 use circular_buffer::HeapCircularBuffer;
 use deskew::Deskew;
 use lane_steps::LaneSteps;
-use lk_base::{Link, OutOfMemory};
+use lk_base::{Link, OutOfMemory, eight_at};
 use lock_model::{LaneReport, LaneStep};
 use std::alloc::Global;
 use std::marker::Model;
@@ -55,17 +55,7 @@ fn next_byte(ring: &mut HeapCircularBuffer<u8>) -> u8
     ring.pop_front().unwrap_or(0)
 }
 
-// The first eight of some bytes as a number, the first of them highest.
-fn first_eight(bytes: &[u8]) -> u64
-    requires { 8 ≤ length bytes.now }
-    ensures { bits_of 64 result ≡ bits_of_bytes (take 8 bytes.now) }
-{
-    u64::from_be_bytes([
-        bytes[0], bytes[1], bytes[2], bytes[3], bytes[4], bytes[5], bytes[6], bytes[7],
-    ])
-}
-
-// The number of the bits of so many first bytes of a ring, where its first eight lie together.
+// The number of the bits of this many first bytes of a ring, where its first eight lie together.
 fn bits_ahead(ring: &HeapCircularBuffer<u8>, count: u32) -> Option<u64>
     requires some { 1 ≤ count }
     requires most { count ≤ 7 }
@@ -76,10 +66,10 @@ fn bits_ahead(ring: &HeapCircularBuffer<u8>, count: u32) -> Option<u64>
     if front.len() < 8 {
         return None;
     }
-    Some(first_eight(front) >> (64 - 8 * count))
+    Some(eight_at(front, 0) >> (64 - 8 * count))
 }
 
-// Takes so many bytes from a ring, and tells the number of their bits, the first of them highest.
+// Takes this many bytes from a ring, and returns the number of their bits, the first of them highest.
 fn take_bits(ring: &mut HeapCircularBuffer<u8>, count: u32) -> u64
     requires some { 1 ≤ count }
     requires most { count ≤ 7 }
@@ -113,7 +103,7 @@ fn gathered(ring: &mut HeapCircularBuffer<u8>, count: u32) -> u64
     bits
 }
 
-// Passes over so many bytes of a ring.
+// Passes over this many bytes of a ring.
 fn pass_bytes(ring: &mut HeapCircularBuffer<u8>, count: usize)
     requires { count ≤ length ring.old.items }
     ensures { ring.new ≡ buffer (drop count ring.old.items) ring.old.capacity }
@@ -155,7 +145,7 @@ impl Lane {
         })
     }
 
-    /// Takes as many bytes as its ring has room for, and tells how many. Fewer than 2^57 bytes come in all.
+    /// Takes as many bytes as its ring has room for, and returns how many. Fewer than 2^57 bytes come in all.
     pub fn feed(&mut self, piece: &[u8]) -> usize
         requires { self.old.fed + length piece.now < 2 ^ 57 }
         ensures count { result ≡ min (length piece.now) (4096 - length self.old.ring) }
@@ -206,7 +196,7 @@ impl Lane {
         self.ring.len()
     }
 
-    /// Whether it is dark in its next bytes, so many: then rounds that take them show nothing of it.
+    /// Whether it is dark in this many of its next bytes: then rounds that take them show nothing of it.
     pub fn stays_dark(&self, count: usize) -> bool
         requires { HasBytes count self.now }
         ensures dark { result ≡ true → IsDarkFor count self.now }
@@ -220,7 +210,7 @@ impl Lane {
         first && self.steps.stays_dark(&behind[..count - front.len()])
     }
 
-    /// So many rounds take a byte of it each. It tells at which of their bits it may show something: bit k of the number is 0 only
+    /// This many rounds take a byte of it each. Returns at which of their bits it may show something: bit k of the number is 0 only
     /// where bit k of the rounds shows nothing.
     pub fn take_bytes(&mut self, count: u32) -> u64
         requires some { 1 ≤ count }
@@ -234,7 +224,7 @@ impl Lane {
         self.steps.shows()
     }
 
-    /// So many rounds, at most 536, take a byte of it each, and the deskew takes the steps that their bits show, as those of this
+    /// This many rounds, at most 536, take a byte of it each, and the deskew takes the steps that their bits show, as those of this
     /// lane. No step is kept.
     pub fn take_batch(&mut self, lane: u32, count: usize, batch: &mut Batch, deskew: &mut Deskew)
         requires some { 1 ≤ count }

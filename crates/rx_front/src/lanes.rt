@@ -89,7 +89,7 @@ pub fn zeros_from(number: u64, k: u32, end: u32) -> u32
     (number >> k).trailing_zeros().min(end - k)
 }
 
-/// How many rounds at once find a byte of every lane each: at most so many.
+/// How many rounds at once find a byte of every lane each: at most this many.
 pub fn whole_rounds(lanes: &[Lane], most: usize) -> usize
     ensures most { result ≤ most }
     ensures there { All (HasBytes result) lanes.now }
@@ -101,7 +101,7 @@ pub fn whole_rounds(lanes: &[Lane], most: usize) -> usize
     count
 }
 
-/// Whether in so many rounds no lane declares a lock, since each is in one or stays dark: false only where some lane is in none and
+/// Whether in this many rounds no lane declares a lock, since each is in one or stays dark: false only where some lane is in none and
 /// does not stay dark.
 pub fn keep_locks(lanes: &[Lane], count: usize, deskew: &Deskew) -> bool
     requires there { All (HasBytes count) lanes.now }
@@ -119,7 +119,7 @@ pub fn keep_locks(lanes: &[Lane], count: usize, deskew: &Deskew) -> bool
     true
 }
 
-// Whether in so many rounds the lane declares no lock, since it is in one, as is told, or stays dark.
+// Whether in this many rounds the lane declares no lock, since it is in one, as `locked` says, or stays dark.
 fn declares_none(lane: &Lane, locked: bool, count: usize) -> bool
     requires { HasBytes count lane.now }
     ensures none { result ≡ true → (locked ≡ true) ⊎ IsDarkFor count lane.now }
@@ -128,7 +128,7 @@ fn declares_none(lane: &Lane, locked: bool, count: usize) -> bool
     locked || lane.stays_dark(count)
 }
 
-/// So many rounds, at most 536, take a byte of every lane each, and the deskew takes the steps that their bits show, lane by lane.
+/// This many rounds, at most 536, take a byte of every lane each, and the deskew takes the steps that their bits show, lane by lane.
 /// No step is kept.
 pub fn take_batches(lanes: &mut [Lane], count: usize, batch: &mut Batch, deskew: &mut Deskew)
     requires some { 1 ≤ count }
@@ -143,7 +143,7 @@ pub fn take_batches(lanes: &mut [Lane], count: usize, batch: &mut Batch, deskew:
     }
 }
 
-/// So many rounds take a byte of every lane each. It tells at which of their bits some lane may show something: bit k of the number
+/// This many rounds take a byte of every lane each. Returns at which of their bits some lane may show something: bit k of the number
 /// is 0 only where no lane shows anything at bit k.
 pub fn take_rounds(lanes: &mut [Lane], count: u32) -> u64
     requires some { 1 ≤ count }
@@ -159,7 +159,7 @@ pub fn take_rounds(lanes: &mut [Lane], count: u32) -> u64
     shows
 }
 
-/// Feeds a lane, which is not finished, and tells how many bytes it took.
+/// Feeds a lane, which is not finished, and returns how many bytes it took.
 pub fn feed_at(lanes: &mut [Lane], lane: u32, piece: &[u8]) -> usize
     requires unfinished { is_open lane lanes.old ≡ true }
     requires few { count_at lane lanes.old + length piece.now < 2 ^ 57 }

@@ -2,7 +2,7 @@
 use Rattle.std.proofs.Common.{ℕ, ◌≡◌, sym, ap, ◌∙◌, ◌+◌, ◌-◌, ◌*◌, ◌/◌, ◌%◌, ◌^◌, ◌<◌}
 use Rattle.std.specs.Int.{bit_at}
 use Rattle.std.proofs.lemmas.Nat.{shr-shr, shr_high, mod_low, mul-add-lt, pow-add}
-pub use Rattle.lane_model.proofs.Numbers.{bit_at-mod}
+use Rattle.lk_base.proofs.Bits.{bit_at-mod}
 
 pub bit_at-shr : (x n i : ℕ) → bit_at (x / 2 ^ n) i ≡ bit_at x (n + i)
 bit_at-shr x n i = ap (λ y. y % 2) (shr-shr x n i)

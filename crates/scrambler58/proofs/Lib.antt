@@ -1,4 +1,2 @@
--- What other crates cite.
-pub mod Joined
--- What this crate alone cites.
+mod Joined
 mod Whole

@@ -5,11 +5,11 @@ use Rattle.std.proofs.lemmas.Bool.{cases_lt}
 use Rattle.std.proofs.lemmas.List.{get_or-take, length-take-le}
 use Rattle.std.proofs.lemmas.Nat.{pow_pos, mod_below}
 use Rattle.std.proofs.lemmas.Nat.Bits.{bit_at_xor, same_from_bits_below}
-use Rattle.lk_base.specs.Checksum.{differ}
-use Rattle.lane_model.specs.Bits.{digit}
+use Rattle.lk_base.specs.Checksum.{differ, digit}
+use Rattle.lk_base.proofs.Bits.{bit_at-mod}
 use Rattle.lane_model.specs.Key.{key_until, start_of, state_before, key_word}
 use Rattle.lane_model.specs.KeyLaw.{key_back, key_bit}
-use Rattle.lane_model.proofs.Numbers.{below-take, bit-low_number, length-low_bits, low_bits-number, bit_at-mod}
+use Rattle.lane_model.proofs.Numbers.{below-take, bit-low_number, length-low_bits, low_bits-number}
 use Rattle.lane_model.proofs.Keys.{length-key_until, key_until-add, key_until-take}
 use Rattle.lane_model.proofs.KeyHolds.{step, later, earlier, back_by, state_before-bit, state_before-below, key_word-bit, key_word-below}
 use Rattle.scrambler58.specs.Strides.{bits_after, state_after}
@@ -95,7 +95,7 @@ moved s n h =
 
 -- ---- two strides
 
--- the key from the state behind some bits is the key behind these bits
+-- the key from the state after some bits is the key after these bits
 start-after : (s m : ℕ) → start_of (state_after s m) ≡ take 58 (key_until (start_of s) m)
 unfolding state_after
 start-after s m =

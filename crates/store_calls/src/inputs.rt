@@ -55,7 +55,7 @@ fn store_of(alloc: Global) -> Result<MemStore, OutOfMemory>
     Ok(store)
 }
 
-// Tells each packet of a capture with its channel.
+// Adds each packet of a capture with its channel to the text.
 fn tell_packets(
     alloc: Global,
     text: &mut String,
@@ -177,7 +177,7 @@ fn at_once(alloc: Global) -> Result<String, OutOfMemory> {
     plan_at_once(alloc, &mut store)
 }
 
-/// Tells what is read of a plan and the files that it names.
+/// Prints what is read of a plan and the files that it names.
 pub fn tell_all(rt: &HostRuntime) -> io::Result<()> {
     tell(rt, "a plan, and then its inputs", in_turn(rt.alloc()))?;
     tell(

@@ -53,7 +53,7 @@ fn tell_file(rt: &HostRuntime) -> io::Result<()> {
     println!(rt; "the file from 1: read {read:?} {text}")
 }
 
-// The same file, read behind its end and created again.
+// The same file, read past its end and created again.
 fn tell_again(rt: &HostRuntime) -> io::Result<()> {
     let mut store = HostStore::make(rt);
     let mut buf = [0; 8];
@@ -101,7 +101,7 @@ fn narrow_output(alloc: Global) -> Result<String, OutOfMemory> {
     Ok(format!(in alloc; "abc {abc:?}, abcd {abcd:?}, taken {taken}")?)
 }
 
-/// Tells what the store and the sink of the machine answer.
+/// Prints what the store and the sink of the machine answer.
 pub fn tell_all(rt: &HostRuntime) -> io::Result<()> {
     tell_long(rt)?;
     fs::create_dir(rt, FOLDER)?;

@@ -1,4 +1,4 @@
-//! Calls public functions of the crates of files and inputs once each, over stores in memory and over the machine, and tells what
+//! Calls public functions of the crates of files and inputs once each, over stores in memory and over the machine, and prints what
 //! they gave.
 #![tactic(auto)]
 

@@ -109,7 +109,7 @@ fn a_whole_file(alloc: Global) -> Result<String, OutOfMemory> {
     read_file(alloc, &mut store)
 }
 
-/// Tells what stores and sinks in memory answer.
+/// Prints what stores and sinks in memory answer.
 pub fn tell_all(rt: &HostRuntime) -> io::Result<()> {
     tell(rt, "each call of a store", each_call(rt.alloc()))?;
     tell(rt, "a listed append of abcde", a_half(rt.alloc()))?;

@@ -5,12 +5,13 @@ use Rattle.std.proofs.lemmas.List.Concat.{flat_map-cons}
 use Rattle.std.proofs.lemmas.Option.{slice_get_within, get_or_from_slice_get}
 use Rattle.lk_base.specs.Fields.{channel_field, multi_field, channel_number}
 use Rattle.lk_base.specs.declared.word.Word.{Word}
+use Rattle.lk_base.proofs.Lists.{contains_here}
 use Rattle.stream_model.specs.BurstStream.{Source, Chunk, IsRightControl, chunks_of_packet, packets_of, bursts_in}
 use Rattle.stream_model.specs.Cutting.{IsCutOf, BurstsHoldTheLeast, NarrowStandsAlone, ChannelIsSplit}
 use Rattle.stream_model.proofs.Blocks.{bit_cases}
 use Rattle.stream_model.proofs.Bursts.{chunk_next}
 use Rattle.stream_model.proofs.Carried.{in_append}
-use Rattle.stream_model.proofs.Choosing.{contains_first, contains_rest}
+use Rattle.stream_model.proofs.Choosing.{contains_rest}
 use Rattle.stream_model.proofs.Cutting.{cut_of}
 
 contains_at : {X : Type 0} (xs : List X) (k : ℕ) (x : X) → slice_get xs k ≡ Some x → Contains xs x
@@ -27,7 +28,7 @@ of_packets most least [] k chunk at = cc
 of_packets most least (packet ∷ packets) k chunk at =
     let both : slice_get (chunks_of_packet most least packet ++ flat_map (chunks_of_packet most least) packets) k ≡ Some chunk = ap (λ xs. slice_get xs k) (sym (flat_map-cons (chunks_of_packet most least) packet packets)) ∙ at in
     elim (in_append (chunks_of_packet most least packet) (flat_map (chunks_of_packet most least) packets) k chunk both) [
-      | inl here ↦ (packet, contains_first packet packets, contains_at (chunks_of_packet most least packet) k chunk here)
+      | inl here ↦ (packet, contains_here packet packets, contains_at (chunks_of_packet most least packet) k chunk here)
       | inr there ↦ (
           let r = of_packets most least packets there.0 chunk there.1 in
           (r.0, contains_rest packet packets r.0 r.1, r.2))

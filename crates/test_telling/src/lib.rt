@@ -1,4 +1,4 @@
-//! How programs of calls tell what a call gave: in one line after its name, or in lines below it. Where a call found no memory,
+//! How programs of calls print what a call gave: in one line after its name, or in lines below it. Where a call found no memory,
 //! "out of memory" stands in their place.
 #![tactic(auto)]
 

@@ -89,7 +89,7 @@ fn tell_read(rt: &HostRuntime) -> io::Result<()> {
     )
 }
 
-/// Tells samples that are made, the rows that samples give, and the least byte that is no sample.
+/// Prints samples that are made, the rows that samples give, and the least byte that is no sample.
 pub fn tell_all(rt: &HostRuntime) -> io::Result<()> {
     tell_value(rt, "channel 2 of two is off", &second_off(rt.alloc()))?;
     tell_value(

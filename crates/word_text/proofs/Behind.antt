@@ -1,7 +1,7 @@
--- Pieces of a line, one behind the other.
+-- Pieces of a line, one after the other.
 use Rattle.std.proofs.Common.{◌≡◌, ℕ, List, ◌++◌, ap, ◌∙◌, append_assoc}
 
--- two pieces behind a text
+-- two pieces after a text
 pub both : (old mid new p q : List ℕ) → mid ≡ old ++ p → new ≡ mid ++ q → new ≡ old ++ (p ++ q)
 both old mid new p q e f = f ∙ ap (λ (xs : List ℕ). xs ++ q) e ∙ append_assoc old p q
 

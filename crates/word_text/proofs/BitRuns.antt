@@ -3,9 +3,8 @@ use Rattle.std.proofs.Common.{◌≡◌, ◌+◌, ◌*◌, ◌%◌, ◌^◌, ◌
 use Rattle.std.proofs.lemmas.Nat.{or_shifted}
 use Rattle.std.proofs.Math.Nat.{pow-le-pow_right, two-pow-succ}
 use mir.Val.{bool_byte}
-use Rattle.lane_model.specs.Bits.{digit}
-use Rattle.lk_base.specs.Checksum.{bits_of}
-use Rattle.coding_67b.proofs.Cut.{bits-joined}
+use Rattle.lk_base.specs.Checksum.{bits_of, digit}
+use Rattle.lk_base.proofs.Bits.{bits-joined}
 
 one-bit : (b : Bool) → bits_of 1 (digit b) ≡ b ∷ []
 unfolding bits_of

@@ -3,6 +3,7 @@ use Rattle.std.proofs.Common.{inl, inr, ◌≡◌, ℕ, ◌+◌, ◌*◌, ◌%�
 use Rattle.lane_model.proofs.FilesHold.{length-flat_map_bits}
 use Rattle.lane_model.specs.LaneBits.{bits_of_codes}
 use Rattle.std.proofs.Common.{length-append}
+use Rattle.coding_67b.proofs.Runs.{codes_length}
 use Rattle.words_files.specs.declared.text_error.TextError.{TextError}
 use Rattle.words_files.specs.declared.text_error.TextError.TheVariants.{Head, Line, Length}
 use Rattle.word_text.specs.Lines.{ended, text_of}
@@ -10,7 +11,6 @@ use Rattle.word_text.specs.CodeLines.{IsCodeLine, rest_lines}
 use Rattle.word_text.specs.Listings.{words_head, lane_head, IsWordsListing, IsLaneListing, IsListing}
 use Rattle.word_text.specs.Refusals.{HasNoHead, IsRefusedFor}
 use Rattle.word_text.specs.Read.{byte_at}
-use Rattle.word_text.proofs.Lanes.{codes-count}
 use Rattle.word_text.proofs.LaneEnds.{as-many}
 use Rattle.word_text.proofs.Cuts.{text-step}
 use Rattle.word_text.proofs.Unique.{WordsCut, words-once, listing-cut, wrong-cut, one-file}
@@ -43,7 +43,7 @@ one-bytes text bytes other (inl a) (inr b) = absurd (one-kind text bytes other a
 one-bytes text bytes other (inr a) (inl b) = absurd (one-kind text other bytes b a)
 one-bytes text bytes other (inr a) (inr b) = lane-one-file text bytes other a b
 
--- the words text or the lane text behind a first line
+-- the words text or the lane text after a first line
 pub words-kind : (lines bytes : List ℕ) → IsListing (ended words_head ++ lines) bytes → IsWordsListing (ended words_head ++ lines) bytes
 words-kind lines bytes (inl a) = a
 words-kind lines bytes (inr b) = absurd (two-heads (ended words_head ++ lines) (lines, refl) (lane-begins (ended words_head ++ lines) b.lines b.rest [] (lane-listing-cut (ended words_head ++ lines) bytes b)))
@@ -66,7 +66,7 @@ some-left left h e = let size = ap length e in omega (arith, size, h)
 lane-bits : (text bytes : List ℕ) (b : IsLaneListing text bytes) → 8 * length bytes ≡ 67 * length b.lines + length b.rest
 lane-bits text bytes b =
     let size = sym (length-flat_map_bits 8 bytes) ∙ ap length b.bits ∙ length-append (bits_of_codes b.coded) b.rest in
-    let count = codes-count b.coded in
+    let count = codes_length b.coded in
     let many = as-many IsCodeLine b.coded b.lines b.each in
     omega (arith, size, count, many)
 

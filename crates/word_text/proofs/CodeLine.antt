@@ -1,7 +1,8 @@
 -- A code has a line, and a line is that of one code, that of rest bits, or neither.
 use Rattle.std.proofs.Common.{◌⊎◌, inl, inr, ◌≡◌, ℕ, ◌+◌, ◌-◌, ◌*◌, ◌/◌, ◌%◌, ◌^◌, ◌<◌, ◌≤◌, ◌==◌, Bool, true, false, List, [], ◌∷◌, length, map, drop, refl, sym, ap, ◌∙◌, arith, if◌then◌else◌}
 use Rattle.std.proofs.lemmas.Bool.{eqb-true, eqb-false, cases_lt}
-use Rattle.lane_model.specs.Bits.{digit}
+use Rattle.lk_base.specs.Checksum.{digit}
+use Rattle.lk_base.proofs.Bits.{digit_small}
 use Rattle.lane_model.specs.Coding.{header_in, payload_in, inverse_of}
 use Rattle.lane_model.specs.Framing.{sync_payload}
 use Rattle.word_text.specs.Lines.{AreLinesOf}
@@ -68,12 +69,8 @@ record OneCode (line : List ℕ) : Type 0 where
   below : code < 2 ^ 67
   only : (other : ℕ) → other < 2 ^ 67 → IsCodeLine other line → code ≡ other
 
-digit-below : (b : Bool) → digit b < 2
-digit-below true = omega arith
-digit-below false = omega arith
-
 header-below : (a b : Bool) → 2 * digit a + digit b < 4
-header-below a b = let h = digit-below a in let k = digit-below b in omega (arith, h, k)
+header-below a b = let h = digit_small a in let k = digit_small b in omega (arith, h, k)
 
 one-code : (line : List ℕ) → OneCode line
 one-code line = by-sync (byte_at line 1 == 121) refl

@@ -3,7 +3,8 @@ use Rattle.std.proofs.Common.{inl, inr, ◌⊎◌, ◌≡◌, ◌≢◌, ℕ, ze
 use Rattle.std.proofs.lemmas.Nat.{pow_pos, pow-add, mul-add-lt}
 use Rattle.std.proofs.Math.Seq.{take-append_seam}
 use Rattle.lk_base.specs.Checksum.{bits_of, bits_of_bytes}
-use Rattle.coding_67b.proofs.Cut.{bits-joined}
+use Rattle.lk_base.proofs.Bits.{bits-joined}
+use Rattle.coding_67b.proofs.Runs.{codes_length}
 use Rattle.lane_model.proofs.Numbers.{length-bits_of}
 use Rattle.word_text.specs.Lines.{ended, text_of, AreLinesOf}
 use Rattle.word_text.specs.CodeLines.{IsCodeLine, rest_line, rest_lines}
@@ -11,7 +12,7 @@ use Rattle.word_text.specs.Listings.{lane_head}
 use Rattle.word_text.specs.Refusals.{IsCodeLineOfAny, IsFirstWrongCode, IsRestLine, HasNoWholeBytes}
 use Rattle.word_text.specs.Bytes.{TakesBytes, CodesTold, PutsBytes, BeginsWithNoCode}
 use Rattle.word_text.proofs.Rests.{one-rest}
-use Rattle.word_text.proofs.Lanes.{lane-listing, text-rest, codes-count}
+use Rattle.word_text.proofs.Lanes.{lane-listing, text-rest}
 
 -- ---- the lines before
 
@@ -29,7 +30,7 @@ as-many IsLine (x ∷ xs) [] h = absurd h
 as-many IsLine (x ∷ xs) (line ∷ lines) h = let same = as-many IsLine xs lines h.1 in omega (arith, same)
 
 told-bits : (text left : List ℕ) (number : ℕ) (bits : List Bool) (t : CodesTold text left number bits) → length bits ≡ 67 * length t.lines
-told-bits text left number bits t = ap length t.theirs ∙ codes-count t.coded ∙ ap (λ (n : ℕ). 67 * n) (sym (as-many IsCodeLine t.coded t.lines t.each))
+told-bits text left number bits t = ap length t.theirs ∙ codes_length t.coded ∙ ap (λ (n : ℕ). 67 * n) (sym (as-many IsCodeLine t.coded t.lines t.each))
 
 rest-behind : (text left : List ℕ) (number : ℕ) (bits rest : List Bool) (more : List ℕ) (t : CodesTold text left number bits) → left ≡ text_of (rest_lines rest) ++ more → text ≡ text_of (lane_head ∷ t.lines ++ rest_lines rest) ++ more
 rest-behind text left number bits rest more t e =

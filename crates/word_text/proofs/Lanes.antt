@@ -1,11 +1,11 @@
 -- A listing of a lane and its bits grow by one code.
-use Rattle.std.proofs.Common.{◌≡◌, ◌≢◌, ℕ, ◌+◌, ◌*◌, ◌<◌, ◌^◌, Bool, List, [], ◌∷◌, ◌++◌, All, length, refl, sym, ap, ◌∙◌, append_assoc, append-nil, arith, subst, length-append, get_or}
+use Rattle.std.proofs.Common.{◌≡◌, ◌≢◌, ℕ, ◌+◌, ◌<◌, ◌^◌, Bool, List, [], ◌∷◌, ◌++◌, All, length, refl, sym, ap, ◌∙◌, append_assoc, append-nil, arith, subst, length-append, get_or}
 use Rattle.std.proofs.lemmas.List.{get_or_default}
 use Rattle.std.proofs.lemmas.List.Elements.{All-push}
 use Rattle.std.proofs.lemmas.Grind.{flat_map-append}
 use Rattle.lk_base.specs.Checksum.{bits_of, bits_of_bytes}
+use Rattle.coding_67b.proofs.Runs.{code_more}
 use Rattle.lane_model.specs.LaneBits.{bits_of_codes}
-use Rattle.lane_model.proofs.FilesHold.{length-flat_map_bits}
 use Rattle.word_text.specs.Lines.{ended, text_of}
 use Rattle.word_text.specs.CodeLines.{IsCodeLine, rest_line, rest_lines}
 use Rattle.word_text.specs.Listings.{lane_head, IsLaneListing}
@@ -21,17 +21,9 @@ use Rattle.word_text.proofs.Pieces.{lines-push, flat-push, cut-once, has-end, la
 pub octets-of : (xs : List ℕ) → ((i : ℕ) → get_or xs i 0 < 256) → All (λ b. b < 2 ^ 8) xs
 octets-of xs f k d l = let e = get_or_default xs k 0 d l in let h = f k in omega (arith, e, h)
 
-codes-push : (coded : List ℕ) (code : ℕ) → bits_of_codes (coded ++ code ∷ []) ≡ bits_of_codes coded ++ bits_of 67 code
-unfolding bits_of_codes
-codes-push coded code = flat-push (bits_of 67) coded code
-
 codes-none : bits_of_codes [] ≡ []
 unfolding bits_of_codes
 codes-none = refl
-
-pub codes-count : (coded : List ℕ) → length (bits_of_codes coded) ≡ 67 * length coded
-unfolding bits_of_codes
-codes-count coded = length-flat_map_bits 67 coded
 
 pub none-told : (text : List ℕ) → CodesTold (ended lane_head ++ text) text 2 []
 none-told text = record {
@@ -44,14 +36,14 @@ none-told text = record {
   count = refl;
 }
 
--- one code more: its line stands behind those before
+-- one code more: its line stands after those before
 told-push : (text left new behind line : List ℕ) (number code : ℕ) (bits : List Bool) (t : CodesTold text left number bits) → code < 2 ^ 67 → IsCodeLine code line → new ≡ text_of (lane_head ∷ t.lines) ++ ended line ++ behind → CodesTold new behind (number + 1) (bits ++ bits_of 67 code)
 told-push text left new behind line number code bits t h is e = record {
   coded = t.coded ++ code ∷ [];
   lines = t.lines ++ line ∷ [];
   sized = All-push (λ (c : ℕ). c < 2 ^ 67) t.coded code t.sized h;
   each = lines-push IsCodeLine t.coded t.lines code line t.each is;
-  theirs = ap (λ (l : List Bool). l ++ bits_of 67 code) t.theirs ∙ sym (codes-push t.coded code);
+  theirs = ap (λ (l : List Bool). l ++ bits_of 67 code) t.theirs ∙ sym (code_more t.coded code);
   whole = e ∙ ap (λ (l : List ℕ). l ++ behind) (sym (flat-push ended (lane_head ∷ t.lines) line));
   count = let size = length-append t.lines (line ∷ []) in let c = t.count in omega (arith, c, size);
 }
@@ -70,7 +62,7 @@ more-read text left behind line number code bits h is e t =
 
 -- ---- listing
 
--- the lines of the first codes were put behind a text
+-- the lines of the first codes were put after a text
 pub record LinesBehind (old new : List ℕ) (bits left : List Bool) (count : ℕ) : Type 0 where
   pub text : List ℕ
   pub before : List Bool
@@ -109,7 +101,7 @@ lane-listing text left new bytes number bits rest t h o e f = record {
   whole = f ∙ sym (text-rest t.lines rest);
 }
 
--- behind the lines of the codes comes that of the rest
+-- after the lines of the codes comes that of the rest
 told-behind : (text tail : List ℕ) (number : ℕ) (bits : List Bool) (t : CodesTold text [] number bits) → text ++ tail ≡ text_of (lane_head ∷ t.lines) ++ tail
 told-behind text tail number bits t = ap (λ (l : List ℕ). l ++ tail) (t.whole ∙ append-nil (text_of (lane_head ∷ t.lines)))
 

@@ -1,6 +1,6 @@
 -- How long a listing is at most.
-use Rattle.std.proofs.Common.{◌⊎◌, inl, inr, ◌≡◌, ℕ, zero, suc, ◌+◌, ◌*◌, ◌<◌, ◌≤◌, ◌^◌, ◌/◌, ◌%◌, Bool, true, false, List, [], ◌∷◌, ◌++◌, length, refl, sym, ap, ◌∙◌, arith, length-append}
-use Rattle.std.specs.Fmt.{decimal, digit_glyph}
+use Rattle.std.proofs.Common.{◌⊎◌, inl, inr, ◌≡◌, ℕ, suc, ◌+◌, ◌*◌, ◌<◌, ◌≤◌, ◌^◌, ◌%◌, Bool, true, false, List, [], ◌∷◌, ◌++◌, length, refl, sym, ap, ◌∙◌, arith, length-append}
+use Rattle.std.specs.Fmt.{decimal}
 use Rattle.std.proofs.lemmas.Fmt.{length-decimal-le}
 use Rattle.std.proofs.lemmas.List.{length-map}
 use Rattle.std.proofs.lemmas.List.Concat.{flat_map-cons}
@@ -15,23 +15,18 @@ use Rattle.control_words.specs.declared.fields.Control.{Control}
 use Rattle.control_words.specs.ControlWord.{IsWordOf}
 use Rattle.word_text.specs.declared.word.FileWord.{FileWord}
 use Rattle.word_text.specs.declared.word.FileWord.TheVariants as file
-use Rattle.word_text.specs.Digits.{hex, bit_glyph}
+use Rattle.word_text.specs.Digits.{bit_glyph}
+use Rattle.lk_base.specs.Hex.{hex}
+use Rattle.lk_base.proofs.HexDigits.{length-hex}
+use Rattle.coding_67b.proofs.Runs.{codes_length}
 use Rattle.word_text.specs.Lines.{ended, text_of, AreLinesOf}
 use Rattle.word_text.specs.WordLines.{nine_bytes, IsWordLine, control_text}
 use Rattle.word_text.specs.CodeLines.{IsSync, IsState, IsCodeLine, rest_line, rest_lines}
 use Rattle.word_text.specs.Listings.{words_head, lane_head, IsWordsListing, IsLaneListing}
-use Rattle.word_text.proofs.Spelled.{hex-zero, hex-suc}
 use Rattle.word_text.proofs.Fields.{cut-fields, from_kind, from_sop, from_eop, from_reset, from_flow, from_channel, from_multi}
 use Rattle.word_text.proofs.CodeText.{decide-sync, decide-state}
 use Rattle.word_text.proofs.Cuts.{text-cons}
-use Rattle.word_text.proofs.Lanes.{text-rest, codes-count}
-
-length-hex : (n x : ℕ) → length (hex n x) ≡ n
-length-hex zero x = ap (λ (l : List ℕ). length l) (hex-zero x)
-length-hex (suc n) x =
-    let size = ap (λ (l : List ℕ). length l) (hex-suc n x) ∙ length-append (hex n (x / 16)) (digit_glyph true (x % 16) ∷ []) in
-    let low = length-hex n (x / 16) in
-    omega (arith, size, low)
+use Rattle.word_text.proofs.Lanes.{text-rest}
 
 -- ---- the line of a word has at most 72 bytes
 
@@ -155,5 +150,5 @@ lane-length text bytes a =
     let first = ended-length lane_head a.lines in
     let last = rest-length a.rest a.short in
     let bits = sym (length-flat_map_bits 8 bytes) ∙ ap (λ (l : List Bool). length l) a.bits ∙ length-append (bits_of_codes a.coded) a.rest in
-    let count = codes-count a.coded in
+    let count = codes_length a.coded in
     omega (arith, lines, size, first, last, bits, count)

@@ -5,7 +5,7 @@ use Rattle.word_text.specs.Lines.{ended}
 use Rattle.word_text.specs.CodeLines.{rest_line, rest_lines, IsCodeLine}
 use Rattle.word_text.specs.Refusals.{IsRestLine}
 use Rattle.word_text.proofs.Spelled.{lacks}
-use Rattle.word_text.proofs.CodeText.{first-byte}
+use Rattle.word_text.proofs.CodeText.{first-byte, glyph-back}
 use Rattle.word_text.proofs.Pieces.{cut-once, lacks-all}
 
 -- a line of rest bits, with its bits
@@ -29,10 +29,6 @@ line-of-rest line (b ∷ bits) h k e = (b ∷ bits, k, ap (λ (l : List ℕ). l 
 pub one-rest : (rest : List Bool) → 0 < length rest → rest_lines rest ≡ rest_line rest ∷ []
 one-rest [] h = absurd (omega arith)
 one-rest (b ∷ rest) h = refl
-
-glyph-back : (b : Bool) → (bit_glyph b == 49) ≡ b
-glyph-back true = refl
-glyph-back false = refl
 
 pub bits-back : (bits : List Bool) → map (λ b. b == 49) (map bit_glyph bits) ≡ bits
 bits-back [] = refl

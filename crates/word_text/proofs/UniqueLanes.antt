@@ -3,8 +3,8 @@ use Rattle.std.proofs.Common.{true, ◌⊎◌, inl, inr, ◌≡◌, ◌==◌, �
 use Rattle.std.proofs.lemmas.List.{append_cancel_left}
 use Rattle.std.proofs.lemmas.List.Concat.{flat_map-cons}
 use Rattle.std.proofs.lemmas.List.Elements.{All-tail}
-use Rattle.lk_base.specs.Checksum.{bits_of}
-use Rattle.lane_model.specs.Bits.{digit, high_number}
+use Rattle.lk_base.specs.Checksum.{bits_of, digit}
+use Rattle.lane_model.specs.Bits.{high_number}
 use Rattle.lane_model.specs.Coding.{header_in, payload_in}
 use Rattle.lane_model.specs.LaneBits.{bits_of_codes}
 use Rattle.lane_model.proofs.Numbers.{length-bits_of, number-bits_of}
@@ -92,7 +92,7 @@ pub record LaneCut (text : List ℕ) (lines : List (List ℕ)) (rest : List Bool
 pub any-lacks : (line : List ℕ) → IsCodeLineOfAny line → lacks 10 line ≡ true
 any-lacks line (code, sized, is) = code-lacks code line is
 
--- what stands behind the lines of codes
+-- what stands after the lines of codes
 abbrev behind_codes : List Bool → List ℕ → List ℕ
 behind_codes rest left = text_of (rest_lines rest) ++ left
 
@@ -118,7 +118,7 @@ rest-once (b ∷ r) (c ∷ s) x y h k f g e =
     let (line, left) = cut-once (rest_line (b ∷ r)) (rest_line (c ∷ s)) x y (rest-lacks (b ∷ r)) (rest-lacks (c ∷ s)) (sym (first-rest b r x) ∙ e ∙ first-rest c s y) in
     (same-rest (b ∷ r) (c ∷ s) line, left)
 
--- the text behind the first line
+-- the text after the first line
 behind-head : (text : List ℕ) (lines : List (List ℕ)) (rest : List Bool) (left : List ℕ) → LaneCut text lines rest left → drop 5 text ≡ text_of lines ++ behind_codes rest left
 behind-head text lines rest left a =
     ap (drop 5) (a.whole ∙ ap (λ (l : List ℕ). l ++ left) (text-rest lines rest) ∙ append_assoc (text_of (lane_head ∷ lines)) (text_of (rest_lines rest)) left ∙ text-step lane_head lines (behind_codes rest left))

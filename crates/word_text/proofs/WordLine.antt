@@ -8,10 +8,13 @@ use Rattle.lk_base.specs.Fields.{field, is_control_word, is_end_format, has_burs
 use Rattle.control_words.specs.declared.fields.Eop.{Eop}
 use Rattle.control_words.specs.declared.fields.Eop.TheVariants.{Going, End, Error}
 use Rattle.control_words.specs.declared.fields.Control.{Control}
-use Rattle.control_words.specs.ControlWord.{IsWordOf, bit, end_of, end_of_format, eop_format}
+use Rattle.control_words.specs.ControlWord.{IsWordOf, end_of, end_of_format, eop_format}
+use Rattle.lk_base.specs.Checksum.{digit}
 use Rattle.word_text.specs.declared.word.FileWord.{FileWord}
 use Rattle.word_text.specs.declared.word.FileWord.TheVariants as file
-use Rattle.word_text.specs.Digits.{hex}
+use Rattle.lk_base.specs.Hex.{hex}
+use Rattle.lk_base.proofs.Bits.{digit_small}
+use Rattle.control_words.proofs.SameControl.{highest}
 use Rattle.word_text.specs.Lines.{AreLinesOf}
 use Rattle.word_text.specs.WordLines.{control_text, IsControlLine, IsWordLine, IsSized}
 use Rattle.word_text.specs.Refusals.{IsWordLineOfAny}
@@ -50,7 +53,7 @@ by-format (suc (suc (suc (suc (suc (suc (suc (suc (suc (suc (suc (suc (suc (suc 
 by-format (suc (suc (suc (suc (suc (suc (suc (suc (suc (suc (suc (suc (suc (suc (suc zero))))))))))))))) h e = (refl, in-range 7 (omega arith) (omega arith))
 by-format (suc (suc (suc (suc (suc (suc (suc (suc (suc (suc (suc (suc (suc (suc (suc (suc n)))))))))))))))) h e = absurd (omega arith)
 
-of-bit : (n : ℕ) → n < 2 → n ≡ bit (n == 1)
+of-bit : (n : ℕ) → n < 2 → n ≡ digit (n == 1)
 of-bit zero h = refl
 of-bit (suc zero) h = refl
 of-bit (suc (suc n)) h = absurd (omega arith)
@@ -109,9 +112,6 @@ placed burst sop eop reset flow channel multi crc = (((((((2 + burst) * 2 + sop)
 parted : (n low width : ℕ) → n / 2 ^ low ≡ n / 2 ^ (low + width) * 2 ^ width + field low width n
 parted n low width = rw (← shr-shr n low width) (sym (shr_split (n / 2 ^ low) width))
 
-highest : (a : ℕ) → a < 2 ^ 64 → control_field a ≡ 1 → a / 2 ^ 63 ≡ 1
-highest a h e = omega arith
-
 whole : (x : ℕ) → x < 2 ^ 64 → control_field x ≡ 1 → x ≡ placed (burst_field x) (sop_field x) (eop_field x) (reset_field x) (flow_field x) (channel_field x) (multi_field x) (crc_field x)
 whole x h e =
     let a : x / 2 ^ 62 ≡ 2 + burst_field x = parted x 62 1 ∙ ap (λ (n : ℕ). n * 2 + burst_field x) (highest x h e) in
@@ -131,8 +131,8 @@ eight a b c d e f g h p q r s t u v w i j k l m n o x = rw (i, j, k, l, m, n, o,
 -- the number of the control word that a line can tell
 told-number : List ℕ → ℕ
 told-number line =
-    placed (bit (byte_at line 0 == 98)) (bit (byte_at (behind_equals line) 0 == 49)) (eop_format (end_at (byte_at (behind_equals (behind_equals line)) 0)))
-    (bit (byte_at (behind_equals (behind_equals (behind_equals line))) 0 == 49))
+    placed (digit (byte_at line 0 == 98)) (digit (byte_at (behind_equals line) 0 == 49)) (eop_format (end_at (byte_at (behind_equals (behind_equals line)) 0)))
+    (digit (byte_at (behind_equals (behind_equals (behind_equals line))) 0 == 49))
     (number_behind 16 0 (behind_equals (behind_equals (behind_equals (behind_equals line)))) % 0x10000)
     (number_behind 10 0 (behind_equals (behind_equals (behind_equals (behind_equals (behind_equals line))))) % 0x100)
     (number_behind 10 0 (behind_equals (behind_equals (behind_equals (behind_equals (behind_equals (behind_equals line)))))) % 0x100)
@@ -142,13 +142,9 @@ told-only : (line : List ℕ) (c : Control) (crc x : ℕ) → IsWordOf c crc x �
 unfolding told-number
 told-only line c crc x h e =
     let r = fields-read c crc x line h e in
-    eight _ _ _ _ _ _ _ _ _ _ _ _ _ _ _ _ (ap bit r.burst ∙ sym h.burst) (ap bit r.sop ∙ sym h.sop) (ap eop_format r.eop ∙ sym h.eop) (ap bit r.reset ∙ sym h.reset)
+    eight _ _ _ _ _ _ _ _ _ _ _ _ _ _ _ _ (ap digit r.burst ∙ sym h.burst) (ap digit r.sop ∙ sym h.sop) (ap eop_format r.eop ∙ sym h.eop) (ap digit r.reset ∙ sym h.reset)
     (r.flow ∙ sym h.flow) (r.channel ∙ sym h.channel) (r.multi ∙ sym h.multi) (r.check ∙ sym h.checksum)
     ∙ sym (whole x h.sized h.control)
-
-bit-below : (b : Bool) → bit b < 2
-bit-below true = omega arith
-bit-below false = omega arith
 
 format-below : (eop : Eop) → eop_format eop < 16
 format-below Going = omega arith
@@ -160,7 +156,7 @@ placed-below a b c d e f g h i j k l m n o p = omega arith
 
 told-below : (line : List ℕ) → told-number line < 2 ^ 64
 unfolding told-number
-told-below line = placed-below _ _ _ _ _ _ _ _ (bit-below _) (bit-below _) (format-below _) (bit-below _) (omega arith) (omega arith) (omega arith) (omega arith)
+told-below line = placed-below _ _ _ _ _ _ _ _ (digit_small _) (digit_small _) (format-below _) (digit_small _) (omega arith) (omega arith) (omega arith) (omega arith)
 
 -- ---- the word of a line
 

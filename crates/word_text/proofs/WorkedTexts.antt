@@ -6,7 +6,7 @@ use Rattle.lk_base.specs.Checksum.{bits_of}
 use Rattle.lane_model.specs.LaneBits.{bits_of_codes}
 use Rattle.words_files.specs.declared.text_error.TextError.TheVariants.{Head, Line, Length}
 use Rattle.word_text.specs.declared.word.FileWord.TheVariants as file
-use Rattle.word_text.specs.Digits.{hex}
+use Rattle.lk_base.specs.Hex.{hex}
 use Rattle.word_text.specs.Lines.{ended}
 use Rattle.word_text.specs.WordLines.{IsSized, IsWordLine}
 use Rattle.word_text.specs.CodeLines.{IsSync, IsCodeLine}
@@ -67,7 +67,7 @@ one-sync = record {
   bits = λ e. omega (arith, e);
 }
 
--- a Sync word told as any code
+-- a Sync word written as any code
 abbrev other_spelling : List ℕ
 other_spelling = codes "code 0 10 78F678F678F678F6"
 

@@ -11,12 +11,12 @@ use Rattle.word_text.specs.CodeLines.{rest_lines}
 use Rattle.word_text.specs.Listings.{IsWordsListing, IsLaneListing, IsListing}
 use Rattle.word_text.specs.Refusals.{IsRefusedFor}
 
--- the refusal of a words file, as its readers tell it
+-- the refusal of a words file, as its readers report it
 abbrev pub words_error : WordsAt → WordsError
 words_error (at.Tag offset) = words.Tag offset
 words_error (at.Short offset) = words.Short offset
 
--- the listing of a words file that its readers accept was appended to `old`, with so many lines
+-- the listing of a words file that its readers accept was appended to `old`, with this many lines
 pub record ListsWords (bytes old new : List ℕ) (count : ℕ) : Type 0 where
   pub text : List ℕ
   pub listing : IsWordsListing text bytes
@@ -30,7 +30,7 @@ abbrev pub AnswersWords : List ℕ → List ℕ → List ℕ → Result ℕ Word
 AnswersWords bytes old new (Ok count) = ListsWords bytes old new count
 AnswersWords bytes old new (Err refusal) = (words_of_file bytes ≡ Err (words_error refusal)) × (new ≡ old)
 
--- the listing of a lane file was appended to `old`, with so many lines
+-- the listing of a lane file was appended to `old`, with this many lines
 pub record ListsLane (bytes old new : List ℕ) (count : ℕ) : Type 0 where
   pub text : List ℕ
   pub listing : IsLaneListing text bytes

@@ -1,6 +1,6 @@
 ghost use Rattle.std.specs.Prelude.{◌≡◌, ◌<◌, ◌+◌, ◌*◌, ◌^◌, ◌==◌, ℕ, IfOk, MatchOption};
 ghost use Rattle.lane_model.specs.Coding.{header_in, payload_in};
-ghost use Rattle.lane_model.specs.Bits.{digit};
+ghost use Rattle.lk_base.specs.Checksum.{digit};
 ghost use Rattle.word_text.specs.Read.{byte_at};
 ghost use Rattle.word_text.specs.CodeLines.{inversion_in, IsCodeLine};
 
@@ -25,7 +25,7 @@ fn code_with(inverted: bool, header: u8, payload: u64) -> u128
     }
 }
 
-// The header that two characters tell.
+// The header that two characters give.
 fn header_at(text: &[u8]) -> u8
     ensures value { result ≡ 2 * digit (byte_at text.now 0 == 49) + digit (byte_at text.now 1 == 49) }
     ensures below { result < 4 }

@@ -1,6 +1,7 @@
 ghost use Rattle.std.specs.Prelude.{◌≡◌, ◌<◌, ◌≤◌, ◌++◌, OnOk};
 ghost use Rattle.std.specs.Fmt.{decimal};
-ghost use Rattle.word_text.specs.Digits.{hex, bit_text};
+ghost use Rattle.word_text.specs.Digits.{bit_text};
+ghost use Rattle.lk_base.specs.Hex.{hex};
 ghost use Rattle.word_text.specs.WordLines.{kind_text, end_text, control_text, IsWordLine, IsControlLine};
 
 use crate::digits::{put, put_bit, put_decimal, put_digits};

@@ -20,7 +20,7 @@ pub fn rest_line(line: &mut Vec<u8>, rest: &Piece) -> Result<(), OutOfMemory>
     Ok(())
 }
 
-// The bits that these characters tell, as a number.
+// The bits that these characters give, as a number.
 fn bits_told(text: &[u8]) -> u128
     requires { length text.now < 67 }
     ensures below { result < 2 ^ length text.now }

@@ -12,7 +12,7 @@ use crate::word::FileWord;
 use control_words::{Control, Eop, to_word};
 use lk_base::OutOfMemory;
 
-// How the data before a control word end, from the text where that is told.
+// How the data before a control word end, from the text where that is written.
 fn end_of(text: &[u8]) -> Eop
     ensures { result ≡ end_at (byte_at text.now 0) }
 {
@@ -28,7 +28,7 @@ fn end_of(text: &[u8]) -> Eop
     }
 }
 
-// The control word whose fields a line can tell.
+// The control word whose fields a line can give.
 fn control_of(line: &[u8]) -> u64
     ensures { (c : Control) (crc x : ℕ) → IsWordOf c crc x → line.now ≡ control_text c crc → result ≡ x }
 {

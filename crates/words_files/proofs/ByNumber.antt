@@ -12,7 +12,7 @@ ahead-err : (xs : List RxWord) (r : Result (List RxWord) WordsError) → result_
 ahead-err xs (Ok ys) = refl
 ahead-err xs (Err e) = refl
 
--- the refusal is that of the bytes behind an accepted word
+-- the refusal is that of the bytes after an accepted word
 pub err-more : (offset : ℕ) (rest : List ℕ) → 0 < length rest → first_refusal offset (take 9 rest) ≡ None → result_err (words_from offset (cut_file rest)) ≡ result_err (words_from (offset + 9) (cut_file (drop 9 rest)))
 err-more offset rest some e =
     let later : Result (List RxWord) WordsError = words_from (offset + 9) (cut_file (drop 9 rest)) in

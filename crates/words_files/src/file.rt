@@ -81,7 +81,7 @@ impl WordsFile {
         self.count
     }
 
-    /// The word of this number, from 0; none exactly behind the last.
+    /// The word of this number, from 0; none exactly after the last.
     pub fn get(&self, index: usize) -> Option<RxWord>
         ensures { result ≡ slice_get self.now index }
     {

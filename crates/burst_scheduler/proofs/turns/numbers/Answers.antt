@@ -2,7 +2,7 @@ use Rattle.std.proofs.Common.{rules, ◌≡◌, ◌∙◌, ◌++◌, ◌∷◌, 
 use Rattle.std.specs.List.{range_with_len}
 use Rattle.std.specs.List.Sorted.{IsPermutation}
 use Rattle.std.proofs.lemmas.List.Sorted.{IsNonDecreasingBy-from_sort, answers_always}
-use Rattle.burst_scheduler.proofs.Lists.{range_more}
+use Rattle.lk_base.proofs.Lists.{range_more}
 use Rattle.burst_scheduler.proofs.turns.numbers.Goals as goal
 
 pub loop-i-preserved : goal.loop-i-preserved

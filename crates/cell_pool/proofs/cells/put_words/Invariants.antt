@@ -1,5 +1,5 @@
 -- The words so far stand there.
-use Rattle.std.proofs.Common.{◌≡◌, ◌+◌, ◌*◌, ◌≤◌, length, take}
+use Rattle.std.proofs.Common.{◌≡◌, ◌+◌, ◌*◌, take}
 use Rattle.cell_pool.specs.Cells.{with_run}
 use Rattle.cell_pool.proofs.cells.put_words.Given as goal
 

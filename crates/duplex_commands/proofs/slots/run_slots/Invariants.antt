@@ -5,7 +5,7 @@ use Rattle.duplex_commands.specs.Captures.{Beginning}
 use Rattle.duplex_commands.specs.Slots.{IsAt}
 use Rattle.duplex_commands.proofs.slots.run_slots.Given as goal
 
--- so many slots were done, and all that arrived has come
+-- this many slots were done, and all that arrived has come
 abbrev pub invariant-loop-slot : goal.invariant-loop-slot
 invariant-loop-slot g l = record {
   within : l.slot ≤ l.slots;

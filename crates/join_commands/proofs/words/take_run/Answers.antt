@@ -1,9 +1,10 @@
-use Rattle.std.proofs.Common.{◌≡◌, ◌<◌, ◌≤◌, ◌+◌, ◌++◌, false, sym, subst, arith, take, length, Ok}
+use Rattle.std.proofs.Common.{◌+◌, ◌++◌, false, subst, arith, take, length}
 use Rattle.std.proofs.lemmas.Result.{err_from_is_err_and}
 use Rattle.lk_base.specs.Positions.{words_from}
+use Rattle.reassembly.proofs.Runs.{run_within, run_some}
 use Rattle.receipts.specs.Receipts.{IsStopped}
 use Rattle.join_commands.specs.Going.{IsReady, outputs_of}
-use Rattle.join_commands.proofs.Steps.{run_some, run_within, words_came, words_put}
+use Rattle.join_commands.proofs.Steps.{words_came, words_put}
 use Rattle.join_commands.proofs.words.take_run.Goals as goal
 
 pub take_outputs-requires-clause-at : goal.take_outputs-requires-clause-at

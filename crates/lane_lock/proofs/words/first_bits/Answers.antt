@@ -1,4 +1,4 @@
--- So many bits are below their power of 2.
+-- This many bits are below their power of 2.
 use Rattle.lane_lock.proofs.Cutting.{first_below}
 use Rattle.lane_lock.proofs.words.first_bits.Goals as goal
 

@@ -2,7 +2,7 @@ use Rattle.std.proofs.Common.{◌≡◌, ◌++◌, ◌∷◌, [], List, ℕ, OnO
 use Rattle.std.specs.Fmt.{decimal}
 use Rattle.csv.specs.Writing.{row_text}
 use Rattle.csv_rows.specs.Written.{rows_writer}
-use Rattle.oob_commands.specs.FlowFile.{hex}
+use Rattle.lk_base.specs.Hex.{hex}
 use Rattle.oob_commands.proofs.flow_text.write_word.Goals as goal
 
 pub returns-clause-text : goal.returns-clause-text

@@ -1,6 +1,7 @@
 use Rattle.std.proofs.Common.{◌<◌, ◌^◌, ◌∙◌, ◌+◌, refl, sym, ap, subst, arith, replicate, get_or, take, drop, List, ℕ, [], ◌∷◌, Contains, Err}
 use Rattle.std.proofs.lemmas.Result.{err_from_is_err_and}
 use Rattle.std.proofs.lemmas.List.{take_all}
+use Rattle.run_shell.proofs.OutputNames.{as_many_opens}
 use Rattle.run_stops.specs.Stops.{StoreStops, StopCount}
 use Rattle.run_shell.specs.Outputs.{IsOpen, Differ}
 use Rattle.resend_events.specs.declared.event.Event.{Event}
@@ -9,7 +10,7 @@ use Rattle.retransmit.specs.Rows.{events_of}
 use Rattle.retransmit.proofs.Runs.{list_more, rows_more, count_more}
 use Rattle.resend_commands.specs.Carried.{accepted_file, events_done}
 use Rattle.resend_commands.proofs.Accepting.{begins_further, rows_behind, count_first}
-use Rattle.resend_commands.proofs.Filling.{as_many, grown_less}
+use Rattle.resend_commands.proofs.Filling.{grown_less}
 use Rattle.resend_commands.proofs.carrying.carry.Goals as goal
 
 pub do_often-requires-clause-count : goal.do_often-requires-clause-count
@@ -26,7 +27,7 @@ do_often-requires-clause-few g c =
     omega (arith, few, sends, more, first)
 
 pub do_often-requires-clause-one : goal.do_often-requires-clause-one
-do_often-requires-clause-one g c = as_many c.loop-row.outputs c.args.outputs.now c.loop-row.invariant.names ∙ c.requires.one
+do_often-requires-clause-one g c = as_many_opens c.loop-row.outputs c.args.outputs.now c.loop-row.invariant.names ∙ c.requires.one
 
 pub do_often-requires-clause-differ : goal.do_often-requires-clause-differ
 do_often-requires-clause-differ g c = subst Differ (sym c.loop-row.invariant.names) c.requires.differ

@@ -1,7 +1,8 @@
 use Rattle.std.proofs.Common.{◌≡◌, ◌≤◌, ◌+◌, [], ◌∷◌, take, Option}
 use Rattle.lk_outside.specs.Files.{Files}
 use Rattle.run_shell.specs.Outputs.{IsOpen, open_names}
-use Rattle.retransmit.specs.Rows.{count_of, events_of}
+use Rattle.retransmit.specs.Rows.{events_of}
+use Rattle.resend_events.specs.Events.{count_of}
 use Rattle.resend_commands.specs.Carried.{accepted_file, events_done}
 use Rattle.resend_commands.proofs.carrying.carry.Given as goal
 

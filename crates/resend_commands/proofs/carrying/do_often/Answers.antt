@@ -1,13 +1,14 @@
 use Rattle.std.proofs.Common.{◌<◌, ◌^◌, ◌∙◌, ◌-◌, ◌+◌, ◌≡◌, sym, ap, subst, arith, replicate, List, ℕ, [], ◌∷◌, Contains, Err}
 use Rattle.std.proofs.lemmas.Result.{err_from_is_err_and}
 use Rattle.std.proofs.lemmas.List.{replicate-append-replicate}
+use Rattle.run_shell.proofs.OutputNames.{as_many_opens}
 use Rattle.run_stops.specs.Stops.{StoreStops, StopCount}
 use Rattle.run_shell.specs.Outputs.{IsOpen, Differ}
 use Rattle.resend_events.specs.declared.event.Event.{Event}
 use Rattle.retransmit.proofs.Runs.{list_more, replicate_more}
 use Rattle.resend_commands.specs.Carried.{accepted_file, events_done}
 use Rattle.resend_commands.proofs.Accepting.{begins_further}
-use Rattle.resend_commands.proofs.Filling.{as_many, grown_less}
+use Rattle.resend_commands.proofs.Filling.{grown_less}
 use Rattle.resend_commands.proofs.carrying.do_often.Goals as goal
 
 pub do_event-requires-clause-count : goal.do_event-requires-clause-count
@@ -21,7 +22,7 @@ do_event-requires-clause-few g c =
     omega (arith, few, sends, turn)
 
 pub do_event-requires-clause-one : goal.do_event-requires-clause-one
-do_event-requires-clause-one g c = as_many c.loop-turn.outputs c.args.outputs.now c.loop-turn.invariant.names ∙ c.requires.one
+do_event-requires-clause-one g c = as_many_opens c.loop-turn.outputs c.args.outputs.now c.loop-turn.invariant.names ∙ c.requires.one
 
 pub do_event-requires-clause-differ : goal.do_event-requires-clause-differ
 do_event-requires-clause-differ g c = subst Differ (sym c.loop-turn.invariant.names) c.requires.differ

@@ -4,7 +4,7 @@ use Rattle.run_shell.specs.Outputs.{IsOpen, open_names}
 use Rattle.resend_commands.specs.Carried.{accepted_file, events_done}
 use Rattle.resend_commands.proofs.carrying.do_often.Given as goal
 
--- the event was done so many times, and the output was given what is accepted
+-- the event was done this many times, and the output was given what is accepted
 abbrev pub invariant-loop-turn : goal.invariant-loop-turn
 invariant-loop-turn g l = record {
   same_faults : g.S.Store.faults l.store ≡ g.S.Store.faults l.fn.store;

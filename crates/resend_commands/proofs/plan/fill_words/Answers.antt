@@ -1,5 +1,6 @@
 use Rattle.std.proofs.Common.{◌∙◌, refl, sym, ap, subst, arith, List, ℕ, [], ◌∷◌}
 use Rattle.std.proofs.lemmas.Result.{err_from_is_err_and}
+use Rattle.run_shell.proofs.OutputNames.{blank_one}
 use Rattle.run_stops.specs.declared.stop.Stop.TheVariants as stop
 use Rattle.run_shell.specs.Outputs.{IsOpen}
 use Rattle.retransmit.specs.Rows.{events_of}
@@ -7,7 +8,7 @@ use Rattle.plan_inputs.specs.Values.{reading_value}
 use Rattle.resend_commands.specs.Plan.{ResendReading}
 use Rattle.resend_commands.specs.Carried.{accepted_file, events_done, line_of}
 use Rattle.resend_commands.proofs.PlanResent.{begun_written, begun_blank, begun_few}
-use Rattle.resend_commands.proofs.Filling.{blank_one, nothing_filled, part_now, whole_begins}
+use Rattle.resend_commands.proofs.Filling.{nothing_filled, part_now, whole_begins}
 use Rattle.resend_commands.proofs.plan.fill_words.Goals as goal
 
 pub returns-in_err-resend-clause-names : goal.returns-in_err-resend-clause-names

@@ -1,9 +1,10 @@
 use Rattle.std.proofs.Common.{◌∙◌, ◌++◌, sym, ap, subst, length, eqb-true, List, ℕ, [], ◌∷◌}
 use Rattle.std.proofs.lemmas.Result.{err_from_is_err_and}
 use Rattle.lk_base.specs.declared.word.Word.{Word}
+use Rattle.run_shell.proofs.Fills.{open_part}
 use Rattle.words_files.specs.WordsFile.{words_file}
 use Rattle.run_shell.specs.Outputs.{IsOpen, Grown}
-use Rattle.stream_commands.proofs.PartsOfStreams.{open_part, words_put, words_before}
+use Rattle.stream_commands.proofs.PartsOfStreams.{words_put, words_before}
 use Rattle.resend_commands.proofs.Accepting.{no_words}
 use Rattle.resend_commands.proofs.words.put_words.Goals as goal
 

@@ -1,4 +1,4 @@
--- One more lane takes so many bytes.
+-- One more lane takes this many bytes.
 use Rattle.std.proofs.Common.{ap, arith}
 use Rattle.lk_base.specs.Link.{Settings}
 use Rattle.rx_front.proofs.Batching.{next_has, took_all, took_none, took_one}

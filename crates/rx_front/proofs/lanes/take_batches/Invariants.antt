@@ -1,4 +1,4 @@
--- The lanes so far took so many bytes.
+-- The lanes so far took this many bytes.
 use Rattle.rx_front.proofs.Batching.{TookFirst}
 use Rattle.rx_front.proofs.lanes.take_batches.Given as goal
 

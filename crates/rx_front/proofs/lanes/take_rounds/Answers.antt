@@ -1,4 +1,4 @@
--- One more lane takes so many bytes.
+-- One more lane takes this many bytes.
 use Rattle.std.proofs.Common.{arith}
 use Rattle.rx_front.specs.Lanes.{IsTaken}
 use Rattle.rx_front.proofs.Covering.{all_covered, covered_more}

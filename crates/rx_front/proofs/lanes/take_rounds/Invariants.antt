@@ -1,4 +1,4 @@
--- The lanes so far took so many bytes, and show nothing where the number has a 0.
+-- The lanes so far took this many bytes, and show nothing where the number has a 0.
 use Rattle.rx_front.specs.Lanes.{IsTaken}
 use Rattle.rx_front.proofs.Covering.{FirstCovered}
 use Rattle.rx_front.proofs.Taking.{FirstMade}

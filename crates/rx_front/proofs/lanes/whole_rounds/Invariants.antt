@@ -1,4 +1,4 @@
--- The lanes so far have so many bytes.
+-- The lanes so far have this many bytes.
 use Rattle.std.proofs.Common.{◌≤◌, take, All}
 use Rattle.rx_front.specs.Lanes.{HasBytes}
 use Rattle.rx_front.proofs.lanes.whole_rounds.Given as goal

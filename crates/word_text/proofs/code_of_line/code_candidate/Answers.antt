@@ -1,5 +1,5 @@
 use Rattle.std.proofs.Common.{ℕ, List, ◌==◌, ◌+◌, ◌*◌, ◌%◌, sym, ap, ◌∙◌}
-use Rattle.lane_model.specs.Bits.{digit}
+use Rattle.lk_base.specs.Checksum.{digit}
 use Rattle.word_text.specs.Read.{number_behind, byte_at}
 use Rattle.word_text.proofs.CodeText.{read-sync, read-state, read-other}
 use Rattle.word_text.proofs.code_of_line.code_candidate.Goals as goal

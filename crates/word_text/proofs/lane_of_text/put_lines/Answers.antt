@@ -1,6 +1,7 @@
 use Rattle.std.proofs.Common.{inr, ◌≡◌, ◌==◌, ◌<◌, ◌+◌, ◌*◌, ◌%◌, ◌^◌, ◌++◌, [], ◌∷◌, ℕ, List, Bool, true, false, Option, Some, None, Ok, MatchOption, length, refl, sym, ap, ◌∙◌, arith, subst, append-nil}
 use Rattle.std.proofs.lemmas.Bool.{eqb-true, eqb-false}
 use Rattle.lk_base.specs.Checksum.{bits_of}
+use Rattle.std.proofs.lemmas.List.{nil_from_length}
 use Rattle.lane_model.proofs.Numbers.{length-bits_of}
 use Rattle.word_text.specs.Lines.{ended}
 use Rattle.word_text.specs.Listings.{lane_head}
@@ -39,20 +40,16 @@ one (Some v) w line e h =
     let (some, short, low, is) = h in
     subst (λ (x : Piece). IsRest x line) same (record { some = omega (arith, size, some); short = omega (arith, size, short); size = size; is = is; narrow = short; below = low })
 
-empty : (left : List ℕ) → length left ≡ 0 → left ≡ []
-empty [] h = refl
-empty (x ∷ xs) h = absurd (omega arith)
-
 waits-count : (text left : List ℕ) (number : ℕ) (waiting : List Bool) (old new : List ℕ) (p : CodesPut text left number waiting old new) → length p.bits ≡ 8 * length p.taken.more + length waiting
 waits-count text left number waiting old new p = takes-count p.bits waiting old new p.taken
 
 not-whole : (text left : List ℕ) (number waits : ℕ) (waiting : List Bool) (old new : List ℕ) → (p : CodesPut text left number waiting old new) → length left ≡ 0 → waits ≡ length waiting → waits < 8 → (waits ≡ 0 → ⊥) → HasNoWholeBytes text
 not-whole text left number waits waiting old new p h e f g =
     let count = waits-count text left number waiting old new p in
-    no-whole text left number p.bits [] p.told (empty left h) (omega arith) (λ k. g (omega (arith, count, e, f, k)))
+    no-whole text left number p.bits [] p.told (nil_from_length left h) (omega arith) (λ k. g (omega (arith, count, e, f, k)))
 
 whole : (text left : List ℕ) (number waits : ℕ) (waiting : List Bool) (old new : List ℕ) → CodesPut text left number waiting old new → length left ≡ 0 → waits ≡ length waiting → waits ≡ 0 → PutsBytes text old new (Ok tt)
-whole text left number waits [] old new p h e f = all-put text left number p.bits [] old new p.told (empty left h) (omega arith) (subst (λ (b : List Bool). TakesBytes b [] old new) (sym (append-nil p.bits)) p.taken)
+whole text left number waits [] old new p h e f = all-put text left number p.bits [] old new p.told (nil_from_length left h) (omega arith) (subst (λ (b : List Bool). TakesBytes b [] old new) (sym (append-nil p.bits)) p.taken)
 whole text left number waits (b ∷ waiting) old new p h e f = absurd (omega arith)
 
 rest-not-whole : (text left line more : List ℕ) (number waits : ℕ) (waiting : List Bool) (old new : List ℕ) (rest : Piece) → (p : CodesPut text left number waiting old new) → left ≡ ended line ++ more → length more ≡ 0 → IsRest rest line → waits ≡ length waiting → ((waits + rest.count) % 8 ≡ 0 → ⊥) → HasNoWholeBytes text

@@ -1,7 +1,8 @@
 use Rattle.std.proofs.Common.{◌==◌, ◌/◌, ◌%◌, ℕ, List, ◌++◌, ap, ◌∙◌}
 use Rattle.std.proofs.lemmas.Result.{on_ok_weaker}
 use lib.Chars.{codes}
-use Rattle.word_text.specs.Digits.{hex, bit_text}
+use Rattle.word_text.specs.Digits.{bit_text}
+use Rattle.lk_base.specs.Hex.{hex}
 use Rattle.word_text.proofs.Behind.{both, named}
 use Rattle.word_text.proofs.line_of_code.other_line.Goals as goal
 

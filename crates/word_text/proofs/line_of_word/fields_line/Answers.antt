@@ -2,12 +2,13 @@ use Rattle.std.proofs.Common.{◌≡◌, ℕ, List, [], ◌++◌, ap, ◌∙◌}
 use Rattle.std.proofs.lemmas.Result.{on_ok_weaker}
 use lib.Chars.{codes}
 use Rattle.std.specs.Fmt.{decimal}
-use Rattle.word_text.specs.Digits.{hex, bit_text}
+use Rattle.word_text.specs.Digits.{bit_text}
+use Rattle.lk_base.specs.Hex.{hex}
 use Rattle.word_text.specs.WordLines.{kind_text, end_text, fields_text}
 use Rattle.word_text.proofs.Behind.{both, named}
 use Rattle.word_text.proofs.line_of_word.fields_line.Goals as goal
 
--- pieces one behind the other, five of them a name and its value
+-- pieces one after the other, five of them a name and its value
 in_line : (l0 l1 l2 l3 l4 l5 l6 l7 l8 l9 n1 n2 b2 n3 n4 n5 b5 n6 b6 n7 b7 n8 b8 n9 : List ℕ) → l0 ≡ [] → l1 ≡ l0 ++ n1 → l2 ≡ l1 ++ (n2 ++ b2) → l3 ≡ l2 ++ n3 → l4 ≡ l3 ++ n4 → l5 ≡ l4 ++ (n5 ++ b5) → l6 ≡ l5 ++ (n6 ++ b6) → l7 ≡ l6 ++ (n7 ++ b7) → l8 ≡ l7 ++ (n8 ++ b8) → l9 ≡ l8 ++ n9 → l9 ≡ n1 ++ (n2 ++ (b2 ++ (n3 ++ (n4 ++ (n5 ++ (b5 ++ (n6 ++ (b6 ++ (n7 ++ (b7 ++ (n8 ++ (b8 ++ n9))))))))))))
 in_line l0 l1 l2 l3 l4 l5 l6 l7 l8 l9 n1 n2 b2 n3 n4 n5 b5 n6 b6 n7 b7 n8 b8 n9 e0 e1 e2 e3 e4 e5 e6 e7 e8 e9 =
     let s8 = named l7 l8 l9 n8 b8 n9 e8 e9 in

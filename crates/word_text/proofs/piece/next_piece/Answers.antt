@@ -1,5 +1,5 @@
 use Rattle.std.proofs.Common.{List, Bool, ◌++◌, sym, ap, arith}
-use Rattle.coding_67b.proofs.Cut.{no_bits}
+use Rattle.lk_base.proofs.Bits.{no_bits}
 use Rattle.word_text.proofs.BitRuns.{shifted-in, below-more, first-more}
 use Rattle.word_text.proofs.piece.next_piece.Goals as goal
 

@@ -1,7 +1,7 @@
 use Rattle.std.proofs.Common.{◌≡◌, ◌+◌, ◌<◌, ◌≤◌, ◌^◌, ◌==◌, ℕ, Bool, List, [], ◌∷◌, ◌++◌, length, map, take, slice_index_or, sym, ap, ◌∙◌, arith, subst}
 use Rattle.std.proofs.lemmas.List.{take_more, map-append, take_all}
 use Rattle.lk_base.specs.Checksum.{bits_of}
-use Rattle.coding_67b.proofs.Cut.{no_bits}
+use Rattle.lk_base.proofs.Bits.{no_bits}
 use Rattle.word_text.proofs.BitRuns.{shifted-in, below-more, bits-more}
 use Rattle.word_text.proofs.rest.bits_told.Goals as goal
 

@@ -2,7 +2,8 @@ use Rattle.std.proofs.Common.{◌≡◌, ◌<◌, ◌≤◌, ◌-◌, ◌/◌, �
 use Rattle.std.specs.Int.{bit_at}
 use Rattle.std.proofs.lemmas.Nat.{and_mask}
 use Rattle.lk_base.specs.Checksum.{bits_of}
-use Rattle.coding_67b.proofs.Cut.{first_bit, no_bits}
+use Rattle.coding_67b.proofs.Cut.{first_bit}
+use Rattle.lk_base.proofs.Bits.{no_bits}
 use Rattle.word_text.specs.Digits.{bit_glyph, bit_text}
 use Rattle.word_text.proofs.rest.rest_line.Goals as goal
 

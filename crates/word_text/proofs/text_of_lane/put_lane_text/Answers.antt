@@ -2,7 +2,7 @@ use Rattle.std.proofs.Common.{◌≡◌, ◌+◌, ◌<◌, ◌^◌, ℕ, List, [
 use Rattle.lk_base.specs.Checksum.{bits_of, bits_of_bytes}
 use Rattle.lane_model.proofs.Numbers.{length-bits_of}
 use Rattle.lane_model.proofs.FilesHold.{length-flat_map_bits}
-use Rattle.coding_67b.proofs.Cut.{no_bits}
+use Rattle.lk_base.proofs.Bits.{no_bits}
 use Rattle.word_text.specs.Lines.{ended}
 use Rattle.word_text.specs.CodeLines.{IsCodeLine, rest_line}
 use Rattle.word_text.specs.Answers.{ListsLane}

@@ -1,5 +1,5 @@
 -- The words stand in the cell after those that were there.
-use Rattle.std.proofs.Common.{◌<◌, ◌≤◌, ◌+◌, ◌*◌, ◌/◌, ◌%◌, ◌∙◌, sym, length, subst, arith}
+use Rattle.std.proofs.Common.{◌<◌, ◌≤◌, ◌∙◌, sym, length, subst, arith}
 use Rattle.std.proofs.lemmas.List.{get_or_read}
 use Rattle.cell_pool.proofs.Whole.{lengths_whole}
 use Rattle.cell_pool.proofs.Shown.{place_in, chain_in, not_last, left_is, room_is, whole_is, wanted_is, chain_place, chain_some, cell_in, took_small, took_packed, took_shown}

@@ -1,5 +1,5 @@
 -- The words that one cell has room for are added.
-use Rattle.std.proofs.Common.{◌≡◌, ◌-◌, length, drop, sym, ap, List, ℕ}
+use Rattle.std.proofs.Common.{◌≡◌, drop}
 use Rattle.std.proofs.lemmas.List.{length-drop}
 use Rattle.cell_pool.proofs.Filled.{filling_more, filling_room, filling_whole}
 use Rattle.cell_pool.proofs.pool.Pool.push_all.Goals as goal

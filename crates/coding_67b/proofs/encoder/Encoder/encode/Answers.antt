@@ -1,4 +1,4 @@
--- The code and the disparity behind it are those of the definition.
+-- The code and the disparity after it are those of the definition.
 use Rattle.std.proofs.Common.{◌≡◌, ℕ, sym, ap, ◌∙◌, ◌<◌, ◌^◌, Bool, List, [], ◌∷◌, ◌++◌, to_z, of_z, w32, arith, if◌then◌else◌}
 use Rattle.std.proofs.lemmas.Int.{ints}
 use Rattle.std.specs.Prelude.{ℤ, pos, negsuc, ◌+ℤ◌, ◌-ℤ◌, ◌≤ℤ◌, ◌&&◌, ◌||◌, int_le, int_lt}

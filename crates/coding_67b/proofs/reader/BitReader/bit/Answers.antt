@@ -2,7 +2,8 @@
 use Rattle.std.proofs.Common.{◌≡◌, ℕ, refl, sym, ap, ◌∙◌, ◌-◌, ◌<◌, ◌≤◌, ◌==◌, Bool, List, [], ◌∷◌, ◌++◌, length, arith}
 use Rattle.std.specs.Int.{bit_at}
 use Rattle.lk_base.specs.Checksum.{bits_of, bits_of_bytes}
-use Rattle.coding_67b.proofs.Cut.{no_bits, first_bit}
+use Rattle.coding_67b.proofs.Cut.{first_bit}
+use Rattle.lk_base.proofs.Bits.{no_bits}
 use Rattle.coding_67b.proofs.reader.BitReader.bit.Goals as goal
 
 none_never : (bit : Bool) (bits now : List Bool) → bit ∷ bits ≡ now → now ≡ [] → ⊥

@@ -1,7 +1,7 @@
 -- No bit of an earlier byte is left.
 use Rattle.std.proofs.Common.{ap, ◌++◌}
 use Rattle.lk_base.specs.Checksum.{bits_of_bytes}
-use Rattle.coding_67b.proofs.Cut.{no_bits}
+use Rattle.lk_base.proofs.Bits.{no_bits}
 use Rattle.coding_67b.proofs.reader.BitReader.make.Goals as goal
 
 pub returns : goal.returns

@@ -1,7 +1,8 @@
 -- Where the count is 0, there is no bit.
 use Rattle.std.proofs.Common.{sym, ap, ◌∙◌, eq-eqb, eqb-true}
 use Rattle.lk_base.specs.Checksum.{bits_of}
-use Rattle.coding_67b.proofs.Cut.{no_bits, empty_is}
+use Rattle.coding_67b.proofs.Cut.{empty_is}
+use Rattle.lk_base.proofs.Bits.{no_bits}
 use Rattle.coding_67b.proofs.writer.BitWriter.is_empty.Goals as goal
 
 pub returns : goal.returns

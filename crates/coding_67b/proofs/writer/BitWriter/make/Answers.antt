@@ -1,5 +1,5 @@
 -- No bit waits.
-use Rattle.coding_67b.proofs.Cut.{no_bits}
+use Rattle.lk_base.proofs.Bits.{no_bits}
 use Rattle.coding_67b.proofs.writer.BitWriter.make.Goals as goal
 
 pub returns : goal.returns

@@ -2,7 +2,8 @@
 use Rattle.std.proofs.Common.{◌≡◌, ℕ, List, Bool, [], refl, length, sym, ap, ◌∙◌, ◌<◌, arith}
 use Rattle.lk_base.specs.Checksum.{bits_of}
 use Rattle.lane_model.proofs.Numbers.{length-bits_of}
-use Rattle.coding_67b.proofs.Cut.{no_bits, padded, empty_is}
+use Rattle.coding_67b.proofs.Cut.{padded, empty_is}
+use Rattle.lk_base.proofs.Bits.{no_bits}
 use Rattle.coding_67b.proofs.writer.BitWriter.pad.Goals as goal
 
 few : (count bits : ℕ) (waiting : List Bool) → bits_of count bits ≡ waiting → length waiting < 8 → count < 8

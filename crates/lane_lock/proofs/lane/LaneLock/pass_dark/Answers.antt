@@ -1,4 +1,4 @@
--- So many bits of the dark.
+-- This many bits of the dark.
 use Rattle.std.proofs.Common.{sym, ap, subst, ◌+◌}
 use Rattle.phase_finder.specs.Phases.{Phases, Watches}
 use Rattle.lane_lock.specs.Lane.{LaneState}

@@ -1,4 +1,4 @@
--- The bits up to the last of the word, and the bits behind.
+-- The bits up to the last of the word, and the bits after it.
 use Rattle.std.proofs.Common.{◌≡◌, ◌+◌, ◌-◌, ◌/◌, ◌^◌, ◌<◌, ◌==◌, ap, ◌∙◌, subst, refl, Bool, List, ℕ, replicate, arith}
 use Rattle.std.specs.Int.{bit_at}
 use Rattle.lk_base.specs.Checksum.{bits_of}

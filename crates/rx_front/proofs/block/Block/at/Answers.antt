@@ -2,8 +2,9 @@
 use Rattle.std.proofs.Common.{◌+◌, sym, ap, ◌∙◌, length, drop, arith}
 use Rattle.std.proofs.lemmas.List.{length-drop}
 use Rattle.lk_base.specs.Positions.{words_from}
+use Rattle.deskew.proofs.Rows.{words_count}
 use Rattle.rx_front.specs.Waiting.{words_in}
-use Rattle.rx_front.proofs.Waiting.{length-words, words_are}
+use Rattle.rx_front.proofs.Waiting.{words_are}
 use Rattle.rx_front.proofs.block.Block.at.Goals as goal
 
 pub returns-clause-waiting : goal.returns-clause-waiting
@@ -17,7 +18,7 @@ pub returns-clause-fits : goal.returns-clause-fits
 returns-clause-fits c =
     let i = c.self.inside in
     let e = ap length c.self.view_is in
-    let l = length-words i.first.group (i.first.index + i.cursor) (drop i.cursor i.words.items) in
+    let l = words_count i.first.group (i.first.index + i.cursor) (drop i.cursor i.words.items) in
     let d = length-drop i.cursor i.words.items in
     let a = c.self.invariant.0 in
     let b = c.self.invariant.1 in

@@ -1,4 +1,4 @@
--- So many bytes are taken of the ring, and the deskew takes what they show.
+-- This many bytes are taken of the ring, and the deskew takes what they show.
 use Rattle.std.proofs.Common.{ℕ, ◌≤◌, ◌∙◌, sym, ap, subst, length, List}
 use Rattle.circular_buffer.specs.Buffer.{Buffer}
 use Rattle.deskew.specs.Steps.{steps_taken}

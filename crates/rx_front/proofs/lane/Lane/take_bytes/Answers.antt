@@ -1,4 +1,4 @@
--- So many bytes are taken of the ring, and the lock takes their bits.
+-- This many bytes are taken of the ring, and the lock takes their bits.
 use Rattle.std.proofs.Common.{ℕ, ◌≤◌, sym, ap, subst, length}
 use Rattle.circular_buffer.specs.Buffer.{Buffer}
 use Rattle.rx_front.specs.States.{Lane}

@@ -1,7 +1,7 @@
 -- Eight bytes as a number.
 use Rattle.std.proofs.Common.{ℕ, ◌<◌, get_or, arith}
-use Rattle.lane_lock.proofs.Loads.{eight_there}
-use Rattle.lane_lock.proofs.places.eight_at.Goals as goal
+use Rattle.lk_base.proofs.Eights.{eight_there}
+use Rattle.lk_base.proofs.slices.eight_at.Goals as goal
 
 pub returns : goal.returns
 returns c =
