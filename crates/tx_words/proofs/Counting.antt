@@ -87,7 +87,7 @@ packet-one most n tallies packets i d x y within low h read is =
     tallies-set (λ c. tally_of most c (n c) (take i packets)) (λ c. tally_of most c (n c) (take (i + 1) packets)) tallies packet.channel y h low here
     (λ k other. let no : (packet.channel == k) ≡ false = false_from_ne_true (packet.channel == k) (λ e. other (sym (eqb-true packet.channel k e))) in step k ∙ rw no refl)
 
--- how much so many packets with so many bytes can come to
+-- how much this many packets with this many bytes can come to
 pub record IsUpTo (tally : Tally) (count total : ℕ) : Type 0 where
   pub packets : tally.packets ≤ count
   pub left : tally.left ≤ count
@@ -153,7 +153,7 @@ tally-on most channel tally (packet ∷ packets) = split (packet.channel == chan
     (λ e. rw e (tally-on most channel (with_packet most tally (length packet.bytes.now)) packets))
     (λ e. rw e (tally-on most channel tally packets))
 
--- what a tally has more than another: these packets sent, of so many
+-- what a tally has more than another: these packets sent, of this many
 pub record HasSent (from to : Tally) (sent : List received.Packet) (count : ℕ) : Type 0 where
   pub packets : to.packets ≡ from.packets + length sent
   pub bytes : to.bytes ≡ from.bytes + sum_by (λ (p : received.Packet). length p.bytes) sent

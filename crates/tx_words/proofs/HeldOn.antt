@@ -36,10 +36,10 @@ module _ (s : Scheduler) (source : Source) (words : List Word) (f l : ℕ) (d : 
             (subst (λ (q : Source). IsBurstStream q words) (sym again) whole)).0 (subst (λ (q : Source). IsHeld q words) (sym again) h);
       }
 
-held_of : (source : Source) (w : List Word) (channel : ℕ) → IsHeldOn source w channel → IsHeld source w
+pub held_of : (source : Source) (w : List Word) (channel : ℕ) → IsHeldOn source w channel → IsHeld source w
 held_of source w channel h = (h.0, h.1, (channel, h.2.0.0, h.2.0.1))
 
-one_channel : (source : Source) (w : List Word) (c d : ℕ) → IsHeldOn source w c → IsHeldOn source w d → c ≡ d
+pub one_channel : (source : Source) (w : List Word) (c d : ℕ) → IsHeldOn source w c → IsHeldOn source w d → c ≡ d
 one_channel source w c d h k =
     let z : h.0 ≡ k.0 = one_least (IsEnding source w) h.0 k.0 h.1 k.1 in
     one_least (IsLeft source (take k.0 w)) c d (subst (λ (n : ℕ). IsLeast (IsLeft source (take n w)) c) z h.2) k.2

@@ -5,12 +5,12 @@ pub mod NumbersLaw
 pub mod SentLists
 pub mod Making
 pub mod FirstWords
+pub mod HeldOn
 -- What this crate alone cites.
 mod Passing
 mod Loading
 mod BlockWords
 mod Steps
-mod HeldOn
 mod Kept
 mod Counting
 mod ListedCounts

@@ -126,7 +126,7 @@ ended_rows : (channel : ℕ) (sent : List Sent) → length (filter_map (ended_on
 ended_rows channel [] = refl
 ended_rows channel (s ∷ sent) = ended_row channel s.channel s.number s.first s.last sent (ended_rows channel sent)
 
--- so many as the channel sends
+-- as many as the channel sends
 pub ended_are_sent : (source : Source) (channel : ℕ) (w : List Word) (sent : List Sent) → All (λ (p : ℕ × List ℕ). 1 ≤ length p.1) source.packets → IsBurstStream source w → AreSent w sent
     → ended_in channel sent ≡ length (sent_packets source channel w)
 ended_are_sent source channel w sent each stream are =

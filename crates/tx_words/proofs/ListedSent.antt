@@ -51,7 +51,7 @@ on_channel c y h =
     let two = and_parts (has_sop y) (channel_number true y == c) one.1 in
     eqb-true (channel_number true y) c two.1
 
--- the entry of a packet whose SOP word stands right behind p
+-- the entry of a packet whose SOP word stands right after p
 head_row : (c : ℕ) (p : List Word) (y : ℕ) (q : List Word) (e : Sent) → IdlesEndNone q → has_burst y ≡ true → e.first ≡ length p → e.channel ≡ c → channel_number true y ≡ c → IsSent (p ++ Control y ∷ q) e
     → row e ≡ (count_by (starts_on c) p, (length p, own_end (p ++ Control y ∷ q) (length p) (burst_slots c (length p + 1) q)))
 head_row c p y q e idles burst first channel on h =
@@ -74,7 +74,7 @@ head_row c p y q e idles burst first channel on h =
     and-true true = refl
     and-true false = refl
 
--- what is to show of the entries whose SOP words stand behind p
+-- what is to show of the entries whose SOP words stand after p
 abbrev RowsAre : ℕ → List Word → List Word → Type 0
 RowsAre c p q = (es : List Sent) → map (λ (s : Sent). s.first) es ≡ slots_where starts (length p) q → EachSent (p ++ q) es
     → map row (filter (λ (s : Sent). s.channel == c) es) ≡ entries (p ++ q) (count_by (starts_on c) p) (burst_slots c (length p) q)

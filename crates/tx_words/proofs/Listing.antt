@@ -15,7 +15,7 @@ use Rattle.tx_words.specs.Sent.{starts_on, last_channel, ends_on, IsQuiet, IsEnd
 use Rattle.tx_words.proofs.Slots.{next_ends, starts_at, ends_after, IdlesEndNone}
 use Rattle.tx_words.proofs.Opening.{last-push}
 
--- ---- the end word of a packet, among the words behind its SOP word
+-- ---- the end word of a packet, among the words after its SOP word
 
 -- whether this is the channel of the last burst word
 abbrev pub is_last : ℕ → List Word → Bool
@@ -36,7 +36,7 @@ is_last-data c x p = ap (λ o. option_map_or (λ i. i == c) o false) (last-push 
 pub is_last-control : (c y : ℕ) (p : List Word) → is_last c (p ++ Control y ∷ []) ≡ last_behind c (is_last c p) y
 is_last-control c y p = ap (λ o. option_map_or (λ i. i == c) o false) (last-push p (Control y)) ∙ split (has_burst y) (λ b. rw b refl) (λ b. rw b refl)
 
--- at the slot behind p
+-- at the slot after p
 ends-seam : (c : ℕ) (p : List Word) (word : Word) (q : List Word) → ends_on c (take (length p) (p ++ word ∷ q)) (word_at (p ++ word ∷ q) (length p)) ≡ ends_on c p word
 ends-seam c p word q = ap (λ v. ends_on c (take (length p) (p ++ word ∷ q)) v) (get_or-append_seam p word q (Control 0)) ∙ ap (λ r. ends_on c r word) (take-append_seam p (word ∷ q))
 

@@ -57,7 +57,7 @@ past [] more k chunk h is first = let e : k - 0 ≡ k = omega arith in (omega ar
 past (x ∷ later) more zero chunk h is first = absurd (let same : x ≡ chunk = cc is in let no : true ≡ false = sym first ∙ ap (λ (k : Chunk). k.is_first) (sym same) ∙ h.0 in cc)
 past (x ∷ later) more (suc k) chunk h is first = let r = past later more k chunk h.1 is first in let e : suc k - suc (length later) ≡ k - length later = omega arith in (omega (arith, r.0), ap (slice_get more) e ∙ r.1)
 
--- this chunk, behind b others, is the first of packet n
+-- this chunk, after b others, is the first of packet n
 pub record Begins (shape : Shape) (ps : List (List ℕ)) (b n : ℕ) (chunk : Chunk) : Type 0 where
   pub packet : List ℕ
   pub named : slice_get ps n ≡ Some packet
@@ -137,7 +137,7 @@ carried_get : (source : Source) (p : List Word) (x channel : ℕ) (chunk : Chunk
 carried_get source p x channel chunk burst here is = rw (burst, here) at is
 
 module _ (source : Source) (channel : ℕ) where
-  -- so many bursts of the channel so far, and so many SOP words as there are first chunks among theirs
+  -- this many bursts of the channel so far, and as many SOP words as there are first chunks among theirs
   pub record Counted (p : List Word) : Type 0 where
     pub within : bursts_in p channel ≤ length (chunks_of source channel)
     pub number : count_by (starts_on channel) p ≡ firsts (take (bursts_in p channel) (chunks_of source channel))

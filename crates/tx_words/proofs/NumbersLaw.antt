@@ -16,7 +16,7 @@ use Rattle.tx_words.specs.SentLaw.{EachHasBytes, NumbersArePackets, StartsAreFew
 use Rattle.tx_words.proofs.Slots.{have_bytes}
 use Rattle.tx_words.proofs.Numbers.{Follows, follows, none, counted, chunk_next, begins, few_firsts, firsts}
 
--- the packet that an SOP word behind the words p starts
+-- the packet that an SOP word after the words p starts
 record Begun (source : Source) (channel : ℕ) (p : List Word) (word : Word) : Type 0 where
   packet : List ℕ
   named : slice_get (packets_of source channel) (count_by (starts_on channel) p) ≡ Some packet

@@ -42,13 +42,10 @@ quiet-more p word c f z le h = λ u a b. (ends-old p word c u (omega arith) ∙ 
 quiet-less : (p : List Word) (word : Word) (c f z : ℕ) → z ≤ length p → IsQuiet (p ++ word ∷ []) c f z → IsQuiet p c f z
 quiet-less p word c f z le h = λ u a b. (sym (ends-old p word c u (omega arith)) ∙ (h u a b).0, sym (starts-old p word c u (omega arith)) ∙ (h u a b).1)
 
-longer : (p : List Word) (word : Word) → length (p ++ word ∷ []) ≡ length p + 1
-longer p word = length_push p word
-
 is_end-more : (p : List Word) (word : Word) (c f z : ℕ) → IsEnd p c f z → IsEnd (p ++ word ∷ []) c f z
 is_end-more p word c f z h = record {
   behind = h.behind;
-  within = omega (arith, longer p word, h.within);
+  within = omega (arith, length_push p word, h.within);
   ends = ends-old p word c z h.within ∙ h.ends;
   quiet = quiet-more p word c f z (omega (arith, h.within)) h.quiet;
 }
@@ -57,7 +54,7 @@ is_end-cases : (p : List Word) (word : Word) (c f z : ℕ) → IsEnd (p ++ word 
 is_end-cases p word c f z h = elim (cases_lt z (length p)) [
   | inl l ↦ inl (record { behind = h.behind; within = l; ends = sym (ends-old p word c z l) ∙ h.ends; quiet = quiet-less p word c f z (omega arith) h.quiet })
   | inr l ↦
-      let e : z ≡ length p = omega (arith, longer p word, h.within) in
+      let e : z ≡ length p = omega (arith, length_push p word, h.within) in
       let at_end : ends_on c (take (length p) (p ++ word ∷ [])) (word_at (p ++ word ∷ []) (length p)) ≡ true = subst (λ t. ends_on c (take t (p ++ word ∷ [])) (word_at (p ++ word ∷ []) t) ≡ true) e h.ends in
       let quiet : IsQuiet (p ++ word ∷ []) c f (length p) = subst (λ t. IsQuiet (p ++ word ∷ []) c f t) e h.quiet in
       inr (e, sym (ends-new p word c) ∙ at_end, quiet-less p word c f (length p) (omega arith) quiet)
@@ -74,7 +71,7 @@ count-old p word c f h = ap (count_by (starts_on c)) (take-append-le f p (word �
 
 sent-same : (p : List Word) (word : Word) (s : Sent) → IsSent p s → (IsQuiet p s.channel s.first (length p) → ends_on s.channel p word ≡ true → ⊥) → IsSent (p ++ word ∷ []) s
 sent-same p word s h other = record {
-  within = omega (arith, longer p word, h.within);
+  within = omega (arith, length_push p word, h.within);
   starts = starts-old p word s.channel s.first h.within ∙ h.starts;
   number = h.number ∙ sym (count-old p word s.channel s.first (omega (arith, h.within)));
   last = match-map s.last ((z : ℕ) → IsEnd p s.channel s.first z → ⊥) ((z : ℕ) → IsEnd (p ++ word ∷ []) s.channel s.first z → ⊥) (λ z. IsEnd p s.channel s.first z) (λ z. IsEnd (p ++ word ∷ []) s.channel s.first z)
@@ -92,12 +89,12 @@ with_last s z = record { channel = s.channel; number = s.number; first = s.first
 
 sent-ended : (p : List Word) (word : Word) (s : Sent) → IsSent p s → IsQuiet p s.channel s.first (length p) → ends_on s.channel p word ≡ true → IsSent (p ++ word ∷ []) (with_last s (length p))
 sent-ended p word s h quiet ended = record {
-  within = omega (arith, longer p word, h.within);
+  within = omega (arith, length_push p word, h.within);
   starts = starts-old p word s.channel s.first h.within ∙ h.starts;
   number = h.number ∙ sym (count-old p word s.channel s.first (omega (arith, h.within)));
   last = record {
     behind = h.within;
-    within = omega (arith, longer p word);
+    within = omega (arith, length_push p word);
     ends = ends-new p word s.channel ∙ ended;
     quiet = quiet-more p word s.channel s.first (length p) (omega arith) quiet;
   };
@@ -256,23 +253,23 @@ starts-none (Control x) c h = split (has_burst x)
 
 open-more : (p : List Word) (word : Word) (c f : ℕ) → IsOpen p c f → ends_on c p word ≡ false → starts_on c word ≡ false → IsOpen (p ++ word ∷ []) c f
 open-more p word c f h no_end no_start = record {
-  within = omega (arith, longer p word, h.within);
+  within = omega (arith, length_push p word, h.within);
   starts = starts-old p word c f h.within ∙ h.starts;
   quiet = λ u a b. elim (cases_lt u (length p)) [
     | inl l ↦ quiet-more p word c f (length p) (omega arith) h.quiet u a l
     | inr l ↦
-        let e : u ≡ length p = omega (arith, longer p word) in
+        let e : u ≡ length p = omega (arith, length_push p word) in
         subst (λ t. (ends_on c (take t (p ++ word ∷ [])) (word_at (p ++ word ∷ []) t) ≡ false) × (starts_on c (word_at (p ++ word ∷ []) t) ≡ false)) (sym e) (ends-new p word c ∙ no_end, starts-new p word c ∙ no_start)
   ];
 }
 
 open-less : (p : List Word) (word : Word) (c f : ℕ) → IsOpen (p ++ word ∷ []) c f → f < length p → IsOpen p c f × (ends_on c p word ≡ false) × (starts_on c word ≡ false)
 open-less p word c f h l =
-    let last = h.quiet (length p) l (omega (arith, longer p word)) in (
+    let last = h.quiet (length p) l (omega (arith, length_push p word)) in (
       record {
         within = l;
         starts = sym (starts-old p word c f l) ∙ h.starts;
-        quiet = quiet-less p word c f (length p) (omega arith) (λ u a b. h.quiet u a (omega (arith, longer p word)));
+        quiet = quiet-less p word c f (length p) (omega arith) (λ u a b. h.quiet u a (omega (arith, length_push p word)));
       },
       sym (ends-new p word c) ∙ last.0,
       sym (starts-new p word c) ∙ last.1,
@@ -306,12 +303,12 @@ stands-some p word channel sent places e h is low place =
     let on : starts_on channel word ≡ true = (starts-some word channel channel is).1 ∙ eq-eqb channel channel refl in
     let off : (c : ℕ) → c ≢ channel → starts_on c word ≡ false = λ c other. (starts-some word channel c is).1 ∙ false_from_ne_true (channel == c) (λ u. other (sym (eqb-true channel c u))) in
     let fresh : IsOpen (p ++ word ∷ []) channel (length p) = record {
-      within = omega (arith, longer p word);
+      within = omega (arith, length_push p word);
       starts = starts-new p word channel ∙ on;
-      quiet = λ u a b. absurd (omega (arith, longer p word));
+      quiet = λ u a b. absurd (omega (arith, length_push p word));
     } in
     let is_sent : IsSent (p ++ word ∷ []) y = record {
-      within = omega (arith, longer p word);
+      within = omega (arith, length_push p word);
       starts = starts-new p word channel ∙ on;
       number = ap (λ (q : Place). q.started) place ∙ h.counted channel e low ∙ sym (ap (count_by (starts_on channel)) (take-append_seam p (word ∷ [])));
       last = λ z end. past p word (length p) z refl end.behind end.within;
@@ -358,7 +355,7 @@ stands-some p word channel sent places e h is low place =
     }
   where
     past : (p : List Word) (word : Word) (n z : ℕ) → n ≡ length p → n < z → z < length (p ++ word ∷ []) → ⊥
-    past p word n z e a b = omega (arith, longer p word)
+    past p word n z e a b = omega (arith, length_push p word)
 
 -- ---- the words so far
 

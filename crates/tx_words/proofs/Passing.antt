@@ -5,10 +5,10 @@ use Rattle.std.specs.List.Sorted.{IsNonDecreasing}
 use Rattle.std.proofs.lemmas.List.{get_or-map, length-map, take_more, get_or_default}
 use Rattle.stream_model.specs.declared.rows.FlowRow.{FlowRow}
 use Rattle.stream_model.specs.declared.rows.LocalRow.{LocalRow}
-use Rattle.burst_scheduler.specs.Asked.{Asked, local_added, flow_added}
+use Rattle.burst_scheduler.specs.Asked.{Asked, local_added, flow_added, having_local}
 use Rattle.burst_scheduler.specs.Gives.{Gives}
 use Rattle.burst_scheduler.specs.declared.scheduler.Scheduler.{Scheduler}
-use Rattle.tx_words.specs.Driving.{having_local, having_flow, PassesFlow}
+use Rattle.tx_words.specs.Driving.{having_flow, PassesFlow}
 
 -- ---- rows in order of slot
 

@@ -65,7 +65,7 @@ slots_count n (word ∷ p) =
     (λ h. rw h (let m = rw h at more in omega (arith, rest, m)))
     (λ h. rw h (let m = rw h at more in omega (arith, rest, m)))
 
--- so many are listed
+-- this many are listed
 pub count_is : (p : List Word) (count : ℕ) (list : List Sent) → map (λ (s : Sent). s.first) (take count list) ≡ slots_where starts 0 p → count ≤ length list → count ≡ count_by starts p
 count_is p count list firsts within =
     sym (length-take-le count list within) ∙ sym (length-map (take count list) (λ (s : Sent). s.first)) ∙ ap length firsts ∙ slots_count 0 p

@@ -11,7 +11,7 @@ use Rattle.tx_words.specs.Sent.{starts, starts_on, slots_where, IsSent}
 use Rattle.tx_words.specs.SentLaw.{SomeList}
 use Rattle.tx_words.proofs.Listing.{is_last, is_last-control, end_in, end-found, starts-seam}
 
--- the packet whose SOP word, with this payload, stands behind p and before q
+-- the packet whose SOP word, with this payload, stands after p and before q
 abbrev sent_at : List Word → ℕ → List Word → Sent
 sent_at p y q = record {
   channel = channel_number true y;

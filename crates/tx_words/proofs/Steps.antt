@@ -1,9 +1,9 @@
--- One step of a scheduler behind the rows of its slot.
+-- One step of a scheduler after the rows of its slot.
 use Rattle.std.proofs.Common.{◌≡◌, ℕ, ◌+◌, ◌-◌, ◌*◌, ◌/◌, ◌^◌, ◌<◌, ◌≤◌, max, Bool, true, false, List, [], ◌∷◌, ◌++◌, length, map, drop, get_or, nat_lt, sum_by, All, refl, sym, subst, ◌∙◌, inl, inr, arith, append-nil, length-append}
 use Rattle.std.specs.List.{AllWithin}
 use Rattle.std.specs.List.Sorted.{IsNonDecreasing}
 use Rattle.std.proofs.Math.Nat.{mul-le-mul}
-use Rattle.std.proofs.lemmas.Bool.{cases_lt, ltb-true, ltb-false}
+use Rattle.std.proofs.lemmas.Bool.{cases_lt, ltb-true, ltb-false, false_from_ne_true}
 use Rattle.std.proofs.lemmas.List.{get_or-drop, length-drop}
 use Rattle.lk_base.specs.declared.word.Word.{Word}
 use Rattle.stream_model.specs.BurstStream.{Source, warmup_slots}
@@ -46,10 +46,6 @@ may_step : (a : Asked) (b : Bool) → (b ≡ true → a.closed ≡ false) → (b
 may_step a true unclosed calm = unclosed refl
 may_step a false unclosed calm = calm refl
 
-false_of : (b : Bool) → (b ≡ true → ⊥) → b ≡ false
-false_of true h = absurd (h refl)
-false_of false h = refl
-
 module _ (s0 s2 : Scheduler) (source : Source) (words : List Word) (f l f1 l1 : ℕ) (d : Drives s0 source words f l) (timed : IsTimed source) where
   -- the scheduler has the rows up to these
   abbrev asked : Bool → Asked
@@ -70,7 +66,7 @@ module _ (s0 s2 : Scheduler) (source : Source) (words : List Word) (f l f1 l1 : 
         | inl lt ↦ p.some lt
         | inr same_or_less ↦ (
             let same : f ≡ f1 = omega arith in
-            p.none same ∙ false_of d.waits (λ w. let lt = d.waiting w in omega arith))
+            p.none same ∙ false_from_ne_true d.waits (λ w. let lt = d.waiting w in omega arith))
       ])
 
   pub few_words : length words < 2 ^ 60
@@ -97,7 +93,7 @@ begun s source g = record {
   words_low = omega arith;
 }
 
--- ---- behind a step
+-- ---- after a step
 
 -- steps gave words, one or more
 pub given : (more : Bool) (s : Scheduler) (source : Source) (words vs : List Word) (f l opened : ℕ) (waits closed : Bool)
@@ -153,7 +149,7 @@ pub may_now : (s : Scheduler) (source : Source) (words : List Word) (f l : ℕ) 
 may_now s source words f l d timed =
     may s s source words f l f l d timed (record { waits = d.waits; gives = d.gives; some = λ lt. absurd (omega arith); none = λ _. refl }) (omega arith) d.flow_within
 
--- so many steps gave these words, with no row between them
+-- this many steps gave these words, with no row between them
 pub given_run : (more : Bool) (old s : Scheduler) (source : Source) (words vs : List Word) (f l : ℕ) (d : Drives old source words f l)
     → Gives s (stepped_by (driven source words f l d.opened d.waits d.closed) more vs)
     → MayStep (driven source words f l d.opened d.waits d.closed) more

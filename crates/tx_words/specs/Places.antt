@@ -17,7 +17,7 @@ start_channel (Control x) = cond (has_burst x && has_sop x) (Some (channel_numbe
 abbrev pub ended_channel : Option ℕ → Word → Option ℕ
 ended_channel last word = cond (ends word) last None
 
--- and the channel of the last burst word behind the word
+-- and the channel of the last burst word after the word
 abbrev pub channel_after : Option ℕ → Option ℕ → Option ℕ
 channel_after last None = last
 channel_after last (Some channel) = Some channel
@@ -29,7 +29,7 @@ channel_behind last word = channel_after last (burst_channel word)
 abbrev pub fresh_place : Place
 fresh_place = record { started = 0; current = None }
 
--- the packet of this channel whose SOP word stands at this slot is open behind these words
+-- the packet of this channel whose SOP word stands at this slot is open after these words
 pub record IsOpen (p : List Word) (channel first : ℕ) : Type 0 where
   pub within : first < length p
   pub starts : starts_on channel (word_at p first) ≡ true

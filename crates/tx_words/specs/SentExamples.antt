@@ -33,7 +33,7 @@ abbrev pub listed : ℕ → ℕ → ℕ → Option ℕ → Sent
 listed channel number first last = record { channel = channel; number = number; first = first; last = last }
 
 pub record SentExamples : Type 0 where
-  -- one packet, whose end word stands behind its data word
+  -- one packet, whose end word stands after its data word
   pub whole : AreSent one_packet_words (listed 1 0 1 (Some 3) ∷ [])
   -- two packets on channels whose numbers have one remainder by 256
   pub wide : AreSent wide_pair_words (listed 5 0 1 (Some 3) ∷ listed 261 0 6 (Some 8) ∷ [])
@@ -41,7 +41,7 @@ pub record SentExamples : Type 0 where
   pub cut : AreSent (take 3 one_packet_words) (listed 1 0 1 None ∷ [])
   -- a packet of the same channel starts before the first has ended, and ends; the first has no end word
   pub again : AreSent (start_on_zero ∷ start_on_zero ∷ end_of_eight ∷ []) (listed 0 0 0 None ∷ listed 0 1 1 (Some 2) ∷ [])
-  -- the end word stands behind a burst of channel 1, so it ends the packet of channel 1
+  -- the end word stands after a burst of channel 1, so it ends the packet of channel 1
   pub other : AreSent (start_on_zero ∷ start_on_one ∷ end_of_eight ∷ []) (listed 0 0 0 None ∷ listed 1 0 1 (Some 2) ∷ [])
   -- one control word ends a packet, and the next of the channel starts at once
   pub both : AreSent (start_on_zero ∷ end_of_eight ∷ start_on_zero ∷ idle ∷ end_of_eight ∷ []) (listed 0 0 0 (Some 1) ∷ listed 0 1 2 (Some 4) ∷ [])

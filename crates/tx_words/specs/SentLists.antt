@@ -5,7 +5,7 @@ use Rattle.tx_words.specs.declared.sent_list.SentList.{SentList}
 use Rattle.tx_words.specs.Sent.{last_channel}
 use Rattle.tx_words.specs.Places.{Stands}
 
--- it lists the packets that start in these words, and there is room for so many in all
+-- it lists the packets that start in these words, and there is room for this many in all
 pub record Lists (l : SentList) (p : List Word) (total : ℕ) : Type 0 where
   pub stands : Stands p (take l.count l.list.items) l.places.items
   pub within : l.count ≤ length l.list.items

@@ -6,11 +6,11 @@ use Rattle.tx_words.specs.declared.counts.SentCount.{SentCount}
 use Rattle.tx_words.specs.declared.packet.Packet.{Packet}
 use Rattle.tx_words.specs.declared.sent.Sent.{Sent}
 
--- so many bursts, and no packet yet
+-- this many bursts, and no packet yet
 abbrev pub first_tally : ℕ → Tally
 first_tally bursts = record { bursts = bursts; packets = 0; bytes = 0; left = 0 }
 
--- one more packet of so many bytes: it is sent where there are bursts for all its chunks
+-- one more packet of this many bytes: it is sent where there are bursts for all its chunks
 abbrev pub with_packet : ℕ → Tally → ℕ → Tally
 with_packet most tally bytes =
     cond (nat_le (parts most bytes) tally.bursts)

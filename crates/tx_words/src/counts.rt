@@ -38,7 +38,7 @@ pub struct Tally {
     left: u64,
 }
 
-// So many tallies of no bursts.
+// This many tallies of no bursts.
 fn empty_tallies(alloc: Global, count: usize) -> Result<Vec<Tally>, OutOfMemory>
     ensures len { IfOk result (λ tallies. vec_len tallies ≡ count) }
     ensures none { IfOk result (λ tallies. (k : ℕ) (d : Tally) → k < count → slice_index_or tallies.items k d ≡ first_tally 0) }
@@ -96,7 +96,7 @@ fn count_bursts(alloc: Global, words: &WordList) -> Result<Vec<Tally>, OutOfMemo
     Ok(tallies)
 }
 
-// The tally with one more packet of so many bytes.
+// The tally with one more packet of this many bytes.
 fn with_packet(most: u32, tally: Tally, bytes: u64) -> Tally
     requires most { 1 ≤ most }
     requires bytes { tally.bytes + bytes < 2 ^ 41 }
@@ -123,7 +123,7 @@ fn with_packet(most: u32, tally: Tally, bytes: u64) -> Tally
     }
 }
 
-// The tallies with these packets as well. A packet takes a burst for each chunk, of at most so many bytes.
+// The tallies with these packets as well. A packet takes a burst for each chunk, of at most this many bytes.
 fn with_packets(most: u32, packets: &[Packet], first: Vec<Tally>) -> Vec<Tally>
     requires most { 1 ≤ most }
     requires fit { All (λ packet. packet.channel ≤ 65535) packets.now }
@@ -211,7 +211,7 @@ fn count_ended(alloc: Global, sent: &[Sent]) -> Result<Vec<Tally>, OutOfMemory>
     Ok(tallies)
 }
 
-/// The same counts by the list of the packets whose SOP word is in the stream. A channel sends its first packets, so many as
+/// The same counts by the list of the packets whose SOP word is in the stream. A channel sends its first packets, as many as
 /// have their end words in the stream.
 ///
 /// # Errors

@@ -2,9 +2,9 @@ ghost use Rattle.std.specs.Prelude.{◌≡◌, ◌+◌, ◌-◌, ◌^◌, ◌<�
 ghost use Rattle.std.specs.List.Sorted.{IsNonDecreasing};
 ghost use Rattle.stream_model.specs.declared.rows.FlowRow.{FlowRow as PassedFlow};
 ghost use Rattle.stream_model.specs.declared.rows.LocalRow.{LocalRow as PassedLocal};
-ghost use Rattle.burst_scheduler.specs.Asked.{Asked};
+ghost use Rattle.burst_scheduler.specs.Asked.{Asked, having_local};
 ghost use Rattle.burst_scheduler.specs.Gives.{Gives};
-ghost use Rattle.tx_words.specs.Driving.{PassesFlow, having_local, FlowLater, LocalLater};
+ghost use Rattle.tx_words.specs.Driving.{PassesFlow, FlowLater, LocalLater};
 
 use burst_scheduler::Scheduler;
 use stream_model::{FlowRow, LocalRow};

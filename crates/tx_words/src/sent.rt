@@ -31,7 +31,7 @@ pub struct Place {
     pub current: Option<usize>,
 }
 
-// So many places of no words.
+// This many places of no words.
 fn fresh_places(alloc: Global, count: usize) -> Result<Vec<Place>, OutOfMemory>
     ensures len { IfOk result (λ places. vec_len places ≡ count) }
     ensures none { IfOk result (λ places. (k : ℕ) (e : Place) → k < count → slice_index_or places.items k e ≡ fresh_place) }

@@ -47,7 +47,7 @@ fn end_packet(list: &mut [Sent], places: &mut [Place], last: Option<usize>, word
     }
 }
 
-// Puts a new packet of a channel behind the listed ones.
+// Puts a new packet of a channel after the listed ones.
 fn start_open(list: &mut [Sent], count: usize, places: &mut [Place], channel: usize, slot: u64)
     requires half { (p : List Word) × (word : Word) × Half p word (take count list.old) places.old × (slot ≡ length p) × (count_by (starts_on channel) p + 1 < 2 ^ 32) }
     requires low { channel < 65536 }
@@ -168,6 +168,16 @@ impl SentList {
         );
         self.last = channel_behind(self.last, word);
         self.slot += 1;
+    }
+
+    /// The next words are made, one after another, as `pass` takes each.
+    pub fn pass_block(&mut self, words: &[Word])
+        requires { (p : List Word) × (room : ℕ) × Lists self.old p room × (count_by starts (p ++ words.now) ≤ room) × (room < 2 ^ 32) × (length p + length words.now < 2 ^ 63) }
+        ensures { (p : List Word) (room : ℕ) → Lists self.old p room → Lists self.new (p ++ words.now) room }
+    {
+        for place in 0..words.len() {
+            self.pass(words[place]);
+        }
     }
 
     /// The packets whose SOP word was made, in the order of these words.

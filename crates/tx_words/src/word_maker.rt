@@ -55,9 +55,8 @@ impl<'a> WordMaker<'a> {
         })
     }
 
-    /// The next word, before which the rows of its slot are passed, the local ones first; `None` exactly after the last.
-    #[inline(always)]
-    pub fn next(&mut self) -> Option<Word>
+    // The next word, before which the rows of its slot are passed, the local ones first; `None` exactly after the last.
+    fn next(&mut self) -> Option<Word>
         requires { (source : Source) × (words : List SentWord) × GaveWords self.old source words }
         ensures some { (source : Source) (words : List SentWord) (word : SentWord) → GaveWords self.old source words → result ≡ Some word → GaveWords self.new source (words ++ word ∷ []) }
         ensures none { (source : Source) (words : List SentWord) → GaveWords self.old source words → result ≡ None → GaveWords self.new source words × IsBurstStream source words }

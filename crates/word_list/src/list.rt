@@ -1,6 +1,6 @@
-ghost use Rattle.std.specs.Prelude.{◌≡◌, ◌==◌, ◌<◌, ◌^◌, ◌++◌, ◌∷◌, [], length, OnOk, OnErr};
+ghost use Rattle.std.specs.Prelude.{◌≡◌, ◌==◌, ◌+◌, ◌<◌, ◌≤◌, ◌^◌, ◌++◌, ◌∷◌, [], drop, length, take, OnOk, OnErr};
 ghost use Rattle.lk_base.specs.Words.{is_control, payload, word_at};
-ghost use Rattle.word_list.specs.Parts.{word_of};
+ghost use Rattle.word_list.specs.Parts.{word_of, words_of};
 
 use lk_base::{OutOfMemory, Word};
 use std::alloc::Global;
@@ -77,6 +77,17 @@ fn push_parts(
     Ok(())
 }
 
+// Copies the words of these numbers and kinds into the block, from number `first` on.
+fn read_parts(numbers: &[u64], controls: &[bool], first: usize, block: &mut [Word])
+    requires parts { length controls.now ≡ length numbers.now }
+    requires there { first + length block.old ≤ length numbers.now }
+    ensures { block.new ≡ take (length block.old) (drop first (words_of numbers.now controls.now)) }
+{
+    for place in 0..block.len() {
+        block[place] = word_of(numbers[first + place], controls[first + place]);
+    }
+}
+
 impl WordList {
     /// An empty list, which takes its memory from this allocator.
     pub fn new(alloc: Global) -> WordList
@@ -126,5 +137,12 @@ impl WordList {
         ensures { result ≡ word_at self.now i }
     {
         word_of(self.numbers[i], self.controls[i])
+    }
+    /// Copies the words from number `first` on into the block, as many as it has places.
+    pub fn read(&self, first: usize, block: &mut [Word])
+        requires { first + length block.old ≤ length self.now }
+        ensures { block.new ≡ take (length block.old) (drop first self.now) }
+    {
+        read_parts(&self.numbers, &self.controls, first, block);
     }
 }

@@ -1,6 +1,6 @@
 use Rattle.tx_words.proofs.Passing.{no_local, one_local, later_behind}
 use Rattle.stream_model.specs.declared.rows.LocalRow.{LocalRow}
-use Rattle.tx_words.specs.Driving.{having_local}
+use Rattle.burst_scheduler.specs.Asked.{having_local}
 use Rattle.std.proofs.Common.{take, false}
 use Rattle.tx_words.proofs.rows.pass_local.Goals as goal
 

@@ -1,9 +1,9 @@
 use Rattle.std.proofs.Common.{◌≡◌, ◌+◌, ◌++◌, length, take}
 use Rattle.lane_model.specs.Striping.{lane_payload}
-use Rattle.tx_end.proofs.lanes.eight_at.Given as goal
+use Rattle.tx_end.proofs.fill.eight_at.Given as goal
 
 -- the first words are there
 abbrev pub invariant-loop-k : goal.invariant-loop-k
 invariant-loop-k l =
-    (take (l.place + l.k) (lane_payload l.lanes l.words l.number) ≡ take l.place (lane_payload l.lanes l.words l.number) ++ take l.k l.eight)
+    (take (l.place + l.k) (lane_payload l.lanes l.group l.number) ≡ take l.place (lane_payload l.lanes l.group l.number) ++ take l.k l.eight)
     × (length l.eight ≡ 8)

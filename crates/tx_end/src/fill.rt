@@ -1,0 +1,142 @@
+//! The next metaframe of a lane, of the payload words of one group.
+ghost use Rattle.std.specs.Prelude.{◌≡◌, ◌+◌, ◌^◌, ◌<◌, ◌≤◌, ℕ, List, [], ◌∷◌, ◌++◌, true, length, take, vec_capacity, IfOk};
+ghost use Rattle.lk_base.specs.Link.{Settings, IsLink, group_of};
+ghost use Rattle.lk_base.specs.declared.word.Word.{Word as SentWord};
+ghost use Rattle.lane_model.specs.Striping.{lane_payload};
+ghost use Rattle.metaframe.specs.Writing.{wants_payload};
+ghost use Rattle.tx_end.specs.Lanes.{Carries, Fills, HasEnded, HasFilled, HasRoom};
+
+use crate::lane::Lane;
+use lk_base::{Link, OutOfMemory, Word};
+use std::alloc::Global;
+
+// The payload word of a lane at a place, out of a group.
+#[tactic(auto, using(crate::proofs::LanePlaces::in_stream, crate::proofs::LanePlaces::taken_more))]
+fn payload_at(group: &[Word], lanes: u32, number: u32, place: usize) -> Word
+    requires lane { number < lanes }
+    requires there { place < length (lane_payload lanes group.now number) }
+    ensures { take (place + 1) (lane_payload lanes group.now number) ≡ take place (lane_payload lanes group.now number) ++ result ∷ [] }
+{
+    group[place * lanes as usize + number as usize]
+}
+
+// Makes the next word of a lane, of the lane's next payload word in the group where it is one, and says how many of these
+// were taken so far.
+fn next_word(lane: &mut Lane, group: &[Word], lanes: u32, number: u32, taken: usize) -> usize
+    requires waiting { length lane.old.bits < 8 }
+    requires lane { number < lanes }
+    requires there { wants_payload lane.old.framing ≡ true → taken < length (lane_payload lanes group.now number) }
+    requires within { taken ≤ length (lane_payload lanes group.now number) }
+    requires few { taken ≤ 2 ^ 20 }
+    ensures carries { (s : Settings) (given : List SentWord) (made : ℕ) (bytes : List ℕ) → Carries lane.old s number (given ++ take taken (lane_payload lanes group.now number)) made bytes → Carries lane.new s number (given ++ take result (lane_payload lanes group.now number)) (made + 1) bytes }
+    ensures within { result ≤ length (lane_payload lanes group.now number) }
+    ensures more { length lane.new.bits ≡ length lane.old.bits + 67 }
+{
+    if lane.wants_payload() {
+        lane.payload(payload_at(group, lanes, number, taken));
+        taken + 1
+    } else {
+        lane.framing();
+        taken
+    }
+}
+
+// The next eight payload words of a lane, out of a group.
+fn eight_at(group: &[Word], lanes: u32, number: u32, place: usize) -> [Word; 8]
+    requires lane { number < lanes }
+    requires there { place + 8 ≤ length (lane_payload lanes group.now number) }
+    requires few { place ≤ 2 ^ 20 }
+    ensures { take (place + 8) (lane_payload lanes group.now number) ≡ take place (lane_payload lanes group.now number) ++ result }
+{
+    let mut eight = [Word::Data(0); 8];
+    for k in 0..8 {
+        eight[k] = payload_at(group, lanes, number, place + k);
+    }
+    eight
+}
+
+// Appends bytes for which there is room.
+fn append(bytes: &mut Vec<u8>, more: &[u8])
+    requires room { length bytes.old.items + length more.now ≤ vec_capacity bytes.old }
+    ensures items { bytes.new.items ≡ bytes.old.items ++ more.now }
+    ensures room { vec_capacity bytes.old ≤ vec_capacity bytes.new }
+{
+    match bytes.extend_from_slice(more) {
+        Ok(()) => {}
+        Err(_) => unreachable!(),
+    }
+}
+
+// Gives the whole bytes that wait.
+fn give_bytes(lane: &mut Lane, bytes: &mut Vec<u8>)
+    requires many { 64 ≤ length lane.old.bits }
+    requires few { length lane.old.bits < 80 }
+    requires room { length bytes.old.items + 9 ≤ vec_capacity bytes.old }
+    ensures carries { (s : Settings) (number : ℕ) (given : List SentWord) (made : ℕ) (before : List ℕ) → Carries lane.old s number given made (before ++ bytes.old.items) → Carries lane.new s number given made (before ++ bytes.new.items) }
+    ensures waiting { length lane.new.bits < 8 }
+    ensures room { vec_capacity bytes.old ≤ vec_capacity bytes.new }
+{
+    let mut piece = [0; 9];
+    let count = lane.give(&mut piece);
+    append(bytes, &piece[..count]);
+}
+
+/// Makes the words of a lane's next metaframe, whose payload words are the lane's own among those of a group. The bytes
+/// become the whole bytes of these words.
+pub fn fill_lane(lane: &mut Lane, link: &Link, group: &[Word], number: u32, bytes: &mut Vec<u8>)
+    requires limits { IsLink link.now }
+    requires group { length group.now ≡ group_of link.now }
+    requires lane { number < link.now.lanes }
+    requires filled { (given : List SentWord) × (made : ℕ) × (before : List ℕ) × HasFilled lane.old link.now number given made before }
+    requires room { HasRoom link.now bytes.old }
+    ensures fills { Fills link.now number group.now lane.old lane.new bytes.new.items }
+    ensures room { HasRoom link.now bytes.new }
+{
+    let lanes = link.lanes();
+    let metaframe = link.metaframe();
+    let mut taken = 0;
+    let mut place = 0;
+    bytes.clear();
+    while place < metaframe {
+        if lane.takes_eight() {
+            let eight = eight_at(group, lanes, number, taken);
+            append(bytes, &lane.payload_eight(&eight));
+            taken += 8;
+            place += 8;
+        } else {
+            taken = next_word(lane, group, lanes, number, taken);
+            give_bytes(lane, bytes);
+            place += 1;
+        }
+    }
+}
+
+/// The bytes become the last one of a lane, where bits wait, and none elsewhere.
+pub fn end_lane(lane: &mut Lane, bytes: &mut Vec<u8>)
+    requires waiting { length lane.old.bits < 8 }
+    requires room { 1 ≤ vec_capacity bytes.old }
+    ensures ended { (before : List ℕ) → HasEnded lane.old before (before ++ bytes.new.items) }
+    ensures none { bytes.new.items ≡ [] → length lane.old.bits ≡ 0 }
+    ensures room { vec_capacity bytes.old ≤ vec_capacity bytes.new }
+{
+    bytes.clear();
+    if let Some(byte) = lane.last_byte() {
+        bytes.push_reserved(byte);
+    }
+}
+
+/// Places for the words of a group.
+pub fn group_room(alloc: Global, link: &Link) -> Result<Vec<Word>, OutOfMemory>
+    ensures { IfOk result (λ group. length group.items ≡ group_of link.now) }
+{
+    Ok(vec![in alloc; Word::Data(0); link.group_words() as usize]?)
+}
+
+/// No bytes, with room for those of a metaframe.
+pub fn metaframe_room(alloc: Global, link: &Link) -> Result<Vec<u8>, OutOfMemory>
+    ensures { IfOk result (λ bytes. (bytes.items ≡ []) × HasRoom link.now bytes) }
+{
+    // The settings of a link are within their limits.
+    link.keeps_limits();
+    Ok(Vec::with_capacity(alloc, 9 * link.metaframe() as usize)?)
+}
