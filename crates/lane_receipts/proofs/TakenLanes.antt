@@ -1,10 +1,11 @@
 -- Lanes are fed on, and their events come, wherever their bytes are kept.
-use Rattle.std.proofs.Common.{◌≡◌, ℕ, zero, suc, ◌+◌, ◌<◌, ◌≤◌, true, false, List, [], ◌∷◌, ◌++◌, length, map, set, get_or, slice_get, refl, sym, ap, ◌∙◌, subst, append_assoc, arith, inl, inr, ◌⊎◌, Option, Some, None, Contains}
+use Rattle.std.proofs.Common.{◌≡◌, ℕ, zero, suc, ◌+◌, ◌<◌, ◌≤◌, true, List, [], ◌∷◌, ◌++◌, length, set, get_or, slice_get, refl, sym, ap, ◌∙◌, subst, append_assoc, arith, inl, inr, ◌⊎◌, Option, Some, None, Contains}
 use Rattle.std.proofs.lemmas.Option.{none-some, same_Some}
 use Rattle.lk_base.specs.Link.{Settings}
+use Rattle.std.proofs.lemmas.Bool.{not-true}
 use Rattle.lk_outside.specs.Files.{Files, Told}
 use Rattle.receive_model.specs.Events.{Event}
-use Rattle.event_model.specs.Fed.{AllBegin, Fed}
+use Rattle.event_model.specs.Fed.{AllBegin, Fed, all_finished}
 use Rattle.rx_front.specs.Calls.{bytes_at, fed_more, finished_at, is_unfinished}
 use Rattle.rx_end.specs.States.{State}
 use Rattle.rx_end.proofs.Pieces.{given_come_first}
@@ -21,7 +22,7 @@ use Rattle.lane_receipts.specs.declared.lane_offsets.OpenLane.{OpenLane}
 use Rattle.lane_receipts.specs.Feeding.{IsCutOff, IsDrained, IsLeastOpen, IsLeastOrNone, fed_next, offset_next}
 use Rattle.lane_receipts.specs.Holding.{IsFeeding, left_in, left_of}
 use Rattle.lane_receipts.specs.Taking.{AllTaken, AreAsBefore, IsBroken, IsPieceAt}
-use Rattle.lane_receipts.proofs.FedLanes.{all_end, ends_here, goes_on, next_offset, not_true}
+use Rattle.lane_receipts.proofs.FedLanes.{all_end, ends_here, goes_on, next_offset}
 use Rattle.lane_receipts.proofs.LaneOffsets.{all_over}
 use Rattle.lane_receipts.proofs.OpenLanes.{counted, unfinished}
 
@@ -34,7 +35,7 @@ module _ (piece : List ℕ) where
   more_begin (bytes ∷ lanes) [] i at e n is h = absurd h
   more_begin (bytes ∷ lanes) (lane ∷ fed) zero at e n is h =
       let here : IsPieceAt (length lane.bytes) piece bytes = subst (λ k. IsPieceAt k piece bytes) (sym n) is in
-      (goes_on bytes lane piece (not_true lane.finished e) here.taken h.0, h.1)
+      (goes_on bytes lane piece (not-true lane.finished e) here.taken h.0, h.1)
   more_begin (bytes ∷ lanes) (lane ∷ fed) (suc i) at e n is h = (h.0, more_begin lanes fed i at e n is h.1)
 
 end_begin : (lanes : List (List ℕ)) (fed : List Fed) (i at : ℕ) → is_unfinished i fed ≡ true → bytes_at i fed ≡ at → IsPieceAt at [] (get_or lanes i []) → AllBegin fed lanes → AllBegin (finished_at i fed) lanes
@@ -144,7 +145,7 @@ module _ (b : Beginning) (s : Settings) (Are Still : List (List ℕ) → Type 0)
     })
 
     module _ (Then : List (List ℕ) → Type 0) (piece : List ℕ) (read : (lanes : List (List ℕ)) → Still lanes → Then lanes × IsPieceAt next.offset piece (get_or lanes next.lane [])) where
-      from_next : (lanes : List (List ℕ)) → Are lanes → AllBegin first lanes → Then lanes × AllBegin (fed_next next.lane piece fed) lanes
+      pub from_next : (lanes : List (List ℕ)) → Are lanes → AllBegin first lanes → Then lanes × AllBegin (fed_next next.lane piece fed) lanes
       from_next lanes are begin =
           let (still, begun) = at.from lanes are begin in
           let (later, is) = read lanes still in
@@ -164,11 +165,14 @@ module _ (b : Beginning) (s : Settings) (Are Still : List (List ℕ) → Type 0)
       piece_cut why now' cut = cut_broken b s first (fed_next next.lane piece fed) Are names why now' (λ lanes are begin. (from_next lanes are begin).1) cut
 
   -- all lanes are over
+  pub lanes_over : IsLeastOrNone (length offsets) offsets None → all_finished fed ≡ true
+  lanes_over none = all_end fed (λ i a e. all_over offsets none i a (subst (λ (os : List (Option ℕ)). slice_get os i ≡ Some (Some a)) (sym at.reached) e))
+
   pub lanes_taken : IsLeastOrNone (length offsets) offsets None → AllTaken b s first Are r kept now
   lanes_taken none = record {
     fed = fed;
     given = given;
     drained = at.drained;
-    over = all_end fed (λ i a e. all_over offsets none i a (subst (λ (os : List (Option ℕ)). slice_get os i ≡ Some (Some a)) (sym at.reached) e));
+    over = lanes_over none;
     from = λ lanes are begin. (at.from lanes are begin).1;
   }

@@ -5,6 +5,7 @@ use Rattle.lk_outside.specs.Files.{Files, file, Told}
 use Rattle.receive_model.specs.Events.{Event}
 use Rattle.event_model.specs.Fed.{Fed, AllBegin, all_finished}
 use Rattle.event_model.specs.Given.{AreEvents}
+use Rattle.rx_end.specs.Observing.{Keeping, Looks, SawAll, Seeing}
 use Rattle.rx_end.specs.States.{State}
 use Rattle.run_stops.specs.declared.stop.Stop.{Stop}
 use Rattle.run_shell.specs.Outcome.{HoldsPart}
@@ -41,7 +42,7 @@ pub record AllTaken (b : Beginning) (s : Settings) (first : List Fed) (Are : Lis
   pub over : all_finished fed ≡ true
   pub from : (lanes : List (List ℕ)) → Are lanes → AllBegin first lanes → AllBegin fed lanes
 
--- what stopped them: the store, at an output or at a file of these names, or memory, behind these of the lanes' events
+-- what stopped them: the store, at an output or at a file of these names, or memory, after these of the lanes' events
 pub record StopsLanes (b : Beginning) (s : Settings) (names lanes : List (List ℕ)) (came : List Event) (why : Stop) : Type 0 where
   pub by_store : IsOfStore (λ q. Contains (names_of b) q ⊎ Contains names q) why
   pub first : (all : List Event) → AreEvents s b.setting lanes all → (rest : List Event) × (all ≡ came ++ rest)
@@ -55,3 +56,9 @@ pub record IsBroken (b : Beginning) (s : Settings) (first : List Fed) (Are : Lis
 abbrev pub TakesLanes : {T : Type 0} → Beginning → Settings → List Fed → (List (List ℕ) → Type 0) → List (List ℕ) → Result T Stop → State → Receipt → Option Files → Type 0
 TakesLanes b s first Are names (Ok _) r kept now = AllTaken b s first Are r kept now
 TakesLanes b s first Are names (Err why) r kept now = IsBroken b s first Are names why now
+
+-- ---- an observer
+
+-- of any such lanes that begin with what was fed first, an observer that looks at them from there on has seen all
+abbrev pub ObservesLanes : {O : Type 0} → Keeping O → Seeing O → O → O → State → State → Settings → List Fed → (List (List ℕ) → Type 0) → Type 0
+ObservesLanes keeps saw o p v w s first Are = (lanes : List (List ℕ)) → Are lanes → AllBegin first lanes → Looks keeps saw o v s first lanes → SawAll keeps saw p w.front s lanes

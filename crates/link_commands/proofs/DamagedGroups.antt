@@ -5,6 +5,7 @@ use Rattle.std.proofs.lemmas.Simd.{map-map}
 use Rattle.lk_base.specs.Checksum.{bits_of_bytes}
 use Rattle.lk_base.specs.Link.{group_of}
 use Rattle.lk_base.specs.declared.word.Word.{Word}
+use Rattle.lk_base.proofs.Lists.{contains_none, contains_cons}
 use Rattle.stream_model.specs.BurstStream.{Source, IsBurstStream}
 use Rattle.lock_model.specs.Tracks.{Track}
 use Rattle.receive_model.specs.Positions.{Epoch}
@@ -12,7 +13,6 @@ use Rattle.receive_model.specs.Events.{events}
 use Rattle.epoch_model.specs.Groups.{IsGroup, IsBehind, IsNextGroup, SyncAt, goes_on, is_there, metaframes_on, name_of}
 use Rattle.epoch_model.specs.GroupLaw.{HasAttempts, tracks_received}
 use Rattle.epoch_model.specs.SoFar.{EpochsSoFar, GoesAsFar, LaneSoFar, last_group}
-use Rattle.epoch_model.proofs.Names.{contains_cons, contains_none}
 use Rattle.epoch_model.proofs.Ranges.{all_range-true}
 use Rattle.link_laws.specs.Accidents.{accidents_in, no_accidents}
 use Rattle.link_laws.specs.PremisesMet.{channel_1, two_lanes}

@@ -24,12 +24,12 @@ use Rattle.tx_words.specs.Sources.{IsHeldOn}
 use Rattle.link_laws.specs.Accidents.{slot_place}
 use Rattle.link_reports.specs.Lines.{held_line}
 use Rattle.run_shell.specs.Outcome.{Outcome}
-use Rattle.link_commands.specs.Delivery.{LacksAPacket, LinkLacksAPacket, captured_on, sent_on}
+use Rattle.link_commands.specs.Delivery.{LacksAPacket, LinkLacksAPacket, sent_on}
 use Rattle.link_commands.specs.Inputs.{LinkReading}
 use Rattle.link_commands.specs.Linked.{IsEndedBy, IsLinkedBy, link_text, missing_among, missing_lines, sent_over}
 use Rattle.link_commands.proofs.AllSent.{captured}
 
--- ---- no bursts behind the finish
+-- ---- no bursts after the finish
 
 burst_on : (channel : ℕ) (word : Word) → is_burst_on channel word ≡ true → (x : ℕ) × (word ≡ Control x) × (burst_field x ≡ 1)
 burst_on channel (Data x) h = cc

@@ -1,5 +1,5 @@
 -- The premises of the delivery theorem with damage are met by a plan of two packets, of which one is lost and the other arrives.
-use Rattle.std.proofs.Common.{ℕ, ◌≡◌, ◌<◌, ◌+◌, refl, sym, ap, ap₂, ◌∙◌, subst, false, List, [], ◌∷◌, map, filter, take, arith, lit<, Contains, Some}
+use Rattle.std.proofs.Common.{ℕ, ◌≡◌, refl, sym, ap, ap₂, ◌∙◌, subst, false, List, [], ◌∷◌, map, filter, take, arith, lit<, Contains, Some}
 use lib.Chars.{codes}
 use Rattle.std.specs.Fmt.{digits}
 use Rattle.std.proofs.lemmas.List.Elements.{All-cons, All-nil}
@@ -27,7 +27,8 @@ use Rattle.pcap_files.specs.Written.{capture_bytes, header_bytes, record_head}
 use Rattle.plan_inputs.specs.Sources.{IsSourceOf}
 use Rattle.plan_inputs.proofs.SameSource.{same_source}
 use Rattle.run_shell.specs.Outcome.{Outcome, content_of}
-use Rattle.receipts.specs.Received.{capture_name, spans_name}
+use Rattle.receipts.specs.Received.{spans_name}
+use Rattle.pcap_files.specs.Names.{capture_name}
 use Rattle.receipts.specs.Received as received
 use Rattle.tx_words.specs.Sent.{AreSent, IsEnd, IsQuiet, IsSent, ends_on, starts_on}
 use Rattle.tx_words.specs.declared.sent.Sent.{Sent as SentPacket}

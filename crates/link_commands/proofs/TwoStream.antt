@@ -1,4 +1,4 @@
--- The stream of two packets behind four groups of idles.
+-- The stream of two packets after four groups of idles.
 use Rattle.std.proofs.Common.{◌≡◌, ◌≢◌, inl, ℕ, zero, suc, ◌+◌, ◌-◌, ◌*◌, ◌%◌, ◌<◌, ◌≤◌, ◌^◌, ◌==◌, true, List, [], ◌∷◌, ◌++◌, length, take, map, filter, replicate, Some, refl, sym, ap, ◌∙◌, subst, arith, lit≤, lit<, append_assoc, append-nil, nat_lt, if◌then◌else◌}
 use Rattle.std.specs.Prelude.{slice_index}
 use Rattle.std.specs.List.{range_with_len}
@@ -163,7 +163,7 @@ good_5 =
     (burst_right two_packets w4 burst_word 1 (chunk_of eight_more) (burst_seal w4 (idle_plain w3)) refl refl (lit≤ tt) (ready_by w4 (lit< tt)) (spaced_by_test two_packets w4 225 refl refl refl) carried_4 (λ s. refl, λ f. refl) (no_other w4))
     (record { burst = λ b. (chunk_of eight_more, carried_4, refl); idle = λ b. cc })
 
--- ---- behind the bursts
+-- ---- after the bursts
 
 spent : (before : List Word) → bursts_in before 1 ≡ 2 → HasAnyLeft two_packets before → ⊥
 spent before count any =

@@ -1,4 +1,4 @@
--- The premises of the delivery theorem with damage are met by a plan of two packets on one channel, one behind the other: the schedule
+-- The premises of the delivery theorem with damage are met by a plan of two packets on one channel, one after the other: the schedule
 -- inverts the same bit of lane 1, by which the data word of the first packet has a damaged header. No accident is counted. The first
 -- packet meets a fault span, and is lost; the second meets none, and arrives.
 use Rattle.std.specs.Prelude.{ℕ, ◌≡◌, List, [], ◌∷◌, ◌++◌, map, filter, replicate, codes, Some, Ok}
@@ -22,7 +22,8 @@ use Rattle.link_reports.specs.Table.{span_table}
 use Rattle.pcap_files.specs.Written.{capture_bytes}
 use Rattle.run_shell.specs.declared.status.Status.TheVariants.{Done}
 use Rattle.run_shell.specs.Outcome.{Outcome, content_of}
-use Rattle.receipts.specs.Received.{capture_name, spans_name}
+use Rattle.receipts.specs.Received.{spans_name}
+use Rattle.pcap_files.specs.Names.{capture_name}
 use Rattle.link_commands.specs.DamagedMet.{damaged_epoch_of, damaged_text, flipped_reading, three_spans}
 use Rattle.link_commands.specs.Delivery.{LosesNoLock, sent_on}
 use Rattle.link_commands.specs.Inputs.{LinkReading, linked_in}
@@ -50,7 +51,7 @@ two_reading = flipped_reading ((1, one_to_eight) ∷ (1, eight_more) ∷ [])
 
 -- ---- the stream
 
--- both packets on channel 1, behind four groups of idles
+-- both packets on channel 1, after four groups of idles
 abbrev pub two_packets : Source
 two_packets = record behind_warmup { packets = (1, one_to_eight) ∷ (1, eight_more) ∷ [] }
 
@@ -91,7 +92,7 @@ pub record OneOfTwoArrives : Type 0 where
   -- both packets are sent, and the second alone meets no span
   pub sent : sent_on two_reading two_words outcome linked 1 ≡ wide_packet ∷ second_packet ∷ []
   pub meets : filter (meets_none (items_of (two_epoch ∷ []))) (wide_packet ∷ second_packet ∷ []) ≡ second_packet ∷ []
-  -- it arrives alone, and the first is told as missing
+  -- it arrives alone, and the first is reported as missing
   pub arrives : delivered 1 linked.events ≡ second_packet ∷ []
   pub capture : content_of outcome.files (capture_name (codes "o") 1) ≡ Some (capture_bytes 1 (eight_more ∷ []))
   pub told : missing_lines linked.sent (missing_among (sent_over two_reading two_words) linked.events linked.sent) ≡ codes "missing channel=1 packet=0 first=224 last=226 span=1\n"

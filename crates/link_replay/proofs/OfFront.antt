@@ -7,6 +7,7 @@ use Rattle.std.proofs.lemmas.List.FromFn.{length-map-range_with_len}
 use Rattle.lk_base.specs.Checksum.{bits_of_bytes}
 use Rattle.lk_base.specs.declared.word.Aligned.{Aligned}
 use Rattle.lk_base.specs.Link.{Settings, IsLink}
+use Rattle.lk_base.proofs.Lists.{head_same, tail_same}
 use Rattle.lock_model.specs.declared.types.LaneStep.{LaneStep}
 use Rattle.lock_model.specs.declared.types.LaneStep.TheVariants as steps
 use Rattle.lock_model.specs.Steps.{AreSteps}
@@ -14,7 +15,7 @@ use Rattle.lock_model.specs.Tracks.{Track, shown_tracks}
 use Rattle.lock_model.proofs.StepsHold.{earlier_steps_stay, steps_exist, steps_show_tracks}
 use Rattle.epoch_model.specs.GroupLaw.{HasAttempts, tracks_received}
 use Rattle.epoch_model.specs.SoFar.{LaneSoFar}
-use Rattle.event_model.specs.Fed.{Fed, all_finished, first_bits, has_ended, longest}
+use Rattle.event_model.specs.Fed.{AllGo, Fed, Goes, first_bits, has_ended, longest, whole}
 use Rattle.event_model.proofs.Clocks.{bits-append, length-bits}
 use Rattle.deskew.specs.Ticks.{AreLaneSteps, steps_in, tick_at, ticks_of}
 use Rattle.deskew.proofs.Stepped.{shown_same}
@@ -25,68 +26,63 @@ use Rattle.rx_front.specs.Standing.{Progress, Stands, locks_at}
 use Rattle.rx_front.specs.States.{Lane, State}
 use Rattle.rx_front.proofs.Clocked.{AtClock, at_clock, column_is, shows_lane}
 use Rattle.rx_front.proofs.Rounds.{column_length}
-use Rattle.link_replay.specs.Fronts.{all_fed_to, fed_to}
 use Rattle.link_replay.proofs.EndOfLanes.{AllDeclared}
 use Rattle.link_replay.proofs.Growth.{AllBegin, Begins}
 use Rattle.link_replay.proofs.Locks.{few_locks, track_locks}
 
 -- ---- one lane
 
--- its bits so far are the first of its bits
-first_of : (clock at : ℕ) (bytes : List ℕ) → (rest : List Bool) × (first_bits clock (fed_to at bytes) ++ rest ≡ bits_of_bytes bytes)
-first_of clock at bytes =
-    let front = bits_of_bytes (take at bytes) in
-    let more = bits_of_bytes (drop at bytes) in (
-      drop clock front ++ more,
-      sym (append_assoc (take clock front) (drop clock front) more)
-          ∙ ap (λ bs. bs ++ more) (take-append-drop clock front)
-          ∙ sym (bits-append (take at bytes) (drop at bytes))
-          ∙ ap bits_of_bytes (take-append-drop at bytes),
-    )
+module _ (clock : ℕ) (lane : Fed) (bytes : List ℕ) (go : Goes lane (whole bytes)) where
+  -- its bits so far are the first of its bits
+  first_of : (rest : List Bool) × (first_bits clock lane ++ rest ≡ bits_of_bytes bytes)
+  first_of =
+      let front = bits_of_bytes lane.bytes in
+      let more = bits_of_bytes go.rest in (
+        drop clock front ++ more,
+        sym (append_assoc (take clock front) (drop clock front) more)
+            ∙ ap (λ bs. bs ++ more) (take-append-drop clock front)
+            ∙ sym (bits-append lane.bytes go.rest)
+            ∙ ap bits_of_bytes (sym go.bytes),
+      )
 
--- where it has ended they are all
-all_of : (clock at : ℕ) (bytes : List ℕ) → has_ended clock (fed_to at bytes) ≡ true → first_bits clock (fed_to at bytes) ≡ bits_of_bytes bytes
-all_of clock at bytes e =
-    let parts = and_parts (nat_lt (length bytes) at) (nat_lt (length (bits_of_bytes (take at bytes))) clock) e in
-    let past = ltb-true (length bytes) at parts.0 in
-    let over = ltb-true (length (bits_of_bytes (take at bytes))) clock parts.1 in
-    take_all clock (bits_of_bytes (take at bytes)) (omega (arith, over)) ∙ ap bits_of_bytes (take_all at bytes (omega (arith, past)))
+  -- where it has ended they are all
+  all_of : has_ended clock lane ≡ true → first_bits clock lane ≡ bits_of_bytes bytes
+  all_of e =
+      let parts = and_parts lane.finished (nat_lt (length (bits_of_bytes lane.bytes)) clock) e in
+      let over = ltb-true (length (bits_of_bytes lane.bytes)) clock parts.1 in
+      let none = (go.over parts.0).1 in
+      let own : lane.bytes ≡ bytes = sym (append-nil lane.bytes) ∙ ap (λ (r : List ℕ). lane.bytes ++ r) (sym none) ∙ sym go.bytes in
+      take_all clock (bits_of_bytes lane.bytes) (omega (arith, over)) ∙ ap bits_of_bytes own
 
-begins : (s : Settings) (clock at : ℕ) (bytes : List ℕ) (given : List LaneStep) (lane : HasAttempts s.metaframe) → IsLink s → lane.bits ≡ bits_of_bytes bytes → AtClock s clock (fed_to at bytes) given → Begins s given lane
-begins s clock at bytes given lane link e c = by c.behind refl
-  where
-    by : (n : ℕ) → c.behind ≡ n → Begins s given lane
-    by zero z =
-        let first = first_bits clock (fed_to at bytes) in
-        let rest = first_of clock at bytes in
-        let all = steps_exist s lane.bits in
-        let whole : lane.bits ≡ first ++ rest.0 = e ∙ sym rest.1 in
-        let stay : take (length first) all.0 ≡ c.own = earlier_steps_stay s first rest.0 c.own all.0 c.are (subst (λ (bs : List Bool). AreSteps s bs all.0) whole all.1) in
-        let same : given ≡ take (length first) all.0 = c.shown ∙ ap (λ n. c.own ++ replicate n steps.Ended) z ∙ append-nil c.own ∙ sym stay in
-        let total : given ++ drop (length first) all.0 ≡ all.0 = ap (λ xs. xs ++ drop (length first) all.0) same ∙ take-append-drop (length first) all.0 in
-        record {
-          more = drop (length first) all.0;
-          are = subst (λ (xs : List LaneStep). AreLaneSteps s xs) (sym total) (record { bits = lane.bits; own = all.0; are = all.1; behind = 0; shown = sym (append-nil all.0) });
-          shown = ap shown_tracks total ∙ steps_show_tracks s lane.bits all.0 lane.attempts link.metaframe.0 all.1 lane.are;
-        }
-    by (suc n) z =
-        let ended = c.over.0 (omega (arith, z)) in
-        let whole : first_bits clock (fed_to at bytes) ≡ lane.bits = all_of clock at bytes ended ∙ sym e in
-        let are : AreSteps s lane.bits c.own = subst (λ (bs : List Bool). AreSteps s bs c.own) whole c.are in
-        let shown : given ++ [] ≡ c.own ++ replicate c.behind steps.Ended = append-nil given ∙ c.shown in
-        record {
-          more = [];
-          are = record { bits = lane.bits; own = c.own; are = are; behind = c.behind; shown = shown };
-          shown = ap shown_tracks shown ∙ shown_same c.own c.behind ∙ steps_show_tracks s lane.bits c.own lane.attempts link.metaframe.0 are lane.are;
-        }
+  begins : (s : Settings) (given : List LaneStep) (x : HasAttempts s.metaframe) → IsLink s → x.bits ≡ bits_of_bytes bytes → AtClock s clock lane given → Begins s given x
+  begins s given x link e c = by c.behind refl
+    where
+      by : (n : ℕ) → c.behind ≡ n → Begins s given x
+      by zero z =
+          let first = first_bits clock lane in
+          let rest = first_of in
+          let all = steps_exist s x.bits in
+          let own : x.bits ≡ first ++ rest.0 = e ∙ sym rest.1 in
+          let stay : take (length first) all.0 ≡ c.own = earlier_steps_stay s first rest.0 c.own all.0 c.are (subst (λ (bs : List Bool). AreSteps s bs all.0) own all.1) in
+          let same : given ≡ take (length first) all.0 = c.shown ∙ ap (λ n. c.own ++ replicate n steps.Ended) z ∙ append-nil c.own ∙ sym stay in
+          let total : given ++ drop (length first) all.0 ≡ all.0 = ap (λ xs. xs ++ drop (length first) all.0) same ∙ take-append-drop (length first) all.0 in
+          record {
+            more = drop (length first) all.0;
+            are = subst (λ (xs : List LaneStep). AreLaneSteps s xs) (sym total) (record { bits = x.bits; own = all.0; are = all.1; behind = 0; shown = sym (append-nil all.0) });
+            shown = ap shown_tracks total ∙ steps_show_tracks s x.bits all.0 x.attempts link.metaframe.0 all.1 x.are;
+          }
+      by (suc n) z =
+          let ended = c.over.0 (omega (arith, z)) in
+          let own : first_bits clock lane ≡ x.bits = all_of ended ∙ sym e in
+          let are : AreSteps s x.bits c.own = subst (λ (bs : List Bool). AreSteps s bs c.own) own c.are in
+          let shown : given ++ [] ≡ c.own ++ replicate c.behind steps.Ended = append-nil given ∙ c.shown in
+          record {
+            more = [];
+            are = record { bits = x.bits; own = c.own; are = are; behind = c.behind; shown = shown };
+            shown = ap shown_tracks shown ∙ shown_same c.own c.behind ∙ steps_show_tracks s x.bits c.own x.attempts link.metaframe.0 are x.are;
+          }
 
 -- ---- all lanes
-
-pub head_same : {A : Type 0} (x y : A) (xs ys : List A) → ◌≡◌ {A = List A} (x ∷ xs) (y ∷ ys) → x ≡ y
-head_same x y xs ys e = cc
-
-pub tail_same : {A : Type 0} (x y : A) (xs ys : List A) → ◌≡◌ {A = List A} (x ∷ xs) (y ∷ ys) → xs ≡ ys
-tail_same x y xs ys e = cc
 
 -- these are the steps of the lanes from number i on
 abbrev Gives : ℕ → (ℕ → List LaneStep) → ℕ → List (List LaneStep) → Type 0
@@ -98,45 +94,43 @@ gives_first clock given i column columns g = (let e : i ≡ i + 0 = omega arith 
 gives_rest : (clock : ℕ) (given : ℕ → List LaneStep) (i : ℕ) (column : List LaneStep) (columns : List (List LaneStep)) → Gives clock given i (column ∷ columns) → Gives clock given (i + 1) columns
 gives_rest clock given i column columns g j lt = (let e : i + 1 + j ≡ i + suc j = omega arith in ap given e ∙ g (suc j) (omega (arith, lt)))
 
-module _ (s : Settings) (link : IsLink s) (rounds clock at : ℕ) (le : clock ≤ 8 * rounds) (given : ℕ → List LaneStep) where
-  all_begin : (i : ℕ) (vs : List Lane) (lanes : List (List ℕ)) (columns : List (List LaneStep)) (all : List (HasAttempts s.metaframe)) → AllStand vs s rounds (all_fed_to at lanes) columns →
-      bits_of_lanes all ≡ map bits_of_bytes lanes → Gives clock given i columns → AllBegin s given i all
-  all_begin i [] [] [] [] st e g = tt
-  all_begin i [] [] [] (x ∷ all) st e g = absurd (let l = ap length e in omega (arith, l))
-  all_begin i [] [] (column ∷ columns) all st e g = absurd st
-  all_begin i [] (bytes ∷ lanes) columns all st e g = absurd st
-  all_begin i (v ∷ vs) [] columns all st e g = absurd st
-  all_begin i (v ∷ vs) (bytes ∷ lanes) [] all st e g = absurd st
-  all_begin i (v ∷ vs) (bytes ∷ lanes) (column ∷ columns) [] st e g = absurd (let l = ap length e in omega (arith, l))
-  all_begin i (v ∷ vs) (bytes ∷ lanes) (column ∷ columns) (x ∷ all) st e g = (
+module _ (s : Settings) (link : IsLink s) (rounds clock : ℕ) (le : clock ≤ 8 * rounds) (given : ℕ → List LaneStep) where
+  all_begin : (i : ℕ) (vs : List Lane) (fed : List Fed) (lanes : List (List ℕ)) (columns : List (List LaneStep)) (all : List (HasAttempts s.metaframe)) → AllStand vs s rounds fed columns →
+      AllGo fed (map whole lanes) → bits_of_lanes all ≡ map bits_of_bytes lanes → Gives clock given i columns → AllBegin s given i all
+  all_begin i [] [] lanes [] [] st go e g = tt
+  all_begin i [] [] [] [] (x ∷ all) st go e g = absurd (let l = ap length e in omega (arith, l))
+  all_begin i [] [] (bytes ∷ lanes) [] (x ∷ all) st go e g = absurd go
+  all_begin i [] [] lanes (column ∷ columns) all st go e g = absurd st
+  all_begin i [] (lane ∷ fed) lanes columns all st go e g = absurd st
+  all_begin i (v ∷ vs) [] lanes columns all st go e g = absurd st
+  all_begin i (v ∷ vs) (lane ∷ fed) lanes [] all st go e g = absurd st
+  all_begin i (v ∷ vs) (lane ∷ fed) [] (column ∷ columns) all st go e g = absurd go
+  all_begin i (v ∷ vs) (lane ∷ fed) (bytes ∷ lanes) (column ∷ columns) [] st go e g = absurd (let l = ap length e in omega (arith, l))
+  all_begin i (v ∷ vs) (lane ∷ fed) (bytes ∷ lanes) (column ∷ columns) (x ∷ all) st go e g = (
     subst (λ (xs : List LaneStep). Begins s xs x) (sym (gives_first clock given i column columns g))
-        (begins s clock at bytes (take clock column) x link (head_same x.bits (bits_of_bytes bytes) (bits_of_lanes all) (map bits_of_bytes lanes) e)
-        (at_clock s rounds clock (fed_to at bytes) column le st.0.in_time st.0.completed)),
-    all_begin (i + 1) vs lanes columns all st.1 (tail_same x.bits (bits_of_bytes bytes) (bits_of_lanes all) (map bits_of_bytes lanes) e) (gives_rest clock given i column columns g),
+        (begins clock lane bytes go.0 s (take clock column) x link (head_same x.bits (bits_of_bytes bytes) (bits_of_lanes all) (map bits_of_bytes lanes) e)
+        (at_clock s rounds clock lane column le st.0.in_time st.0.completed)),
+    all_begin (i + 1) vs fed lanes columns all st.1 go.1 (tail_same x.bits (bits_of_bytes bytes) (bits_of_lanes all) (map bits_of_bytes lanes) e) (gives_rest clock given i column columns g),
   )
 
   -- after their last bits the locks are those of the whole lanes
-  all_declared : (i : ℕ) (vs : List Lane) (lanes : List (List ℕ)) (columns : List (List LaneStep)) (all : List (HasAttempts s.metaframe)) → AllStand vs s rounds (all_fed_to at lanes) columns →
-      bits_of_lanes all ≡ map bits_of_bytes lanes → all_finished (all_fed_to at lanes) ≡ true → 8 * longest (all_fed_to at lanes) < clock → Gives clock given i columns →
-      AllDeclared s (λ k. locks_in (given k)) i all
-  all_declared i [] [] [] [] st e f o g = tt
-  all_declared i [] [] [] (x ∷ all) st e f o g = absurd (let l = ap length e in omega (arith, l))
-  all_declared i [] [] (column ∷ columns) all st e f o g = absurd st
-  all_declared i [] (bytes ∷ lanes) columns all st e f o g = absurd st
-  all_declared i (v ∷ vs) [] columns all st e f o g = absurd st
-  all_declared i (v ∷ vs) (bytes ∷ lanes) [] all st e f o g = absurd st
-  all_declared i (v ∷ vs) (bytes ∷ lanes) (column ∷ columns) [] st e f o g = absurd (let l = ap length e in omega (arith, l))
-  all_declared i (v ∷ vs) (bytes ∷ lanes) (column ∷ columns) (x ∷ all) st e f o g =
-      let parts = and_parts (nat_lt (length bytes) at) (all_finished (all_fed_to at lanes)) f in
-      let past = ltb-true (length bytes) at parts.0 in
-      let c = at_clock s rounds clock (fed_to at bytes) column le st.0.in_time st.0.completed in
-      let b = length-bits (take at bytes) in
-      let whole : first_bits clock (fed_to at bytes) ≡ bits_of_bytes bytes =
-      take_all clock (bits_of_bytes (take at bytes)) (omega (arith, b, o)) ∙ ap bits_of_bytes (take_all at bytes (omega (arith, past))) in
-      let shown = shows_lane s clock (fed_to at bytes) (take clock column) x link (head_same x.bits (bits_of_bytes bytes) (bits_of_lanes all) (map bits_of_bytes lanes) e ∙ sym whole) c in
+  all_declared : (i : ℕ) (vs : List Lane) (lanes : List (List ℕ)) (columns : List (List LaneStep)) (all : List (HasAttempts s.metaframe)) → AllStand vs s rounds (map whole lanes) columns →
+      bits_of_lanes all ≡ map bits_of_bytes lanes → 8 * longest (map whole lanes) < clock → Gives clock given i columns → AllDeclared s (λ k. locks_in (given k)) i all
+  all_declared i [] [] [] [] st e o g = tt
+  all_declared i [] [] [] (x ∷ all) st e o g = absurd (let l = ap length e in omega (arith, l))
+  all_declared i [] [] (column ∷ columns) all st e o g = absurd st
+  all_declared i [] (bytes ∷ lanes) columns all st e o g = absurd st
+  all_declared i (v ∷ vs) [] columns all st e o g = absurd st
+  all_declared i (v ∷ vs) (bytes ∷ lanes) [] all st e o g = absurd st
+  all_declared i (v ∷ vs) (bytes ∷ lanes) (column ∷ columns) [] st e o g = absurd (let l = ap length e in omega (arith, l))
+  all_declared i (v ∷ vs) (bytes ∷ lanes) (column ∷ columns) (x ∷ all) st e o g =
+      let c = at_clock s rounds clock (whole bytes) column le st.0.in_time st.0.completed in
+      let b = length-bits bytes in
+      let own : first_bits clock (whole bytes) ≡ bits_of_bytes bytes = take_all clock (bits_of_bytes bytes) (omega (arith, b, o)) in
+      let shown = shows_lane s clock (whole bytes) (take clock column) x link (head_same x.bits (bits_of_bytes bytes) (bits_of_lanes all) (map bits_of_bytes lanes) e ∙ sym own) c in
       let tracks : shown_tracks (given i) ≡ tracks_received s x = ap shown_tracks (gives_first clock given i column columns g) ∙ ap (λ (l : LaneSoFar). l.tracks) shown in (
         sym (track_locks (given i)) ∙ ap (map (λ (t : Track). t.at)) tracks,
-        all_declared (i + 1) vs lanes columns all st.1 (tail_same x.bits (bits_of_bytes bytes) (bits_of_lanes all) (map bits_of_bytes lanes) e) parts.1 (omega (arith, o)) (gives_rest clock given i column columns g),
+        all_declared (i + 1) vs lanes columns all st.1 (tail_same x.bits (bits_of_bytes bytes) (bits_of_lanes all) (map bits_of_bytes lanes) e) (omega (arith, o)) (gives_rest clock given i column columns g),
       )
 
 -- a column is as long as the clock
@@ -175,14 +169,14 @@ module _ (f : State) (s : Settings) (fed : List Fed) (items : List Aligned) (t :
       let long = ticks_long in
       omega (arith, few, m, long)
 
-module _ (f : State) (s : Settings) (at : ℕ) (lanes : List (List ℕ)) (items : List Aligned) (t : Progress) (all : List (HasAttempts s.metaframe)) (bits : bits_of_lanes all ≡ map bits_of_bytes lanes)
-    (st : Stands f s (all_fed_to at lanes) items t) where
+module _ (f : State) (s : Settings) (lanes : List (List ℕ)) (items : List Aligned) (t : Progress) (all : List (HasAttempts s.metaframe)) (bits : bits_of_lanes all ≡ map bits_of_bytes lanes) where
   -- the steps so far are the first of the whole lanes
-  pub lanes_begin : AllBegin s (λ k. steps_in k (ticks_of t.columns t.clock)) 0 all
-  lanes_begin = all_begin s st.link t.rounds t.clock at (in_rounds f s (all_fed_to at lanes) items t st) (λ k. steps_in k (ticks_of t.columns t.clock)) 0 f.lanes lanes t.columns all st.lanes bits
-      (steps_given f s (all_fed_to at lanes) items t st)
+  pub lanes_begin : (fed : List Fed) → AllGo fed (map whole lanes) → Stands f s fed items t → AllBegin s (λ k. steps_in k (ticks_of t.columns t.clock)) 0 all
+  lanes_begin fed go st =
+      all_begin s st.link t.rounds t.clock (in_rounds f s fed items t st) (λ k. steps_in k (ticks_of t.columns t.clock)) 0 f.lanes fed lanes t.columns all st.lanes go bits (steps_given f s fed items t st)
 
   -- after the last bits they declared all locks
-  pub lanes_declared : all_finished (all_fed_to at lanes) ≡ true → 8 * longest (all_fed_to at lanes) < t.clock → AllDeclared s (λ k. locks_at k t) 0 all
-  lanes_declared fin over = all_declared s st.link t.rounds t.clock at (in_rounds f s (all_fed_to at lanes) items t st) (λ k. steps_in k (ticks_of t.columns t.clock)) 0 f.lanes lanes t.columns all st.lanes bits fin over
-      (steps_given f s (all_fed_to at lanes) items t st)
+  pub lanes_declared : Stands f s (map whole lanes) items t → 8 * longest (map whole lanes) < t.clock → AllDeclared s (λ k. locks_at k t) 0 all
+  lanes_declared st over =
+      all_declared s st.link t.rounds t.clock (in_rounds f s (map whole lanes) items t st) (λ k. steps_in k (ticks_of t.columns t.clock)) 0 f.lanes lanes t.columns all st.lanes bits over
+      (steps_given f s (map whole lanes) items t st)

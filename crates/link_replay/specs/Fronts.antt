@@ -1,19 +1,16 @@
--- How the front of a receiver and a watch stand to the lanes that were received.
+-- How the front of a receiver and a counter stand to the lanes that were received.
 use Rattle.std.specs.Prelude.{ℕ, zero, suc, ◌≡◌, ◌≤◌, ◌+◌, ◌⊎◌, nat_le, nat_lt, Bool, true, false, cond, List, [], ◌∷◌, length, map, take, drop}
 use Rattle.lk_base.specs.declared.word.Aligned.{Aligned}
-use Rattle.lk_base.specs.declared.word.Word.{Word as SentWord}
-use Rattle.lk_base.specs.Checksum.{bits_of_bytes}
-use Rattle.lk_base.specs.Link.{Settings}
-use Rattle.epoch_model.specs.GroupLaw.{HasAttempts}
 use Rattle.event_model.specs.Fed.{Fed}
 use Rattle.event_model.specs.Given.{AreItems}
-use Rattle.link_laws.specs.Received.{bits_of_lanes, whole_lane}
+use Rattle.link_laws.specs.Accidents.{Sent}
 use Rattle.rx_front.specs.Calls.{count_at, fed_more, finished_at, is_open, room_at}
 use Rattle.rx_front.specs.Lanes.{are_ready}
-use Rattle.rx_front.specs.Standing.{Progress, Stands, locks_at}
+use Rattle.rx_front.specs.Standing.{Progress, locks_at}
 use Rattle.rx_front.specs.States.{Lane, State}
+use Rattle.rx_end.specs.Observing.{Knows}
+use Rattle.link_replay.specs.Counting.{Counter, Counts, HasCounted, HasCountedAll, given_to}
 use Rattle.link_replay.specs.Lanes.{AreFew}
-use Rattle.link_replay.specs.Standing.{Watch, Watches, skews_of}
 
 -- ---- lanes that are fed in turns
 
@@ -45,40 +42,36 @@ pub record TakesFrom (i at : ℕ) (bytes : List ℕ) (lanes : List Lane) : Type 
   pub room : at ≤ length bytes → room_at i lanes ≡ 4096
   pub count : at ≤ length bytes → count_at i lanes ≡ at
 
--- ---- what is watched
+-- ---- what is counted
 
 pub record Received : Type 0 where
-  pub settings : Settings
-  pub skews : List ℕ
-  -- the bytes of each lane
+  -- what was sent
+  pub sent : Sent
+  -- the bytes of each received lane
   pub lanes : List (List ℕ)
 
--- the bytes up to this place were fed, and the watch took the items that were taken of the front
-pub record IsWatched (r : Received) (at : ℕ) (words : List SentWord) (f : State) (v : Watch) : Type 0 where
-  pub settings : v.settings ≡ r.settings
-  pub skews : skews_of v.lanes ≡ r.skews
+-- the bytes up to this place were fed, and the counter was told of all that was taken of the front
+pub record IsWatched (r : Received) (at : ℕ) (f : State) (c : Counter) : Type 0 where
+  pub given : given_to c ≡ r.sent
   pub few : AreFew r.lanes
-  -- what the bits of the lanes determine
-  pub lanes : List (HasAttempts r.settings.metaframe)
-  pub bits : bits_of_lanes lanes ≡ map bits_of_bytes r.lanes
   pub items : List Aligned
   pub t : Progress
-  pub stands : Stands f r.settings (all_fed_to at r.lanes) items t
-  pub watches : Watches v words (map (whole_lane r.settings) lanes) (λ i. locks_at i t) items
+  pub knows : Knows Counts c f r.sent.settings (all_fed_to at r.lanes) items t (λ i. locks_at i t) items
+  pub seen : HasCounted c r.sent.settings r.lanes (λ i. locks_at i t) items
 
 -- some lanes are
-abbrev pub WatchesSome : List SentWord → State → Watch → Type 0
-WatchesSome words f v = (r : Received) × (at : ℕ) × IsWatched r at words f v
+abbrev pub WatchesSome : State → Counter → Type 0
+WatchesSome f c = (r : Received) × (at : ℕ) × IsWatched r at f c
 
 -- nothing is left to be taken of what the clock has shown
-pub record IsDrained (r : Received) (at : ℕ) (words : List SentWord) (f : State) (v : Watch) : Type 0 where
-  pub watched : IsWatched r at words f v
-  pub all : (known : List Aligned) → AreItems r.settings watched.t.clock (all_fed_to at r.lanes) known → known ≡ watched.items
+pub record IsDrained (r : Received) (at : ℕ) (f : State) (c : Counter) : Type 0 where
+  pub watched : IsWatched r at f c
+  pub all : (known : List Aligned) → AreItems r.sent.settings watched.t.clock (all_fed_to at r.lanes) known → known ≡ watched.items
 
 -- after an item, or where there was none
-abbrev pub AfterItem : Bool → Received → ℕ → List SentWord → State → Watch → Type 0
-AfterItem true r at words f v = IsWatched r at words f v
-AfterItem false r at words f v = IsDrained r at words f v
+abbrev pub AfterItem : Bool → Received → ℕ → State → Counter → Type 0
+AfterItem true r at f c = IsWatched r at f c
+AfterItem false r at f c = IsDrained r at f c
 
 -- the clock and what moves it stayed as they were
 pub record IsStill (f g : State) : Type 0 where
@@ -92,12 +85,11 @@ pub record IsStuck (f : State) : Type 0 where
   pub why : (f.over ≡ true) ⊎ (are_ready f.lanes ≡ false)
 
 -- all bytes that were fed were taken from the rings
-pub record IsTurn (r : Received) (at : ℕ) (words : List SentWord) (f : State) (v : Watch) : Type 0 where
-  pub watched : IsWatched r at words f v
+pub record IsTurn (r : Received) (at : ℕ) (f : State) (c : Counter) : Type 0 where
+  pub watched : IsWatched r at f c
   pub rounds : watched.t.rounds ≡ at
 
--- all bytes came, and all items were taken
-pub record IsAtEnd (r : Received) (at : ℕ) (words : List SentWord) (f : State) (v : Watch) : Type 0 where
-  pub drained : IsDrained r at words f v
-  pub left : f.left ≡ 0
-  pub over : f.over ≡ true
+-- all bytes came, and all that they show was counted
+pub record IsAtEnd (r : Received) (f : State) (c : Counter) : Type 0 where
+  pub given : given_to c ≡ r.sent
+  pub all : HasCountedAll c f r.sent.settings r.lanes

@@ -1,24 +1,16 @@
-ghost use Rattle.std.specs.Prelude.{◌≡◌, ◌≤◌, ◌<◌, ◌+◌, ◌^◌, true, ℕ, List, drop, length, map};
+ghost use Rattle.std.specs.Prelude.{◌≡◌, ◌<◌, ◌+◌, ◌^◌, List, length, map};
 ghost use Rattle.lk_base.specs.Link.{Settings};
 ghost use Rattle.lk_base.specs.declared.word.Aligned.{Aligned as Item};
 ghost use Rattle.event_model.specs.Fed.{Fed};
-ghost use Rattle.rx_front.specs.Calls.{count_at, is_open, room_at};
 ghost use Rattle.rx_front.specs.Standing.{Progress, Stands};
 ghost use Rattle.link_replay.specs.Lanes.{AreFew};
 ghost use Rattle.link_replay.specs.Fronts.{TakesFrom, all_fed_to, fed_on};
 
+use lk_base::tail;
 use rx_front::Front;
 
 /// How many bytes of a lane are fed at once: as many as its ring has room for.
 pub const PIECE: usize = 4096;
-
-// The bytes from this place on.
-fn tail(bytes: &[u8], from: usize) -> &[u8]
-    requires { from ≤ length bytes.now }
-    ensures { result.now ≡ drop from bytes.now }
-{
-    &bytes[from..]
-}
 
 // Feeds the bytes of a lane from this place on that its ring takes, which is empty, and finishes the lane where they are fewer than it
 // takes.

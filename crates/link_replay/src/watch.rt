@@ -8,7 +8,7 @@ ghost use Rattle.epoch_model.specs.SoFar.{LaneSoFar};
 ghost use Rattle.rx_front.specs.Locks.{declared_at};
 ghost use Rattle.link_replay.specs.Groups.{starts_of};
 ghost use Rattle.link_replay.specs.Lanes.{HaveFew, strange_sum};
-ghost use Rattle.link_replay.specs.Standing.{IsSame, ShowsItem, TakesWord, TellsGroup, TellsItem, Watches, skews_of, with_break, with_group};
+ghost use Rattle.link_replay.specs.Standing.{Holds, IsSame, ShowsItem, TakesWord, TellsGroup, TellsItem, Watches, skews_of, with_break, with_group};
 
 use crate::counts::Accidents;
 use crate::group::is_sent_group;
@@ -69,6 +69,8 @@ impl Watch {
         requires most { length self.old.lanes ≤ 64 }
         requires few { HaveFew self.old.lanes }
         ensures same { IsSame self.old self.new }
+        ensures holds { (before now : ℕ → List ℕ) (items : List Item) → ((i : ℕ) → now i ≡ before i ++ cons_option (declared_at i front.now) []) →
+            Holds self.old sent.now before items → Holds self.new sent.now now items }
         ensures watches { (lanes : List LaneSoFar) (before now : ℕ → List ℕ) (items : List Item) → ((i : ℕ) → now i ≡ before i ++ cons_option (declared_at i front.now) []) →
             Watches self.old sent.now lanes before items → Watches self.new sent.now lanes now items }
     {
@@ -106,6 +108,8 @@ impl Watch {
         requires room { self.old.stretches + length words.now < 2 ^ 63 }
         requires places { at.index + length words.now ≤ 2 ^ 32 }
         ensures same { IsSame self.old self.new }
+        ensures holds { (locks : ℕ → List ℕ) (items : List Item) →
+            Holds self.old sent.now locks items → Holds self.new sent.now locks (items ++ words_from at.group at.index words.now) }
         ensures watches { (lanes : List LaneSoFar) (locks : ℕ → List ℕ) (items : List Item) →
             Watches self.old sent.now lanes locks items → Watches self.new sent.now lanes locks (items ++ words_from at.group at.index words.now) }
     {
@@ -129,6 +133,8 @@ impl Watch {
         requires there { length self.old.lanes ≤ length front.now.lanes }
         requires told { TellsItem self.old item (starts_of front.now) }
         ensures same { IsSame self.old self.new }
+        ensures holds { (locks : ℕ → List ℕ) (items : List Item) →
+            Holds self.old sent.now locks items → Holds self.new sent.now locks (items ++ item ∷ []) }
         ensures watches { (lanes : List LaneSoFar) (locks : ℕ → List ℕ) (items : List Item) → ShowsItem self.old.settings lanes item (starts_of front.now) →
             Watches self.old sent.now lanes locks items → Watches self.new sent.now lanes locks (items ++ item ∷ []) }
     {

@@ -8,7 +8,7 @@ use Rattle.run_shell.proofs.Creating.{named_at}
 use Rattle.run_stops.proofs.Readings.{behind_stops}
 use Rattle.receive_commands.specs.Receive.{lanes_in}
 
--- the first lanes are there, so that all are as those behind them
+-- the first lanes are there, so that all are as those after them
 abbrev pub Led : List (List ℕ) → ℕ → Files → Type 0
 Led names i files = (front : List (List ℕ)) × (lanes_in files names ≡ behind (lanes_in files (drop i names)) (λ lanes. Ok (front ++ lanes)))
 

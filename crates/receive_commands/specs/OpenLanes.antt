@@ -17,7 +17,7 @@ use Rattle.lane_receipts.specs.LaneReports.{lane_lines}
 abbrev pub IsUnfed : Plan → State → Type 0
 IsUnfed plan r = (setting : Setting) → IsSettingOf setting (numbers_of plan.channels.items) plan.link.max_packet plan.wide → Stands r plan.link setting (nothing_fed plan.link.lanes) []
 
--- the lines of the reports of so many lanes, which are those of the receiver
+-- the lines of the reports of this many lanes, which are those of the receiver
 abbrev pub AreLinesOf : State → ℕ → Vec ℕ Global → Type 0
 AreLinesOf r lanes text = (reports : List LaneReport) × (length reports ≡ lanes) × (text.items ≡ lane_lines 0 reports)
     × ((s : Settings) (setting : Setting) (fed : List Fed) (given : List Event) (stands : Stands r s setting fed given) (lane : ℕ) (report : LaneReport) → slice_get reports lane ≡ Some report → IsReportOf s stands.progress.rounds lane fed report)

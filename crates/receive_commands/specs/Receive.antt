@@ -31,7 +31,7 @@ pub record PlanLanes : Type 0 where
 abbrev pub with_lanes : Files → PlanValue → Result PlanLanes Refusal
 with_lanes files plan = behind (lanes_in files (names_of_lanes plan)) (λ lanes. Ok (record { plan = plan; lanes = lanes }))
 
--- the plan in the file of this name, and behind it the bytes of its lanes
+-- the plan in the file of this name, and after it the bytes of its lanes
 abbrev pub plan_lanes_in : Files → List ℕ → Result PlanLanes Refusal
 plan_lanes_in files name = behind (plan_in files name) (with_lanes files)
 

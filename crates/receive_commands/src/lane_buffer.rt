@@ -25,7 +25,7 @@ pub struct LaneBuffer {
     pub bytes: Vec<u8>,
 }
 
-// Reads at most so many bytes of the file of this name, from the offset on, to the front of the bytes, and reports how many.
+// Reads at most this many bytes of the file of this name, from the offset on, to the front of the bytes, and reports how many.
 fn read_front<S: Store>(
     alloc: Global,
     store: &mut S,

@@ -10,7 +10,7 @@ use run_stops::{Stop, probe_input};
 use std::alloc::Global;
 
 /// Asks for each lane in the files of these names, in their order, for its first byte and for a byte at the limit of
-/// 4,294,967,296 bytes. The first that is absent or longer is refused, but for faults of the store and want of memory. The
+/// 4,294,967,296 bytes. The first that is absent or longer is refused, unless the store fails or memory runs out. The
 /// files are as they were.
 pub fn probe_lanes<S: Store>(alloc: Global, store: &mut S, names: &[String]) -> Result<(), Stop>
     requires { S.faults store.old < 2 ^ 60 }

@@ -78,6 +78,7 @@ impl<'n> OpenLanes<'n> {
             store,
             receipt,
             &mut self.receiver,
+            &mut (),
             &mut self.lanes,
             &mut self.offsets,
         )?;

@@ -3,7 +3,7 @@ use Rattle.std.proofs.lemmas.List.{length-drop, take_min}
 use Rattle.std.proofs.Math.ListN.{drop_of_length-le}
 use Rattle.std.proofs.lemmas.Bool.{cases_Bool}
 use Rattle.std.proofs.lemmas.Bool.Decides.{nat_tests}
-use Rattle.std.specs.Prelude.{nat_lt, true, false}
+use Rattle.std.specs.Prelude.{nat_lt}
 use Rattle.lane_receipts.proofs.lane_pieces.piece_of.Goals as goal
 
 -- nothing stands past the end

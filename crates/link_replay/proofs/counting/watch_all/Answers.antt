@@ -13,7 +13,7 @@ feed_all-requires-clause-stands c =
     let more : is_over c.loop-front.front ≡ false = sym c.is_over.ensures ∙ c.loop-front-test.true in
     let turn = ((c.loop-front.invariant r b.1 b.2).begins more).0 in
     let w = turn.watched in
-    (r.settings, w.items, w.t, turn.rounds, subst (λ (ls : List (List ℕ)). Stands c.loop-front.front r.settings (all_fed_to c.loop-front.at ls) w.items w.t) b.1 w.stands)
+    (r.sent.settings, w.items, w.t, turn.rounds, subst (λ (ls : List (List ℕ)). Stands c.loop-front.front r.sent.settings (all_fed_to c.loop-front.at ls) w.items w.t) b.1 w.knows.stands)
 
 pub overflow_add-at : goal.overflow_add-at
 overflow_add-at c =
@@ -31,7 +31,7 @@ watch_on-requires c =
     let r = b.0 in
     let more : is_over c.loop-front.front ≡ false = sym c.is_over.ensures ∙ c.loop-front-test.true in
     let turn = ((c.loop-front.invariant r b.1 b.2).begins more).0 in
-    (r, c.loop-front.at + 4096, turn_fed r c.loop-front.at c.args.sent.now c.loop-front.front c.feed_all.new.front c.loop-front.watch (map (λ b. b.items) c.args.received.now) b.1 c.feed_all.ensures turn)
+    (r, c.loop-front.at + 4096, turn_fed r c.loop-front.at c.loop-front.front c.feed_all.new.front c.loop-front.counter (map (λ b. b.items) c.args.received.now) b.1 c.feed_all.ensures turn)
 
 pub loop-front-smaller : goal.loop-front-smaller
 loop-front-smaller c =
@@ -48,10 +48,10 @@ pub loop-front-preserved : goal.loop-front-preserved
 loop-front-preserved c = λ r e t. (
     let more : is_over c.loop-front.front ≡ false = sym c.is_over.ensures ∙ c.loop-front-test.true in
     let turn = ((c.loop-front.invariant r e t).begins more).0 in
-    let w = turn_fed r c.loop-front.at c.args.sent.now c.loop-front.front c.feed_all.new.front c.loop-front.watch (map (λ b. b.items) c.args.received.now) e c.feed_all.ensures turn in
-    turned r (c.loop-front.at + 4096) c.args.sent.now c.watch_on.new.front c.watch_on.new.watch (c.watch_on.ensures.drained r (c.loop-front.at + 4096) w) c.watch_on.ensures.stuck)
+    let w = turn_fed r c.loop-front.at c.loop-front.front c.feed_all.new.front c.loop-front.counter (map (λ b. b.items) c.args.received.now) e c.feed_all.ensures turn in
+    turned r (c.loop-front.at + 4096) c.watch_on.new.front c.watch_on.new.counter (c.watch_on.ensures.drained r (c.loop-front.at + 4096) w) c.watch_on.ensures.stuck)
 
 pub returns : goal.returns
 returns c = λ r e t. (
     let over : is_over c.loop-front.front ≡ true = sym c.is_over.ensures ∙ c.loop-front-test.false in
-    (c.loop-front.at, (c.loop-front.invariant r e t).ends over))
+    (c.loop-front.invariant r e t).ends over)

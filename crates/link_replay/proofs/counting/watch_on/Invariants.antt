@@ -4,7 +4,7 @@ use Rattle.link_replay.proofs.Watching.{KeepsWatch}
 use Rattle.link_replay.proofs.counting.watch_on.Given as goal
 
 abbrev pub invariant-clock : goal.invariant-clock
-invariant-clock l = KeepsWatch l.sent l.fn.front l.fn.watch l.front l.watch
+invariant-clock l = KeepsWatch l.fn.front l.fn.counter l.front l.counter
 
 abbrev pub decreases-clock : goal.decreases-clock
 decreases-clock l = weight l.front

@@ -8,7 +8,7 @@ use Rattle.run_stops.specs.Reading.{ReadsPiece}
 use Rattle.receive_commands.specs.ReadLanes.{IsFront, ReadsFront}
 use Rattle.receive_commands.proofs.lane_buffer.read_front.Goals as goal
 
--- what stands behind the bytes that were read is none of them
+-- what stands after the bytes that were read is none of them
 module _ (name buf rest : List ℕ) (offset most : ℕ) (some : 0 < most → 0 < length (buf ++ rest) → 0 < length buf) where
   one_front : (n : ℕ) (o : Option (List ℕ)) → n ≤ length buf → IsSomeAnd o (λ bytes. Reads bytes offset n buf) → IsSomeAnd o (IsFront offset most n (buf ++ rest))
   one_front n None le h = h

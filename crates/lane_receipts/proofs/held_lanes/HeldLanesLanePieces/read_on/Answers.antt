@@ -1,10 +1,10 @@
-use Rattle.std.proofs.Common.{◌≡◌, ◌≤◌, ◌<◌, ℕ, zero, suc, List, [], ◌∷◌, length, map, take, drop, get_or, refl, ap, subst, arith}
+use Rattle.std.proofs.Common.{◌≡◌, ◌<◌, ℕ, zero, suc, List, [], ◌∷◌, length, map, take, drop, get_or, refl, ap, subst, arith}
 use Rattle.std.proofs.lemmas.List.{length-drop, length-take}
 use Rattle.lane_receipts.specs.Held.{vec_bytes}
 use Rattle.lane_receipts.specs.Taking.{IsPieceAt}
 use Rattle.lane_receipts.proofs.held_lanes.HeldLanesLanePieces.read_on.Goals as goal
 
--- the first are so many
+-- the first are this many
 first_of : (n : ℕ) (xs : List ℕ) → take n xs ≡ take (length (take n xs)) xs
 first_of zero xs = refl
 first_of (suc n) [] = refl

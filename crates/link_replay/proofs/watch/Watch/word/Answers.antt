@@ -1,6 +1,6 @@
 -- The stretch that ends is counted, or none.
 use Rattle.std.proofs.Common.{◌≡◌, ap, ◌+◌, arith, subst}
-use Rattle.lane_model.specs.Bits.{digit}
+use Rattle.lk_base.specs.Checksum.{digit}
 use Rattle.link_replay.specs.Standing.{TakesWord, Watch}
 use Rattle.link_replay.proofs.Items.{takes_word}
 use Rattle.link_replay.proofs.watch.Watch.word.Goals as goal

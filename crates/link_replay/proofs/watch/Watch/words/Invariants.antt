@@ -3,7 +3,7 @@ use Rattle.std.proofs.Common.{ℕ, ◌≡◌, ◌≤◌, ◌+◌, List, ◌++◌
 use Rattle.lk_base.specs.declared.word.Aligned.{Aligned}
 use Rattle.lk_base.specs.Positions.{words_from}
 use Rattle.epoch_model.specs.SoFar.{LaneSoFar}
-use Rattle.link_replay.specs.Standing.{IsSame, Watches}
+use Rattle.link_replay.specs.Standing.{Holds, IsSame, Watches}
 use Rattle.link_replay.proofs.watch.Watch.words.Given as goal
 
 abbrev pub invariant-loop-word : goal.invariant-loop-word
@@ -12,6 +12,8 @@ invariant-loop-word l = record {
   same : IsSame l.fn.self l.self;
   skew : l.self.skew ≡ l.fn.self.skew;
   room : l.self.stretches ≤ l.fn.self.stretches + l.word-index;
+  holds : (locks : ℕ → List ℕ) (items : List Aligned) → Holds l.fn.self l.sent locks items →
+      Holds l.self l.sent locks (items ++ words_from l.fn.at.group l.fn.at.index (take l.word-index l.words));
   watches : (lanes : List LaneSoFar) (locks : ℕ → List ℕ) (items : List Aligned) → Watches l.fn.self l.sent lanes locks items →
       Watches l.self l.sent lanes locks (items ++ words_from l.fn.at.group l.fn.at.index (take l.word-index l.words));
 }

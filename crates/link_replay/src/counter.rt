@@ -1,0 +1,97 @@
+ghost use Rattle.std.specs.Prelude.{◌≡◌, ◌≤◌, ◌%◌, [], ℕ, List, IfOk, length, map, take};
+ghost use Rattle.lk_base.specs.Checksum.{bits_of_bytes};
+ghost use Rattle.lk_base.specs.Link.{Settings, group_of};
+ghost use Rattle.link_laws.specs.Accidents.{AreAccidents};
+ghost use Rattle.rx_front.specs.States.{State as FrontState};
+ghost use Rattle.link_replay.specs.Counting.{Counts, HasCounted, HasCountedAll, HasCountedSome, given_to};
+ghost use Rattle.link_replay.specs.Counts.{counts_value};
+
+use crate::counts::Accidents;
+use crate::watch::Watch;
+use lk_base::{Aligned, Link, OutOfMemory, RxWord};
+use rx_end::Observer;
+use rx_front::Front;
+use std::alloc::Global;
+use std::marker::Model;
+use word_list::WordList;
+
+/// Counts the accidents on the lanes of a link while they are received, where these words were sent: it observes the receiver.
+#[derive(Drop)]
+pub struct Counter<'w> {
+    watch: Watch,
+    sent: &'w WordList,
+}
+
+impl<'w> Model for Counter<'w> {
+    ghost use Rattle.link_replay.specs.Counting.{Counter as CounterModel};
+
+    ghost Value = { CounterModel };
+
+    ghost view = { λ c. record { watch = c.watch; words = c.sent.now } };
+}
+
+// The first `count` words.
+fn first(words: &[RxWord], count: usize) -> &[RxWord]
+    requires { count ≤ length words.now }
+    ensures { result.now ≡ take count words.now }
+{
+    &words[..count]
+}
+
+impl<'w> Counter<'w> {
+    /// Nothing came. There is one skew for each lane of the link, and the words are a whole number of groups. It answers
+    /// `OutOfMemory` where memory ran out, and nowhere else; no later call takes memory.
+    pub fn make(
+        alloc: Global,
+        link: &Link,
+        skews: &[u32],
+        sent: &'w WordList,
+    ) -> Result<Counter<'w>, OutOfMemory>
+        requires skews { length skews.now ≡ link.now.lanes }
+        requires whole { length sent.now % group_of link.now ≡ 0 }
+        ensures given { IfOk result (λ c. given_to c ≡ record { settings = link.now; words = sent.now; skews = skews.now }) }
+        ensures counts { IfOk result (λ c. Counts c link.now (λ i. []) []) }
+        ensures counted { IfOk result (λ c. (lanes : List (List ℕ)) → HasCounted c link.now lanes (λ i. []) []) }
+    {
+        let watch = Watch::make(alloc, link, skews)?;
+        Ok(Counter { watch, sent })
+    }
+
+    /// The accidents on the lanes, all of which were received.
+    pub fn counts(&self) -> Accidents
+        requires { HasCountedSome self.now }
+        ensures { (f : FrontState) (s : Settings) (lanes : List (List ℕ)) → HasCountedAll self.now f s lanes →
+            AreAccidents (given_to self.now) (map bits_of_bytes lanes) (counts_value result) }
+    {
+        self.watch.counts()
+    }
+}
+
+impl Observer for Counter<'_> {
+    ghost use Rattle.std.specs.Prelude.{true};
+    ghost use Rattle.link_laws.specs.Accidents.{Sent};
+    ghost use Rattle.link_replay.specs.Counting.{Counts, HasCounted, given_to};
+
+    ghost Given = { Sent };
+
+    ghost given = { given_to };
+
+    ghost asks = { true };
+
+    ghost keeps = { Counts };
+
+    ghost saw = { HasCounted };
+
+    fn words(&mut self, front: &Front, count: usize) {
+        self.watch
+            .words(self.sent, front.at(), first(front.words(), count));
+    }
+
+    fn item(&mut self, front: &Front, item: Aligned) {
+        self.watch.item(front, self.sent, item);
+    }
+
+    fn moved(&mut self, front: &Front) {
+        self.watch.locks(front, self.sent);
+    }
+}
