@@ -9,7 +9,7 @@ which is 0; of `generate` and `channels`, whose cases are large, a tenth of that
 a plan, and faults of usage), `channels` (`burst` and `link` of a thousand wide channels, or of as many narrow ones as there are)
 and `generate` are made here; the others are the model's own random cases, malformed ones among them. With --plans wide, or narrow,
 only seeds whose plan is that count, and with both there are N of each; some kinds have no wide plans, and N narrow ones alone.
-For each kind a line says how many were equal. Kinds whose command the program does not know are skipped. The model tells what each
+For each kind a line says how many were equal. Kinds whose command the program does not know are skipped. The model says what each
 of the steps in which the program grew can do by a number, its stage; which one the program is at is found by trying its commands,
 its keys of plans and its line on usage, or given. J kinds run side by side, 1 by default. --keep leaves the inputs of the cases
 that differ in a folder. What prints `KIND SEED: ..` is run again by --kinds KIND --cases 1 --seed SEED.

@@ -2,7 +2,7 @@
 
 A block between two lines of three backquotes has commands after '$ ', and below each the lines that it prints, both streams in
 one. The commands of a page run one after another in one copy of examples/, beside which the program and the tools stand. Where
-no line stands below a command, the page tells in words what it prints, and that it ends is all that is looked for.
+no line stands below a command, the page says in words what it prints, and that it ends is all that is looked for.
 """
 
 import os

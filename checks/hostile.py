@@ -25,7 +25,7 @@ STAGE = 20
 METAFRAME = 32
 # The most bytes of a plan, of a file of rows, and of samples, the most events, and the most slots of two ends.
 PLAN, ROWS, SAMPLES, EVENTS, SLOTS = 1048576, 16777216, 4194304, 4194304, 16777215
-# A model is asked for so many slots in place of the most, since by then both ends send idles alone.
+# A model is asked for this many slots in place of the most, since by then both ends send idles alone.
 SETTLED = 20000
 # More lines of a text, or of files, are kept by their checksum.
 LINES = 40

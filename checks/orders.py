@@ -1,4 +1,4 @@
-"""Feeds a receiver with the lanes of worked rows in 200 orders and cuts: each gives the same events, and they are as the row tells.
+"""Feeds a receiver with the lanes of worked rows in 200 orders and cuts: each gives the same events, and they are as the row says.
 
     python3 orders.py PROGRAM ORDERS
 

@@ -1,6 +1,6 @@
 #!/usr/bin/env bash
 # Feeds receivers with the lanes of worked rows in 200 orders and cuts, by the program of the crate rx_orders: each order gives the
-# same events, and they are as the row tells.
+# same events, and they are as the row says.
 set -u
 . "$(dirname "$0")/program.bash"
 wants python3

@@ -15,7 +15,7 @@ from drawing.svg import length_of
 
 TOOL = os.path.join(TOP, "tools", "picture")
 SVG = "{http://www.w3.org/2000/svg}"
-# Each example that is drawn, and what its pictures have: worked out from the plans and captures, as the tour tells.
+# Each example that is drawn, and what its pictures have: worked out from the plans and captures, as the tour says.
 EXAMPLES = {"damaged": {"lanes": 2, "packets": 4, "lost": 2, "spans": 3}, "two": {"lanes": 1, "packets": 4, "lost": 0, "spans": 2},
             "wide": {"lanes": 2, "packets": 4, "lost": 0, "spans": 2}, "again": {"lanes": 1, "packets": 2, "lost": 0, "spans": 2},
             "status": {"lanes": 1, "packets": 0, "lost": 0, "spans": 2}}

@@ -133,7 +133,7 @@ for lane in 0 1; do
   holds "lane $lane of metaframes of 40 words" "$(bench_of check40 "m.lane.$lane" "$lane" | head -n 1)" "$line"
 done
 
-# What receive tells of a made lane; and of one in which nothing is sent inverted, which it does not look at and the bench does. The
+# What receive reports of a made lane; and of one in which nothing is sent inverted, which it does not look at and the bench does. The
 # bench knows the word plain alone.
 got=$(printf '%s\n' "$clean" 'got channel=1 packets=0 bytes=0' 'spans 2' \
   'dropped bad=0 crc=0 protocol=0 lost=0 end=0 toolong=0 unlisted=0 sender=0')
