@@ -4,15 +4,11 @@ use Rattle.lk_base.specs.declared.word.Word.{Word}
 use Rattle.lk_base.specs.Checksum.{bits_of_bytes}
 use Rattle.lk_base.specs.Link.{Settings}
 use Rattle.lane_model.specs.Coding.{codes_of}
-use Rattle.lane_model.specs.LaneBits.{bits_of_codes}
 use Rattle.lane_model.proofs.CodesOfWords.{length-codes_behind}
 use Rattle.lane_model.proofs.FilesHold.{length-flat_map_bits}
+use Rattle.coding_67b.proofs.Runs.{codes_length}
 use Rattle.tx_end.specs.declared.lane.Lane.{Lane}
 use Rattle.tx_end.specs.Lanes.{Carries}
-
-pub codes_length : (codes : List ℕ) → length (bits_of_codes codes) ≡ 67 * length codes
-unfolding bits_of_codes
-codes_length codes = length-flat_map_bits 67 codes
 
 pub waits : (l : Lane) (s : Settings) (lane made : ℕ) (given : List Word) (bytes : List ℕ) → Carries l s lane given made bytes → 8 * length bytes + length l.bits ≡ 67 * made
 waits l s lane made given bytes k =
