@@ -138,6 +138,7 @@ impl WordList {
     {
         word_of(self.numbers[i], self.controls[i])
     }
+
     /// Copies the words from number `first` on into the block, as many as it has places.
     pub fn read(&self, first: usize, block: &mut [Word])
         requires { first + length block.old ≤ length self.now }
