@@ -1,4 +1,4 @@
-ghost use Rattle.std.specs.Prelude.{◌≡◌, ◌≤◌, ◌%◌, [], ℕ, List, IfOk, length, map, take};
+ghost use Rattle.std.specs.Prelude.{◌≡◌, ◌%◌, [], ℕ, List, IfOk, length, map};
 ghost use Rattle.lk_base.specs.Checksum.{bits_of_bytes};
 ghost use Rattle.lk_base.specs.Link.{Settings, group_of};
 ghost use Rattle.link_laws.specs.Accidents.{AreAccidents};
@@ -8,7 +8,7 @@ ghost use Rattle.link_replay.specs.Counts.{counts_value};
 
 use crate::counts::Accidents;
 use crate::watch::Watch;
-use lk_base::{Aligned, Link, OutOfMemory, RxWord};
+use lk_base::{Aligned, Link, OutOfMemory, RxWord, head};
 use rx_end::Observer;
 use rx_front::Front;
 use std::alloc::Global;
@@ -28,14 +28,6 @@ impl<'w> Model for Counter<'w> {
     ghost Value = { CounterModel };
 
     ghost view = { λ c. record { watch = c.watch; words = c.sent.now } };
-}
-
-// The first `count` words.
-fn first(words: &[RxWord], count: usize) -> &[RxWord]
-    requires { count ≤ length words.now }
-    ensures { result.now ≡ take count words.now }
-{
-    &words[..count]
 }
 
 impl<'w> Counter<'w> {
@@ -84,7 +76,7 @@ impl Observer for Counter<'_> {
 
     fn words(&mut self, front: &Front, count: usize) {
         self.watch
-            .words(self.sent, front.at(), first(front.words(), count));
+            .words(self.sent, front.at(), head(front.words(), count));
     }
 
     fn item(&mut self, front: &Front, item: Aligned) {

@@ -1,6 +1,14 @@
 ghost use Rattle.std.specs.Prelude.{◌≡◌, ◌+◌, ◌≤◌, length, take, drop};
 ghost use Rattle.lk_base.specs.Checksum.{bits_of, bits_of_bytes};
 
+/// The first `count` items.
+pub fn head<T>(items: &[T], count: usize) -> &[T]
+    requires { count ≤ length items.now }
+    ensures { result.now ≡ take count items.now }
+{
+    &items[..count]
+}
+
 /// The items from this place on.
 pub fn tail<T>(items: &[T], from: usize) -> &[T]
     requires { from ≤ length items.now }

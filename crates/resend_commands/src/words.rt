@@ -1,5 +1,5 @@
 //! The words of the accepted pieces, which are given to their output as the pieces are accepted.
-ghost use Rattle.std.specs.Prelude.{◌≡◌, ◌+◌, ◌<◌, ◌≤◌, ◌^◌, ◌++◌, [], ◌∷◌, List, length, drop, Contains, Option};
+ghost use Rattle.std.specs.Prelude.{◌≡◌, ◌+◌, ◌<◌, ◌≤◌, ◌^◌, ◌++◌, [], ◌∷◌, List, length, Contains, Option};
 ghost use Rattle.lk_base.specs.declared.word.Word.{Word as SentWord};
 ghost use Rattle.lk_outside.specs.Files.{Files};
 ghost use Rattle.words_files.specs.WordsFile.{words_file};
@@ -8,7 +8,7 @@ ghost use Rattle.run_stops.specs.Stops.{StopCount, StoreStops};
 ghost use Rattle.run_shell.specs.Outputs.{Differ, open_names, IsOpen, Grown};
 ghost use Rattle.resend_commands.specs.Carried.{accepted_file, events_done};
 
-use lk_base::Word;
+use lk_base::{Word, tail};
 use lk_outside::Store;
 use resend_events::Event;
 use retransmit::Resend;
@@ -16,14 +16,6 @@ use run_shell::Outputs;
 use run_stops::Stop;
 use std::alloc::Global;
 use words_files::append_words;
-
-// The words from this one on.
-fn words_from(words: &[Word], at: usize) -> &[Word]
-    requires { at ≤ length words.now }
-    ensures { result.now ≡ drop at words.now }
-{
-    &words[at..]
-}
 
 // Gives the one output the bytes of the next words, which take the room of `bytes`.
 fn put_words<S: Store>(
@@ -75,6 +67,6 @@ pub fn do_event<S: Store>(
 {
     let before = resend.words().len();
     resend.event(event);
-    let words = words_from(resend.words(), before);
+    let words = tail(resend.words(), before);
     put_words(alloc, store, outputs, bytes, words)
 }

@@ -4,9 +4,9 @@ ghost use Rattle.std.specs.Result.{result_err};
 ghost use Rattle.words_files.specs.WordsOfFile.{words_of_file};
 
 use crate::error::WordsError;
-use crate::reader::{behind_word, first_refusal, word_in};
+use crate::reader::{first_refusal, word_in};
 use crate::writer::WORD_BYTES;
-use lk_base::RxWord;
+use lk_base::{RxWord, tail};
 use std::marker::Model;
 
 // The refusal of a file, if it is refused.
@@ -19,7 +19,7 @@ fn refusal_of(bytes: &[u8]) -> Option<WordsError>
         if let Some(refusal) = first_refusal(offset, rest) {
             return Some(refusal);
         }
-        rest = behind_word(rest);
+        rest = tail(rest, WORD_BYTES);
         offset += WORD_BYTES as u64;
     }
     None

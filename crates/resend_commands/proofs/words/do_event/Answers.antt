@@ -7,8 +7,8 @@ use Rattle.resend_commands.specs.Resent.{accepted_words}
 use Rattle.resend_commands.proofs.Accepting.{event_done, words_there, words_come}
 use Rattle.resend_commands.proofs.words.do_event.Goals as goal
 
-pub words_from-words-requires : goal.words_from-words-requires
-words_from-words-requires g c =
+pub tail-words-requires : goal.tail-words-requires
+tail-words-requires g c =
     let before = ap length c.words-before.ensures in
     words_there c.args.resend.now c.event.new.self c.args.event c.event.result c.event.ensures _ c.words.ensures _ (omega (arith, before))
 
@@ -25,5 +25,5 @@ pub returns-clause-grown : goal.returns-clause-grown
 returns-clause-grown g c = λ was o.
     let old = c.args.resend.now in
     subst (λ (ws : List Word). Grown c.args.outputs.now c.put_words.new.outputs (words_file ws ∷ []) c.put_words.result was (g.S.Store.files c.put_words.new.store))
-    (words_come old c.event.new.self c.args.event c.event.result c.event.ensures _ c.words.ensures _ (ap length c.words-before.ensures) _ c.words_from-words.ensures)
+    (words_come old c.event.new.self c.args.event c.event.result c.event.ensures _ c.words.ensures _ (ap length c.words-before.ensures) _ c.tail-words.ensures)
     (c.put_words.ensures.grown (accepted_words old.pieces old.state) was o)

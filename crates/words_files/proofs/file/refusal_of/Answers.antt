@@ -13,11 +13,11 @@ pub loop-rest-preserved : goal.loop-rest-preserved
 loop-rest-preserved c =
     let some : 0 < length c.loop-rest.rest.now = search rules in
     let whole : 9 ≤ length c.loop-rest.rest.now = c.first_refusal.ensures.whole c.in_default.is in
-    let less : length c.behind_word-rest.result.now ≡ length c.loop-rest.rest.now - 9 = ap length c.behind_word-rest.ensures ∙ length-drop 9 c.loop-rest.rest.now in
+    let less : length c.tail-rest.result.now ≡ length c.loop-rest.rest.now - 9 = ap length c.tail-rest.ensures ∙ length-drop 9 c.loop-rest.rest.now in
     record {
       same =
           c.loop-rest.invariant.same
           ∙ err-more c.loop-rest.offset c.loop-rest.rest.now some (sym c.first_refusal.ensures.refusal ∙ c.in_default.is)
-          ∙ ap (λ (rest : List ℕ). result_err (words_from (c.loop-rest.offset + 9) (cut_file rest))) (sym c.behind_word-rest.ensures);
+          ∙ ap (λ (rest : List ℕ). result_err (words_from (c.loop-rest.offset + 9) (cut_file rest))) (sym c.tail-rest.ensures);
       stands = omega (arith, c.loop-rest.invariant.stands);
     }

@@ -16,8 +16,8 @@ words-requires-2-clause-room c =
     let few = items_few c.args.self.now f k.s k.fed k.items k.t (λ i. locks_at i k.t) k.items k.knows in
     let low = k.knows.kept.held.few_stretches in
     let n = c.words.ensures.count in
-    let l = first_few c.words.result.now c.first.result.now c.args.count c.first.ensures in
-    let words = length c.first.result.now in
+    let l = first_few c.words.result.now c.head.result.now c.args.count c.head.ensures in
+    let words = length c.head.result.now in
     subst (λ (x : Counter). x.watch.stretches + words < 2 ^ 63) (sym c.self.view_is) (omega (arith, few, low, n, l))
 
 pub returns-clause-takes : goal.returns-clause-takes
@@ -27,7 +27,7 @@ returns-clause-takes c =
     let u = c.words-2.new.self in
     let words = c.self.inside.sent.now in
     let e = c.words-2.ensures in
-    let all = first_words f c.at.result c.words.result.now c.first.result.now c.args.count c.at.ensures.waiting c.words.ensures.value c.first.ensures in
+    let all = first_words f c.at.result c.words.result.now c.head.result.now c.args.count c.at.ensures.waiting c.words.ensures.value c.head.ensures in
     subst (λ (x : Counter). TakesWords Counts HasCounted x (record { watch = u; words = words }) f c.args.count) c.self.view_is
     (λ s fed items t k.
     let locks : ℕ → List ℕ = λ i. locks_at i t in
