@@ -4,7 +4,7 @@ use Rattle.std.specs.Prelude.{◌-◌}
 use Rattle.lk_base.specs.declared.word.RxWord.{RxWord}
 use Rattle.deskew.specs.States.{LaneState}
 use Rattle.deskew.proofs.Spread.{part_of_two}
-use Rattle.deskew.proofs.lane.Lane.kept.Goals as goal
+use Rattle.deskew.proofs.lane_fifo.LaneFifo.kept.Goals as goal
 
 pub returns : goal.returns
 returns c =

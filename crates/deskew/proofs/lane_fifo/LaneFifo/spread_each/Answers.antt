@@ -2,7 +2,7 @@
 use Rattle.std.proofs.Common.{◌∙◌}
 use Rattle.std.proofs.lemmas.List.{length-set}
 use Rattle.deskew.proofs.Spread.{column_more, rows_left}
-use Rattle.deskew.proofs.lane.Lane.spread_each.Goals as goal
+use Rattle.deskew.proofs.lane_fifo.LaneFifo.spread_each.Goals as goal
 
 pub loop-row-preserved : goal.loop-row-preserved
 loop-row-preserved c =

@@ -2,7 +2,7 @@
 use Rattle.std.proofs.Common.{◌≡◌, ◌<◌, ◌^◌, length, take}
 use Rattle.deskew.specs.Runs.{all_worded}
 use Rattle.deskew.specs.Steps.{lane_after_all}
-use Rattle.deskew.proofs.lane.Lane.words_front.Given as goal
+use Rattle.deskew.proofs.lane_fifo.LaneFifo.words_front.Given as goal
 
 abbrev pub invariant-loop-place : goal.invariant-loop-place
 invariant-loop-place l =

@@ -7,7 +7,7 @@ use Rattle.lock_model.specs.Low.{is_low}
 use Rattle.deskew.specs.States.{LaneState}
 use Rattle.deskew.proofs.Loops.{low_at}
 use Rattle.deskew.proofs.Runs.{front_more}
-use Rattle.deskew.proofs.lane.Lane.words_front.Goals as goal
+use Rattle.deskew.proofs.lane_fifo.LaneFifo.words_front.Goals as goal
 
 pub sync_after-sync-requires : goal.sync_after-sync-requires
 sync_after-sync-requires c =

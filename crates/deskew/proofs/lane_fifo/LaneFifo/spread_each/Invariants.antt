@@ -2,7 +2,7 @@
 use Rattle.std.proofs.Common.{◌≡◌, ◌+◌, ◌*◌, length, vec_capacity}
 use Rattle.std.specs.Prelude.{◌-◌}
 use Rattle.deskew.specs.Spread.{column, spread}
-use Rattle.deskew.proofs.lane.Lane.spread_each.Given as goal
+use Rattle.deskew.proofs.lane_fifo.LaneFifo.spread_each.Given as goal
 
 abbrev pub invariant-loop-row : goal.invariant-loop-row
 invariant-loop-row l =

@@ -4,7 +4,7 @@ use Rattle.lk_base.specs.declared.word.RxWord.{RxWord}
 use Rattle.deskew.specs.States.{LaneState}
 use Rattle.deskew.specs.Spread.{spread}
 use Rattle.deskew.proofs.Spread.{length_column, length_spread, parts_are, spread_append, two_fit}
-use Rattle.deskew.proofs.lane.Lane.spread.Goals as goal
+use Rattle.deskew.proofs.lane_fifo.LaneFifo.spread.Goals as goal
 
 pub spread-next-requires-clause-within : goal.spread-next-requires-clause-within
 spread-next-requires-clause-within c =

@@ -8,7 +8,7 @@ use Rattle.deskew.specs.States.{LaneState}
 use Rattle.deskew.specs.Steps.{lane_after_all}
 use Rattle.deskew.proofs.Loops.{low_at}
 use Rattle.deskew.proofs.Runs.{after_append, low_drop}
-use Rattle.deskew.proofs.lane.Lane.take_all.Goals as goal
+use Rattle.deskew.proofs.lane_fifo.LaneFifo.take_all.Goals as goal
 
 pub loop-step-init : goal.loop-step-init
 loop-step-init c =
