@@ -15,7 +15,7 @@ use Rattle.deskew.specs.Ticks.{AreLaneSteps, lane_shown}
 use Rattle.deskew.proofs.Clock.{OnClock, Ordered}
 use Rattle.deskew.proofs.Stepped.{on_clock}
 use Rattle.rx_front.specs.Locks.{lock_of, locks_in}
-use Rattle.link_replay.specs.Lanes.{AllCounted, AreNoted, HaveFew, Lane, is_sent_at, noted, strange_positions, strange_sum}
+use Rattle.link_replay.specs.Lanes.{AllCounted, AreNoted, HaveFew, WatchedLane, is_sent_at, noted, strange_positions, strange_sum}
 use Rattle.link_replay.specs.Standing.{skews_of}
 use Rattle.link_replay.proofs.Stepping.{FirstMade}
 
@@ -87,15 +87,15 @@ strange-tracks L made skew [] = refl
 strange-tracks L made skew (x ∷ rest) = split (not (is_sent_at L made skew x.at)) (λ h. rw h (ap suc (strange-tracks L made skew rest))) (λ h. rw h (strange-tracks L made skew rest))
 
 -- the lanes from number i on, each with its lock more
-abbrev NotedFrom : ℕ → ℕ → (ℕ → Option ℕ) → ℕ → List Lane → List Lane → Type 0
-NotedFrom L made declared i lanes now = (j : ℕ) (v : Lane) → j < length lanes → get_or now j v ≡ noted L made (declared (i + j)) (get_or lanes j v)
+abbrev NotedFrom : ℕ → ℕ → (ℕ → Option ℕ) → ℕ → List WatchedLane → List WatchedLane → Type 0
+NotedFrom L made declared i lanes now = (j : ℕ) (v : WatchedLane) → j < length lanes → get_or now j v ≡ noted L made (declared (i + j)) (get_or lanes j v)
 
-noted_on : (L made : ℕ) (declared : ℕ → Option ℕ) (i : ℕ) (v w : Lane) (lanes now : List Lane) → NotedFrom L made declared i (v ∷ lanes) (w ∷ now) → NotedFrom L made declared (i + 1) lanes now
+noted_on : (L made : ℕ) (declared : ℕ → Option ℕ) (i : ℕ) (v w : WatchedLane) (lanes now : List WatchedLane) → NotedFrom L made declared i (v ∷ lanes) (w ∷ now) → NotedFrom L made declared (i + 1) lanes now
 noted_on L made declared i v w lanes now h j u lt =
     let e : i + suc j ≡ i + 1 + j = omega arith in
     h (suc j) u (omega (arith, lt)) ∙ ap (λ (k : ℕ). noted L made (declared k) (get_or lanes j u)) e
 
-first_noted : (L made : ℕ) (declared : ℕ → Option ℕ) (i : ℕ) (v w : Lane) (lanes now : List Lane) → NotedFrom L made declared i (v ∷ lanes) (w ∷ now) → w ≡ noted L made (declared i) v
+first_noted : (L made : ℕ) (declared : ℕ → Option ℕ) (i : ℕ) (v w : WatchedLane) (lanes now : List WatchedLane) → NotedFrom L made declared i (v ∷ lanes) (w ∷ now) → w ≡ noted L made (declared i) v
 first_noted L made declared i v w lanes now h = (let e : i + 0 ≡ i = omega arith in h 0 v (omega arith) ∙ ap (λ (k : ℕ). noted L made (declared k) v) e)
 
 strange_more : (L made skew : ℕ) (xs ys : List ℕ) → length (strange_positions L made skew (xs ++ ys)) ≡ length (strange_positions L made skew xs) + length (strange_positions L made skew ys)
@@ -103,27 +103,27 @@ strange_more L made skew xs ys =
     let test : ℕ → Bool = λ at. not (is_sent_at L made skew at) in
     ap length (filter-append test xs ys) ∙ length-append (strange_positions L made skew xs) (strange_positions L made skew ys)
 
-counted_on : (L made : ℕ) (declared : ℕ → Option ℕ) (before later : ℕ → List ℕ) (i : ℕ) (lanes now : List Lane) → length now ≡ length lanes → NotedFrom L made declared i lanes now →
+counted_on : (L made : ℕ) (declared : ℕ → Option ℕ) (before later : ℕ → List ℕ) (i : ℕ) (lanes now : List WatchedLane) → length now ≡ length lanes → NotedFrom L made declared i lanes now →
     ((k : ℕ) → later k ≡ before k ++ cons_option (declared k) []) → AllCounted L made before i lanes → AllCounted L made later i now
 counted_on L made declared before later i [] [] n h g c = tt
 counted_on L made declared before later i [] (w ∷ now) n h g c = absurd (omega (arith, n))
 counted_on L made declared before later i (v ∷ lanes) [] n h g c = absurd (omega (arith, n))
 counted_on L made declared before later i (v ∷ lanes) (w ∷ now) n h g c = (
-  (let P : Lane → Type 0 = λ x. x.strange ≡ length (strange_positions L made x.skew (later i)) in
+  (let P : WatchedLane → Type 0 = λ x. x.strange ≡ length (strange_positions L made x.skew (later i)) in
       subst P (sym (first_noted L made declared i v w lanes now h))
       (ap (λ k. k + length (strange_positions L made v.skew (cons_option (declared i) []))) c.0
       ∙ sym (ap (λ xs. length (strange_positions L made v.skew xs)) (g i) ∙ strange_more L made v.skew (before i) (cons_option (declared i) [])))),
   counted_on L made declared before later (i + 1) lanes now (omega (arith, n)) (noted_on L made declared i v w lanes now h) g c.1,
 )
 
-skews_kept : (L made : ℕ) (declared : ℕ → Option ℕ) (i : ℕ) (lanes now : List Lane) → length now ≡ length lanes → NotedFrom L made declared i lanes now → skews_of now ≡ skews_of lanes
+skews_kept : (L made : ℕ) (declared : ℕ → Option ℕ) (i : ℕ) (lanes now : List WatchedLane) → length now ≡ length lanes → NotedFrom L made declared i lanes now → skews_of now ≡ skews_of lanes
 skews_kept L made declared i [] [] n h = refl
 skews_kept L made declared i [] (w ∷ now) n h = absurd (omega (arith, n))
 skews_kept L made declared i (v ∷ lanes) [] n h = absurd (omega (arith, n))
 skews_kept L made declared i (v ∷ lanes) (w ∷ now) n h =
-    ap₂ (λ k ks. k ∷ ks) (ap (λ (x : Lane). x.skew) (first_noted L made declared i v w lanes now h)) (skews_kept L made declared (i + 1) lanes now (omega (arith, n)) (noted_on L made declared i v w lanes now h))
+    ap₂ (λ k ks. k ∷ ks) (ap (λ (x : WatchedLane). x.skew) (first_noted L made declared i v w lanes now h)) (skews_kept L made declared (i + 1) lanes now (omega (arith, n)) (noted_on L made declared i v w lanes now h))
 
-module _ (L made : ℕ) (declared : ℕ → Option ℕ) (lanes now : List Lane) (a : AreNoted L made declared lanes now) where
+module _ (L made : ℕ) (declared : ℕ → Option ℕ) (lanes now : List WatchedLane) (a : AreNoted L made declared lanes now) where
   from_first : NotedFrom L made declared 0 lanes now
   from_first j v lt = (let e : j ≡ 0 + j = omega arith in a.each j v lt ∙ ap (λ (k : ℕ). noted L made (declared k) (get_or lanes j v)) e)
 
@@ -134,7 +134,7 @@ module _ (L made : ℕ) (declared : ℕ → Option ℕ) (lanes now : List Lane) 
   noted_counted before later g c = counted_on L made declared before later 0 lanes now a.count from_first g c
 
 -- where the locks are few
-pub counts_few : (L made n : ℕ) (locks : ℕ → List ℕ) (i : ℕ) (lanes : List Lane) → n < 67 * 2 ^ 60 → ((k : ℕ) → i ≤ k → k < i + length lanes → 67 * length (locks k) ≤ n) → AllCounted L made locks i lanes → HaveFew lanes
+pub counts_few : (L made n : ℕ) (locks : ℕ → List ℕ) (i : ℕ) (lanes : List WatchedLane) → n < 67 * 2 ^ 60 → ((k : ℕ) → i ≤ k → k < i + length lanes → 67 * length (locks k) ≤ n) → AllCounted L made locks i lanes → HaveFew lanes
 counts_few L made n locks i [] small few c = λ k d lt. absurd (omega (arith, lt))
 counts_few L made n locks i (v ∷ lanes) small few c = cons (counts_few L made n locks (i + 1) lanes small (λ k a b. few k (omega (arith, a)) (omega (arith, b))) c.1)
   where
@@ -149,7 +149,7 @@ counts_few L made n locks i (v ∷ lanes) small few c = cons (counts_few L made 
     cons rest zero d lt = here
     cons rest (suc k) d lt = rest k d (omega (arith, lt))
 
-pub sum_few : (L made n : ℕ) (locks : ℕ → List ℕ) (i : ℕ) (lanes : List Lane) → ((k : ℕ) → i ≤ k → k < i + length lanes → 67 * length (locks k) ≤ n) → AllCounted L made locks i lanes →
+pub sum_few : (L made n : ℕ) (locks : ℕ → List ℕ) (i : ℕ) (lanes : List WatchedLane) → ((k : ℕ) → i ≤ k → k < i + length lanes → 67 * length (locks k) ≤ n) → AllCounted L made locks i lanes →
     67 * strange_sum lanes ≤ length lanes * n
 sum_few L made n locks i [] few c = omega arith
 sum_few L made n locks i (v ∷ lanes) few c =
@@ -161,7 +161,7 @@ sum_few L made n locks i (v ∷ lanes) few c =
     omega (arith, f, g, h, rest, e)
 
 -- no lock was declared
-pub none_counted : (L made : ℕ) (locks : ℕ → List ℕ) (i : ℕ) (lanes : List Lane) → ((k : ℕ) → locks k ≡ []) → All (λ v. v.strange ≡ 0) lanes → AllCounted L made locks i lanes
+pub none_counted : (L made : ℕ) (locks : ℕ → List ℕ) (i : ℕ) (lanes : List WatchedLane) → ((k : ℕ) → locks k ≡ []) → All (λ v. v.strange ≡ 0) lanes → AllCounted L made locks i lanes
 none_counted L made locks i [] none h = tt
 none_counted L made locks i (v ∷ lanes) none h =
     (h 0 v (omega arith) ∙ sym (ap (λ ns. length (strange_positions L made v.skew ns)) (none i)), none_counted L made locks (i + 1) lanes none (λ k d lt. h (suc k) d (omega (arith, lt))))
@@ -169,8 +169,8 @@ none_counted L made locks i (v ∷ lanes) none h =
 -- ---- one lane after the other
 
 -- lane number i with its lock more
-abbrev pub IsNoted : ℕ → ℕ → (ℕ → Option ℕ) → ℕ → Lane → Lane → Type 0
+abbrev pub IsNoted : ℕ → ℕ → (ℕ → Option ℕ) → ℕ → WatchedLane → WatchedLane → Type 0
 IsNoted L made declared i v w = w ≡ noted L made (declared i) v
 
-pub all_noted : (L made : ℕ) (declared : ℕ → Option ℕ) (i : ℕ) (before later : List Lane) → length before ≤ i → FirstMade (IsNoted L made declared) i before later → AreNoted L made declared before later
+pub all_noted : (L made : ℕ) (declared : ℕ → Option ℕ) (i : ℕ) (before later : List WatchedLane) → length before ≤ i → FirstMade (IsNoted L made declared) i before later → AreNoted L made declared before later
 all_noted L made declared i before later le h = record { count = h.count; each = λ j v lt. h.made j v (omega (arith, le, lt)) lt }

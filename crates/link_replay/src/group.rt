@@ -5,15 +5,15 @@ ghost use Rattle.link_laws.specs.Accidents.{lane_0};
 ghost use Rattle.link_replay.specs.Groups.{starts_of};
 ghost use Rattle.link_replay.specs.Standing.{are_numbered as have_number, are_sent_places, skews_of};
 
-use crate::lane::Lane;
 use crate::places::{made, number_at};
+use crate::watched_lane::WatchedLane;
 use lk_base::Link;
 use rx_front::Front;
 use word_list::WordList;
 
 // Whether each lane's Sync in the group that was given last is the sender's Sync of this number, whose bit position in the sent lane
 // is at most 2^60.
-fn are_numbered(lanes: &[Lane], link: &Link, front: &Front, number: u64) -> bool
+fn are_numbered(lanes: &[WatchedLane], link: &Link, front: &Front, number: u64) -> bool
     requires there { length lanes.now ≤ length front.now.lanes }
     requires count { length (starts_of front.now) ≡ length lanes.now }
     requires most { length lanes.now ≤ 64 }
@@ -34,7 +34,7 @@ fn are_numbered(lanes: &[Lane], link: &Link, front: &Front, number: u64) -> bool
 /// Whether the group that was given last, which has this name, is one of the sender's: all its Syncs are of one number. The skew
 /// is the first lane's.
 pub fn is_sent_group(
-    lanes: &[Lane],
+    lanes: &[WatchedLane],
     link: &Link,
     sent: &WordList,
     skew: u32,

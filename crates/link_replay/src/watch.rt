@@ -12,10 +12,10 @@ ghost use Rattle.link_replay.specs.Standing.{Holds, IsSame, ShowsItem, TakesWord
 
 use crate::counts::Accidents;
 use crate::group::is_sent_group;
-use crate::lane::Lane;
 use crate::lanes::{fresh_lanes, note_locks, strange_locks};
 use crate::places::{group_slot, made, slot_in};
 use crate::stretch::Stretch;
+use crate::watched_lane::WatchedLane;
 use lk_base::{Aligned, Link, OutOfMemory, Pos, RxWord};
 use rx_front::Front;
 use std::alloc::Global;
@@ -28,7 +28,7 @@ pub struct Watch {
     link: Link,
     /// Lane 0's skew.
     skew: u32,
-    lanes: Vec<Lane>,
+    lanes: Vec<WatchedLane>,
     stretch: Stretch,
     groups: u64,
     stretches: u64,

@@ -4,7 +4,7 @@ use Rattle.std.proofs.lemmas.Bool.{cases_lt}
 use Rattle.std.proofs.lemmas.List.{get_or-map, length-map}
 use Rattle.deskew.specs.Lanes.{fresh_lane}
 use Rattle.link_replay.specs.Groups.{starts_of}
-use Rattle.link_replay.specs.Lanes.{Lane}
+use Rattle.link_replay.specs.Lanes.{WatchedLane}
 use Rattle.link_replay.specs.Standing.{skews_of}
 use Rattle.link_replay.proofs.SentGroups.{number-other, numbers-equal}
 use Rattle.link_replay.proofs.group.are_numbered.Goals as goal
@@ -15,9 +15,9 @@ returns-then-start-skew c = λ words. (
     let lt = c.loop-i-test.true in
     let n = c.requires.count in
     let l = length-map c.args.front.now.deskew.lanes (λ l. l.start) in
-    let m = length-map c.args.lanes.now (λ (v : Lane). v.skew) in
+    let m = length-map c.args.lanes.now (λ (v : WatchedLane). v.skew) in
     let start = get_or-map (λ l. l.start) c.args.front.now.deskew.lanes i (fresh_lane 0) 0 (omega (arith, n, l, lt)) in
-    let skew = get_or-map (λ (v : Lane). v.skew) c.args.lanes.now i c.index-lanes-i.result 0 lt ∙ ap (λ (v : Lane). v.skew) (sym c.index-lanes-i.is) in
+    let skew = get_or-map (λ (v : WatchedLane). v.skew) c.args.lanes.now i c.index-lanes-i.result 0 lt ∙ ap (λ (v : WatchedLane). v.skew) (sym c.index-lanes-i.is) in
     let a = c.start.ensures.value in
     let b = c.skew.ensures in
     let r = ap (λ k. 67 * (c.args.number * k)) c.metaframe.ensures in
@@ -34,7 +34,7 @@ loop-i-preserved c = λ j below. elim (cases_lt j c.loop-i.i) [
       let n = c.requires.count in
       let l = length-map c.args.front.now.deskew.lanes (λ l. l.start) in
       let start = get_or-map (λ l. l.start) c.args.front.now.deskew.lanes i (fresh_lane 0) 0 (omega (arith, n, l, lt)) in
-      let skew = get_or-map (λ (v : Lane). v.skew) c.args.lanes.now i c.index-lanes-i.result 0 lt ∙ ap (λ (v : Lane). v.skew) (sym c.index-lanes-i.is) in
+      let skew = get_or-map (λ (v : WatchedLane). v.skew) c.args.lanes.now i c.index-lanes-i.result 0 lt ∙ ap (λ (v : WatchedLane). v.skew) (sym c.index-lanes-i.is) in
       let a = c.start.ensures.value in
       let b = c.skew.ensures in
       let r = ap (λ k. 67 * (c.args.number * k)) c.metaframe.ensures in
@@ -46,7 +46,7 @@ loop-i-preserved c = λ j below. elim (cases_lt j c.loop-i.i) [
 
 pub returns : goal.returns
 returns c = λ words. (
-    let m = length-map c.args.lanes.now (λ (v : Lane). v.skew) in
+    let m = length-map c.args.lanes.now (λ (v : WatchedLane). v.skew) in
     let n = c.requires.count in
     let over = c.loop-i-test.false in
     sym (numbers-equal (record { settings = c.args.link.now; words = words; skews = skews_of c.args.lanes.now }) c.args.number (skews_of c.args.lanes.now) (starts_of c.args.front.now) (omega (arith, n, m))
