@@ -8,7 +8,7 @@ ghost use Rattle.link_replay.specs.Counts.{counts_value};
 
 use crate::counts::Accidents;
 use crate::watch::Watch;
-use lk_base::{Aligned, Link, OutOfMemory, RxWord, head};
+use lk_base::{Aligned, Link, OutOfMemory, head};
 use rx_end::Observer;
 use rx_front::Front;
 use std::alloc::Global;
