@@ -5,7 +5,7 @@ use Rattle.lk_outside.specs.Files.{Files, file, Told}
 use Rattle.receive_model.specs.Events.{Event}
 use Rattle.event_model.specs.Fed.{Fed, AllBegin, all_finished}
 use Rattle.event_model.specs.Given.{AreEvents}
-use Rattle.rx_end.specs.Observing.{Keeping, Looks, SawAll, Seeing}
+use Rattle.rx_end.specs.Observing.{HasSeen, Keeping, SawAll, Seeing}
 use Rattle.rx_end.specs.States.{State}
 use Rattle.run_stops.specs.declared.stop.Stop.{Stop}
 use Rattle.run_shell.specs.Outcome.{HoldsPart}
@@ -59,6 +59,6 @@ TakesLanes b s first Are names (Err why) r kept now = IsBroken b s first Are nam
 
 -- ---- an observer
 
--- of any such lanes that begin with what was fed first, an observer that looks at them from there on has seen all
+-- of any such lanes that begin with what was fed first, an observer that had seen all up to there has seen all
 abbrev pub ObservesLanes : {O : Type 0} → Keeping O → Seeing O → O → O → State → State → Settings → List Fed → (List (List ℕ) → Type 0) → Type 0
-ObservesLanes keeps saw o p v w s first Are = (lanes : List (List ℕ)) → Are lanes → AllBegin first lanes → Looks keeps saw o v s first lanes → SawAll keeps saw p w.front s lanes
+ObservesLanes keeps saw o p v w s first Are = (lanes : List (List ℕ)) → Are lanes → AllBegin first lanes → HasSeen keeps saw o v s first lanes → SawAll keeps saw p w.front s lanes

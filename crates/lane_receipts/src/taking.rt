@@ -3,7 +3,7 @@ ghost use Rattle.std.specs.Prelude.{◌≡◌, ◌<◌, ◌≤◌, ◌^◌, List
 ghost use Rattle.lk_base.specs.Link.{Settings};
 ghost use Rattle.receive_model.specs.Events.{Event};
 ghost use Rattle.event_model.specs.Fed.{Fed};
-ghost use Rattle.rx_end.specs.Observing.{KeepsSome};
+ghost use Rattle.rx_end.specs.Observing.{HasToldSome};
 ghost use Rattle.run_stops.specs.Stops.{StopCount};
 ghost use Rattle.run_shell.specs.Outputs.{open_names};
 ghost use Rattle.receipts.specs.Receipts.{Beginning};
@@ -36,12 +36,12 @@ pub fn take_lanes<S: Store, P: LanePieces, O: Observer>(
     requires limits { P.fits lanes.old }
     requires within { (lane at : ℕ) → slice_get offsets.old lane ≡ Some (Some at) → at ≤ 2 ^ 56 }
     requires apart { (q : List ℕ) → Contains (P.file_names lanes.old) q → Contains (open_names receipt.old.outputs) q → ⊥ }
-    requires told { O.asks ≡ true → KeepsSome O.keeps observer.old receiver.old }
+    requires told { O.asks ≡ true → HasToldSome O.keeps observer.old receiver.old }
     requires taking { (b : Beginning) × (s : Settings) × (fed : List Fed) × (given : List Event) × IsTaking b s fed given receiver.old receipt.old (S.files store.old) × (offsets.old ≡ map offset_of fed) }
     ensures cause { StopCount result (S.faults store.old) (S.faults store.new) }
     ensures takes { (b : Beginning) (s : Settings) (fed : List Fed) (given : List Event) → IsTaking b s fed given receiver.old receipt.old (S.files store.old) → offsets.old ≡ map offset_of fed →
         TakesLanes b s fed (P.are_lanes lanes.old b.was) (P.file_names lanes.old) result receiver.new receipt.new (S.files store.new) }
-    ensures given { O.given observer.new ≡ O.given observer.old }
+    ensures fixed { O.fixed observer.new ≡ O.fixed observer.old }
     ensures observes { OnOk result ((b : Beginning) (s : Settings) (fed : List Fed) (given : List Event) → IsTaking b s fed given receiver.old receipt.old (S.files store.old) → offsets.old ≡ map offset_of fed →
         ObservesLanes O.keeps O.saw observer.old observer.new receiver.old receiver.new s fed (P.are_lanes lanes.old b.was)) }
 {

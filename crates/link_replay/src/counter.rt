@@ -64,9 +64,9 @@ impl Observer for Counter<'_> {
     ghost use Rattle.link_laws.specs.Accidents.{Sent};
     ghost use Rattle.link_replay.specs.Counting.{Counts, HasCounted, given_to};
 
-    ghost Given = { Sent };
+    ghost Fixed = { Sent };
 
-    ghost given = { given_to };
+    ghost fixed = { given_to };
 
     ghost asks = { true };
 

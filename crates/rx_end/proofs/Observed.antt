@@ -18,7 +18,7 @@ use Rattle.rx_front.proofs.Known.{known_here}
 use Rattle.rx_end.specs.declared.stage.Stage.{Stage}
 use Rattle.rx_end.specs.Stages.{is_closed}
 use Rattle.rx_end.specs.States.{State}
-use Rattle.rx_end.specs.Observing.{AsksItem, AsksLocks, AsksWords, Feeds, IsAtEnd, IsFresh, Keeping, Keeps, KeepsSome, Knows, Learns, Looks, SawAll, Seeing, TakesItem, TakesLocks, TakesWords, Tells}
+use Rattle.rx_end.specs.Observing.{AsksItem, AsksLocks, AsksWords, Feeds, HasSeen, HasTold, HasToldSome, IsAtEnd, IsFresh, Keeping, Knows, Learns, SawAll, Seeing, TakesItem, TakesLocks, TakesWords, Tells}
 
 abbrev fed_of : List ℕ → Bool → Fed
 fed_of bytes finished = record { bytes = bytes; finished = finished }
@@ -38,14 +38,14 @@ module _ {O : Type 0} (keeps : Keeping O) (saw : Seeing O) where
       Knows keeps o g s fed items t (λ i. locks_at i t) items
   known_on o f g s fed items t stays k = record { few = k.few; stands = stays s fed items t k.stands; kept = k.kept }
 
-  kept_on : (o : O) (v w : State) (s : Settings) (fed : List Fed) → Stays v.front w.front → (is_closed w.stage ≡ true → (is_closed v.stage ≡ true → IsAtEnd v.front) → IsAtEnd w.front) → Keeps keeps o v s fed → Keeps keeps o w s fed
+  kept_on : (o : O) (v w : State) (s : Settings) (fed : List Fed) → Stays v.front w.front → (is_closed w.stage ≡ true → (is_closed v.stage ≡ true → IsAtEnd v.front) → IsAtEnd w.front) → HasTold keeps o v s fed → HasTold keeps o w s fed
   kept_on o v w s fed stays closes k = record { items = k.items; t = k.t; knows = known_on o v.front w.front s fed k.items k.t stays k.knows; closed = λ e. closes e k.closed }
 
   pub nothing_told : (o : O) (v w : State) → Stays v.front w.front → (is_closed w.stage ≡ true → (is_closed v.stage ≡ true → IsAtEnd v.front) → IsAtEnd w.front) → Tells keeps saw o o v w
   unfolding kept_on
   nothing_told o v w stays closes = record {
-    kept = λ s fed k. kept_on o v w s fed stays closes k;
-    looks = λ s fed lanes begin l. record { kept = kept_on o v w s fed stays closes l.kept; seen = l.seen };
+    told = λ s fed k. kept_on o v w s fed stays closes k;
+    seen = λ s fed lanes begin l. record { told = kept_on o v w s fed stays closes l.told; seen = l.seen };
   }
 
   -- the front is the same
@@ -64,16 +64,16 @@ module _ {O : Type 0} (keeps : Keeping O) (saw : Seeing O) where
 
   pub told_on : (o p q : O) (u v w : State) → Tells keeps saw o p u v → Tells keeps saw p q v w → Tells keeps saw o q u w
   told_on o p q u v w first second = record {
-    kept = λ s fed k. second.kept s fed (first.kept s fed k);
-    looks = λ s fed lanes begin l. second.looks s fed lanes begin (first.looks s fed lanes begin l);
+    told = λ s fed k. second.told s fed (first.told s fed k);
+    seen = λ s fed lanes begin l. second.seen s fed lanes begin (first.seen s fed lanes begin l);
   }
 
-  pub some_on : (asks : Bool) (o p : O) (v w : State) → Tells keeps saw o p v w → (asks ≡ true → KeepsSome keeps o v) → asks ≡ true → KeepsSome keeps p w
-  some_on asks o p v w tells some e = (let k = some e in (k.0, k.1, tells.kept k.0 k.1 k.2))
+  pub some_on : (asks : Bool) (o p : O) (v w : State) → Tells keeps saw o p v w → (asks ≡ true → HasToldSome keeps o v) → asks ≡ true → HasToldSome keeps p w
+  some_on asks o p v w tells some e = (let k = some e in (k.0, k.1, tells.told k.0 k.1 k.2))
 
   -- ---- words
 
-  pub words_asked : (asks : Bool) (o : O) (v : State) (f : fronts.State) → v.front ≡ f → (asks ≡ true → KeepsSome keeps o v) → asks ≡ true → AsksWords keeps o f
+  pub words_asked : (asks : Bool) (o : O) (v : State) (f : fronts.State) → v.front ≡ f → (asks ≡ true → HasToldSome keeps o v) → asks ≡ true → AsksWords keeps o f
   words_asked asks o v f same some e =
       let k = some e in
       record { s = k.0; fed = k.1; items = k.2.items; t = k.2.t; knows = subst (λ (g : fronts.State). Knows keeps o g k.0 k.1 k.2.items k.2.t (λ i. locks_at i k.2.t) k.2.items) same k.2.knows }
@@ -82,7 +82,7 @@ module _ {O : Type 0} (keeps : Keeping O) (saw : Seeing O) where
   PassesOn f g count = (s : Settings) (fed : List Fed) (items : List Aligned) (t : Progress) → front.Stands f s fed items t → front.Stands g s fed (items ++ take count f.waiting) t
 
   module _ (o p : O) (v w : State) (count : ℕ) (takes : TakesWords keeps saw o p v.front count) (passes : PassesOn v.front w.front count) (runs : is_closed w.stage ≡ false) where
-    words_kept : (s : Settings) (fed : List Fed) → Keeps keeps o v s fed → Keeps keeps p w s fed
+    words_kept : (s : Settings) (fed : List Fed) → HasTold keeps o v s fed → HasTold keeps p w s fed
     words_kept s fed k = record {
       items = k.items ++ take count v.front.waiting;
       t = k.t;
@@ -93,8 +93,8 @@ module _ {O : Type 0} (keeps : Keeping O) (saw : Seeing O) where
     pub words_told : Tells keeps saw o p v w
     unfolding words_kept
     words_told = record {
-      kept = words_kept;
-      looks = λ s fed lanes begin l. record { kept = words_kept s fed l.kept; seen = (takes s fed l.kept.items l.kept.t l.kept.knows).seen lanes begin l.seen };
+      told = words_kept;
+      seen = λ s fed lanes begin l. record { told = words_kept s fed l.told; seen = (takes s fed l.told.items l.told.t l.told.knows).seen lanes begin l.seen };
     }
 
   -- ---- an item
@@ -106,13 +106,13 @@ module _ {O : Type 0} (keeps : Keeping O) (saw : Seeing O) where
       Knows keeps o f s fed items t (λ i. locks_at i t) items → Knows keeps o g s fed (items ++ item ∷ []) t (λ i. locks_at i t) items
   item_known o f g item s fed items t gives k = record { few = k.few; stands = gives s fed items t k.stands; kept = k.kept }
 
-  pub item_asked : (asks : Bool) (o : O) (v : State) (g : fronts.State) (item : Aligned) → GivesOn v.front g item → (asks ≡ true → KeepsSome keeps o v) → asks ≡ true → AsksItem keeps o g item
+  pub item_asked : (asks : Bool) (o : O) (v : State) (g : fronts.State) (item : Aligned) → GivesOn v.front g item → (asks ≡ true → HasToldSome keeps o v) → asks ≡ true → AsksItem keeps o g item
   item_asked asks o v g item gives some e =
       let k = some e in
       record { s = k.0; fed = k.1; items = k.2.items; t = k.2.t; knows = item_known o v.front g item k.0 k.1 k.2.items k.2.t gives k.2.knows }
 
   module _ (o p : O) (v w : State) (item : Aligned) (gives : GivesOn v.front w.front item) (takes : TakesItem keeps saw o p w.front item) (runs : is_closed w.stage ≡ false) where
-    item_kept : (s : Settings) (fed : List Fed) → Keeps keeps o v s fed → Keeps keeps p w s fed
+    item_kept : (s : Settings) (fed : List Fed) → HasTold keeps o v s fed → HasTold keeps p w s fed
     item_kept s fed k = record {
       items = k.items ++ item ∷ [];
       t = k.t;
@@ -127,10 +127,10 @@ module _ {O : Type 0} (keeps : Keeping O) (saw : Seeing O) where
     pub item_told : Tells keeps saw o p v w
     unfolding item_kept
     item_told = record {
-      kept = item_kept;
-      looks = λ s fed lanes begin l. record {
-        kept = item_kept s fed l.kept;
-        seen = (takes s fed l.kept.items l.kept.t (item_known o v.front w.front item s fed l.kept.items l.kept.t gives l.kept.knows)).seen lanes begin l.seen;
+      told = item_kept;
+      seen = λ s fed lanes begin l. record {
+        told = item_kept s fed l.told;
+        seen = (takes s fed l.told.items l.told.t (item_known o v.front w.front item s fed l.told.items l.told.t gives l.told.knows)).seen lanes begin l.seen;
       };
     }
 
@@ -143,7 +143,7 @@ module _ {O : Type 0} (keeps : Keeping O) (saw : Seeing O) where
       Knows keeps o g s fed items (moves s fed items t k.stands).to (λ i. locks_at i t) items
   moved_known o f g s fed items t moves k = record { few = k.few; stands = (moves s fed items t k.stands).stands; kept = k.kept }
 
-  pub locks_asked : (asks : Bool) (o : O) (v : State) (g : fronts.State) → MovesEach v.front g → (asks ≡ true → KeepsSome keeps o v) → asks ≡ true → AsksLocks keeps o g
+  pub locks_asked : (asks : Bool) (o : O) (v : State) (g : fronts.State) → MovesEach v.front g → (asks ≡ true → HasToldSome keeps o v) → asks ≡ true → AsksLocks keeps o g
   locks_asked asks o v g moves some e =
       let k = some e in
       let m = moves k.0 k.1 k.2.items k.2.t k.2.knows.stands in
@@ -156,7 +156,7 @@ module _ {O : Type 0} (keeps : Keeping O) (saw : Seeing O) where
         let m = moves s fed items t k.stands in
         takes s fed items m.to (λ i. locks_at i t) m.locks (moved_known o v.front w.front s fed items t moves k)
 
-    moved_kept : (s : Settings) (fed : List Fed) → Keeps keeps o v s fed → Keeps keeps p w s fed
+    moved_kept : (s : Settings) (fed : List Fed) → HasTold keeps o v s fed → HasTold keeps p w s fed
     moved_kept s fed k =
         let m = moves s fed k.items k.t k.knows.stands in
         record { items = k.items; t = m.to; knows = record { few = k.knows.few; stands = m.stands; kept = (learns s fed k.items k.t k.knows).kept }; closed = λ e. absurd (clash e runs) }
@@ -164,14 +164,14 @@ module _ {O : Type 0} (keeps : Keeping O) (saw : Seeing O) where
     pub locks_told : Tells keeps saw o p v w
     unfolding moved_kept
     locks_told = record {
-      kept = moved_kept;
-      looks = λ s fed lanes begin l. record { kept = moved_kept s fed l.kept; seen = (learns s fed l.kept.items l.kept.t l.kept.knows).seen lanes begin l.seen };
+      told = moved_kept;
+      seen = λ s fed lanes begin l. record { told = moved_kept s fed l.told; seen = (learns s fed l.told.items l.told.t l.told.knows).seen lanes begin l.seen };
     }
 
   -- ---- the first call
 
-  pub keeps_fresh : (o : O) (v : State) (s : Settings) → IsFresh v s → keeps o s (λ i. []) [] → Keeps keeps o v s (nothing_fed s.lanes)
-  keeps_fresh o v s fresh kept = record {
+  pub told_fresh : (o : O) (v : State) (s : Settings) → IsFresh v s → keeps o s (λ i. []) [] → HasTold keeps o v s (nothing_fed s.lanes)
+  told_fresh o v s fresh kept = record {
     items = [];
     t = begun s.lanes;
     knows = record { few = none_fed s.lanes; stands = fresh.front; kept = kept };
@@ -182,29 +182,29 @@ module _ {O : Type 0} (keeps : Keeping O) (saw : Seeing O) where
       none_fed zero = omega arith
       none_fed (suc n) = (let r = none_fed n in omega (arith, r))
 
-  pub looks_fresh : (o : O) (v : State) (s : Settings) (lanes : List (List ℕ)) → IsFresh v s → keeps o s (λ i. []) [] → saw o s lanes (λ i. []) [] → Looks keeps saw o v s (nothing_fed s.lanes) lanes
-  unfolding keeps_fresh
-  looks_fresh o v s lanes fresh kept seen = record { kept = keeps_fresh o v s fresh kept; seen = seen }
+  pub seen_fresh : (o : O) (v : State) (s : Settings) (lanes : List (List ℕ)) → IsFresh v s → keeps o s (λ i. []) [] → saw o s lanes (λ i. []) [] → HasSeen keeps saw o v s (nothing_fed s.lanes) lanes
+  unfolding told_fresh
+  seen_fresh o v s lanes fresh kept seen = record { told = told_fresh o v s fresh kept; seen = seen }
 
   -- ---- lanes are fed
 
-  pub keeps_fed : (o : O) (more : List Fed → List Fed) (v w : State) (s : Settings) (fed : List Fed) → Feeds more v w → Keeps keeps o v s fed → Keeps keeps o w s (more fed)
-  keeps_fed o more v w s fed f k = record {
+  pub told_fed : (o : O) (more : List Fed → List Fed) (v w : State) (s : Settings) (fed : List Fed) → Feeds more v w → HasTold keeps o v s fed → HasTold keeps o w s (more fed)
+  told_fed o more v w s fed f k = record {
     items = k.items;
     t = k.t;
     knows = record { few = f.few s fed k.items k.t k.knows.stands k.knows.few; stands = f.stands s fed k.items k.t k.knows.stands; kept = k.knows.kept };
     closed = λ e. f.at_end (k.closed (ap is_closed (sym f.stage) ∙ e));
   }
 
-  pub looks_fed : (o : O) (more : List Fed → List Fed) (v w : State) (s : Settings) (fed : List Fed) (lanes : List (List ℕ)) → Feeds more v w → Looks keeps saw o v s fed lanes → Looks keeps saw o w s (more fed) lanes
-  unfolding keeps_fed
-  looks_fed o more v w s fed lanes f l = record { kept = keeps_fed o more v w s fed f l.kept; seen = l.seen }
+  pub seen_fed : (o : O) (more : List Fed → List Fed) (v w : State) (s : Settings) (fed : List Fed) (lanes : List (List ℕ)) → Feeds more v w → HasSeen keeps saw o v s fed lanes → HasSeen keeps saw o w s (more fed) lanes
+  unfolding told_fed
+  seen_fed o more v w s fed lanes f l = record { told = told_fed o more v w s fed f l.told; seen = l.seen }
 
   -- ---- the end
 
-  pub saw_all : (o : O) (v : State) (s : Settings) (fed : List Fed) (lanes : List (List ℕ)) → Looks keeps saw o v s fed lanes → is_closed v.stage ≡ true → AllBegin fed lanes → SawAll keeps saw o v.front s lanes
+  pub saw_all : (o : O) (v : State) (s : Settings) (fed : List Fed) (lanes : List (List ℕ)) → HasSeen keeps saw o v s fed lanes → is_closed v.stage ≡ true → AllBegin fed lanes → SawAll keeps saw o v.front s lanes
   saw_all o v s fed lanes l closed begin =
-      let k = l.kept in
+      let k = l.told in
       let end = k.closed closed in
       let st = k.knows.stands in
       let time = st.time in

@@ -102,26 +102,28 @@ pub record IsAtEnd (f : fronts.State) : Type 0 where
   pub none : f.waiting ≡ []
   pub settled : f.deskew.settled ≡ true
 
--- This was fed of the lanes, fewer than 2^57 bytes of each, and the observer was told all that was taken of the front since.
-pub record Keeps {O : Type 0} (keeps : Keeping O) (o : O) (v : State) (s : Settings) (fed : List Fed) : Type 0 where
+-- A receiver, to which this was fed of the lanes, fewer than 2^57 bytes of each, has told the observer all locks that they declared
+-- and all items that were taken of its front.
+pub record HasTold {O : Type 0} (keeps : Keeping O) (o : O) (v : State) (s : Settings) (fed : List Fed) : Type 0 where
   pub items : List Aligned
   pub t : Progress
   pub knows : Knows keeps o v.front s fed items t (λ i. locks_at i t) items
   pub closed : is_closed v.stage ≡ true → IsAtEnd v.front
 
--- of some lanes
-abbrev pub KeepsSome : {O : Type 0} → Keeping O → O → State → Type 0
-KeepsSome keeps o v = (s : Settings) × (fed : List Fed) × Keeps keeps o v s fed
+-- A receiver of some lanes has told the observer so.
+abbrev pub HasToldSome : {O : Type 0} → Keeping O → O → State → Type 0
+HasToldSome keeps o v = (s : Settings) × (fed : List Fed) × HasTold keeps o v s fed
 
--- and has seen it of lanes that have these bytes in the end
-pub record Looks {O : Type 0} (keeps : Keeping O) (saw : Seeing O) (o : O) (v : State) (s : Settings) (fed : List Fed) (lanes : List (List ℕ)) : Type 0 where
-  pub kept : Keeps keeps o v s fed
-  pub seen : saw o s lanes (λ i. locks_at i kept.t) kept.items
+-- A receiver has told the observer so, and the observer has seen it of lanes that have these bytes in the end.
+pub record HasSeen {O : Type 0} (keeps : Keeping O) (saw : Seeing O) (o : O) (v : State) (s : Settings) (fed : List Fed) (lanes : List (List ℕ)) : Type 0 where
+  pub told : HasTold keeps o v s fed
+  pub seen : saw o s lanes (λ i. locks_at i told.t) told.items
 
--- the observer is told all that is taken of the front on the way from one state to another
+-- On the way from one state to another a receiver tells the observer each lock that its lanes declare and each item that is taken
+-- of its front.
 pub record Tells {O : Type 0} (keeps : Keeping O) (saw : Seeing O) (o p : O) (v w : State) : Type 0 where
-  pub kept : (s : Settings) (fed : List Fed) → Keeps keeps o v s fed → Keeps keeps p w s fed
-  pub looks : (s : Settings) (fed : List Fed) (lanes : List (List ℕ)) → AllBegin fed lanes → Looks keeps saw o v s fed lanes → Looks keeps saw p w s fed lanes
+  pub told : (s : Settings) (fed : List Fed) → HasTold keeps o v s fed → HasTold keeps p w s fed
+  pub seen : (s : Settings) (fed : List Fed) (lanes : List (List ℕ)) → AllBegin fed lanes → HasSeen keeps saw o v s fed lanes → HasSeen keeps saw p w s fed lanes
 
 -- ---- from the first call on
 
@@ -130,10 +132,11 @@ pub record IsFresh (v : State) (s : Settings) : Type 0 where
   pub front : front.Stands v.front s (nothing_fed s.lanes) [] (begun s.lanes)
   pub runs : is_closed v.stage ≡ true → ⊥
 
--- the lanes that were fed are others; nothing is taken of the front
+-- On the way from one state of a receiver to another what was fed of the lanes becomes `more` of it, and nothing is taken of the
+-- front.
 pub record Feeds (more : List Fed → List Fed) (v w : State) : Type 0 where
   pub stands : (s : Settings) (fed : List Fed) (items : List Aligned) (t : Progress) → front.Stands v.front s fed items t → front.Stands w.front s (more fed) items t
-  -- fewer than 2^57 bytes of each still
+  -- it is still fewer than 2^57 bytes of each lane
   pub few : (s : Settings) (fed : List Fed) (items : List Aligned) (t : Progress) → front.Stands v.front s fed items t → longest fed < 2 ^ 57 → longest (more fed) < 2 ^ 57
   pub stage : w.stage ≡ v.stage
   pub at_end : IsAtEnd v.front → IsAtEnd w.front

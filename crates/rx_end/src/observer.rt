@@ -6,16 +6,17 @@ ghost use Rattle.rx_end.specs.Observing.{AsksItem, AsksLocks, AsksWords, TakesIt
 use lk_base::Aligned;
 use rx_front::Front;
 
-/// Who is told what the front of a receiver shows, at once: each item that is taken of it, and each lock that a lane declares, once
-/// and in order.
+/// An observer of the front of a receiver. It is told each item that is taken of the front, and each lock that a lane declares: at
+/// once, once each, and in order.
 pub trait Observer {
-    /// What it is given, which no call changes.
-    ghost Given: { Type 0 };
+    /// What is fixed of an observer: no call changes it.
+    ghost Fixed: { Type 0 };
 
-    /// What this one is given.
-    ghost given: { Self → Given };
+    /// What is fixed of this one.
+    ghost fixed: { Self → Fixed };
 
-    /// Whether it asks that `keeps` held before each call, as one that counts does. What asks nothing may be told anything.
+    /// Whether each call asks that `keeps` held before it, as those of a counter do. An observer that does not ask may be told
+    /// anything.
     ghost asks: { Bool };
 
     /// What holds of it where the lanes of a link declared these locks (lane number `i` those of `i`, each by its bit position), and
@@ -29,28 +30,28 @@ pub trait Observer {
     fn words(&mut self, front: &Front, count: usize)
         requires most { count ≤ length front.now.waiting }
         requires told { asks ≡ true → AsksWords keeps self.old front.now }
-        ensures given { given self.new ≡ given self.old }
+        ensures fixed { fixed self.new ≡ fixed self.old }
         ensures takes { TakesWords keeps saw self.old self.new front.now count };
 
     /// The front gave this item last, and none waits in it.
     fn item(&mut self, front: &Front, item: Aligned)
         requires none { length front.now.waiting ≡ 0 }
         requires told { asks ≡ true → AsksItem keeps self.old front.now item }
-        ensures given { given self.new ≡ given self.old }
+        ensures fixed { fixed self.new ≡ fixed self.old }
         ensures takes { TakesItem keeps saw self.old self.new front.now item };
 
     /// The front's clock moved on: each lane may have declared a lock at the bit that it passed last.
     fn moved(&mut self, front: &Front)
         requires { asks ≡ true → AsksLocks keeps self.old front.now }
-        ensures given { given self.new ≡ given self.old }
+        ensures fixed { fixed self.new ≡ fixed self.old }
         ensures takes { TakesLocks keeps saw self.old self.new front.now };
 }
 
 /// Nobody is told.
 impl Observer for () {
-    ghost Given = { Unit {0} };
+    ghost Fixed = { Unit {0} };
 
-    ghost given = { λ o. tt };
+    ghost fixed = { λ o. tt };
 
     ghost asks = { false };
 

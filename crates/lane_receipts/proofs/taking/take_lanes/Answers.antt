@@ -40,7 +40,7 @@ loop-next-init g c = record {
         record { drained = drained; reached = is; from = λ lanes are begin. (are, begin) },
         first_followed g.O.Observer.keeps g.O.Observer.saw s (g.P.LanePieces.are_lanes c.args.lanes.now b.was) first c.args.observer.now c.take_events.new.observer c.args.receiver.now c.take_events.new.receiver c.in_ok-take_events.ensures.tells,
       );
-  given = c.in_ok-take_events.ensures.given;
+  fixed = c.in_ok-take_events.ensures.fixed;
   told = some_on g.O.Observer.keeps g.O.Observer.saw g.O.Observer.asks c.args.observer.now c.take_events.new.observer c.args.receiver.now c.take_events.new.receiver c.in_ok-take_events.ensures.tells c.requires.told;
 }
 
@@ -124,7 +124,7 @@ loop-next-preserved g c =
                 (λ lanes still. let (later, is) = c.in_ok-read_on.ensures.reads b.was lanes still files in (later, subst (λ p. IsPieceAt next.offset p (get_or lanes next.lane [])) (sym c.piece-piece.ensures.held) is))
                 lanes are begin).1),
           );
-      given = c.in_ok-take_events-2.ensures.given ∙ c.loop-next.invariant.given;
+      fixed = c.in_ok-take_events-2.ensures.fixed ∙ c.loop-next.invariant.fixed;
       told = some_on g.O.Observer.keeps g.O.Observer.saw g.O.Observer.asks c.loop-next.observer c.take_events-in-Some.new.observer c.feed_piece.new.receiver c.take_events-in-Some.new.receiver c.in_ok-take_events-2.ensures.tells
           (some_fed g.O.Observer.keeps g.O.Observer.saw g.O.Observer.asks c.loop-next.observer (fed_next next.lane piece) c.loop-next.receiver c.feed_piece.new.receiver c.feed_piece.ensures.feeds c.loop-next.invariant.told);
     }

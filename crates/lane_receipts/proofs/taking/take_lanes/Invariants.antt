@@ -2,7 +2,7 @@ use Rattle.std.proofs.Common.{◌≡◌, ◌≤◌, ◌^◌, ℕ, List, true, ma
 use Rattle.lk_base.specs.Link.{Settings}
 use Rattle.receive_model.specs.Events.{Event}
 use Rattle.event_model.specs.Fed.{Fed}
-use Rattle.rx_end.specs.Observing.{KeepsSome}
+use Rattle.rx_end.specs.Observing.{HasToldSome}
 use Rattle.receipts.specs.Receipts.{Beginning}
 use Rattle.lane_receipts.specs.Feeding.{IsTaking, offset_of}
 use Rattle.lane_receipts.specs.Holding.{FollowsLanes, IsFeeding, left_in}
@@ -19,8 +19,8 @@ invariant-loop-next g l = record {
   feeding : (b : Beginning) (s : Settings) (first : List Fed) (given : List Event) → IsTaking b s first given l.fn.receiver l.fn.receipt (g.S.Store.files l.fn.store) → l.fn.offsets ≡ map offset_of first →
       (fed : List Fed) × (came : List Event) × IsFeeding b s (g.P.LanePieces.are_lanes l.fn.lanes b.was) (g.P.LanePieces.are_lanes l.lanes b.was) first fed came l.receiver l.offsets l.receipt (g.S.Store.files l.store)
       × FollowsLanes g.O.Observer.keeps g.O.Observer.saw l.fn.observer l.observer l.fn.receiver l.receiver s (g.P.LanePieces.are_lanes l.fn.lanes b.was) first fed;
-  given : g.O.Observer.given l.observer ≡ g.O.Observer.given l.fn.observer;
-  told : g.O.Observer.asks ≡ true → KeepsSome g.O.Observer.keeps l.observer l.receiver;
+  fixed : g.O.Observer.fixed l.observer ≡ g.O.Observer.fixed l.fn.observer;
+  told : g.O.Observer.asks ≡ true → HasToldSome g.O.Observer.keeps l.observer l.receiver;
 }
 
 abbrev pub decreases-loop-next : goal.decreases-loop-next

@@ -67,5 +67,5 @@ returns-clause-writes g c inputs is =
     (let made = c.in_ok-counter.ensures in
     let lanes = map vec_bytes c.deref.result.now in
     let all = c.in_ok-held.ensures.observes made.counts (made.counted lanes) in
-    counted_here i carried _ c.deref.result.now c.as_slice.result.now c.args.words.now (counts_value c.counts-counts.result) c.deref.ensures.value c.requires.words (c.receive_held.ensures.given ∙ made.given) c.as_slice.ensures.value
+    counted_here i carried _ c.deref.result.now c.as_slice.result.now c.args.words.now (counts_value c.counts-counts.result) c.deref.ensures.value c.requires.words (c.receive_held.ensures.fixed ∙ made.given) c.as_slice.ensures.value
     (c.counts-counts.ensures all.0 c.args.plan.now.link lanes all.1))

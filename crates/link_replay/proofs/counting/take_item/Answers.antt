@@ -8,7 +8,7 @@ item-requires-in-Some-clause-told c = λ asks.
 
 pub returns-in-Some-clause-watched : goal.returns-in-Some-clause-watched
 returns-in-Some-clause-watched c = λ r at w.
-    item_watched c.args.front.now c.item.new.self c.args.counter.now c.item-in-Some.new.self c.in-Some.item c.in-Some.ensures.gives c.item-in-Some.ensures.takes c.item-in-Some.ensures.given r at w
+    item_watched c.args.front.now c.item.new.self c.args.counter.now c.item-in-Some.new.self c.in-Some.item c.in-Some.ensures.gives c.item-in-Some.ensures.takes c.item-in-Some.ensures.fixed r at w
 
 pub returns-in-None-clause-watched : goal.returns-in-None-clause-watched
 returns-in-None-clause-watched c = λ r at w. none_drained c.args.front.now c.item.new.self c.args.counter.now c.in-None.ensures.gives r at w

@@ -7,4 +7,4 @@ words-requires-clause-told c = λ asks. words_asked c.args.front.now c.args.coun
 
 pub returns-clause-watched : goal.returns-clause-watched
 returns-clause-watched c = λ r at w.
-    words_watched c.args.front.now c.pass.new.self c.args.counter.now c.words.new.self _ c.words.ensures.takes c.words.ensures.given c.pass.ensures.stands r at w
+    words_watched c.args.front.now c.pass.new.self c.args.counter.now c.words.new.self _ c.words.ensures.takes c.words.ensures.fixed c.pass.ensures.stands r at w

@@ -16,5 +16,5 @@ moved-requires c = λ asks.
 
 pub clock-preserved : goal.clock-preserved
 clock-preserved c = λ r at w.
-    moved_watched c.drain.new.front c.go_on.new.self c.drain.new.counter c.moved.new.self c.if-not-go_on.ensures.moves c.moved.ensures.takes c.moved.ensures.given r at
+    moved_watched c.drain.new.front c.go_on.new.self c.drain.new.counter c.moved.new.self c.if-not-go_on.ensures.moves c.moved.ensures.takes c.moved.ensures.fixed r at
     (c.drain.ensures.drained r at (c.clock.invariant r at w)).watched

@@ -3,7 +3,7 @@ use Rattle.std.proofs.Common.{◌≡◌, refl, sym, ◌∙◌, subst, true}
 use Rattle.rx_front.specs.States as front
 use Rattle.rx_end.specs.States.{State}
 use Rattle.rx_end.specs.Standing.{Stands}
-use Rattle.rx_end.specs.Observing.{KeepsSome, Tells}
+use Rattle.rx_end.specs.Observing.{HasToldSome, Tells}
 use Rattle.rx_end.proofs.Putting.{front_stands}
 use Rattle.rx_end.proofs.Observed.{closed_now, locks_asked, locks_told, same_front, state_of}
 use Rattle.rx_end.proofs.receiver.Receiver.go_on.Goals as goal
@@ -17,7 +17,7 @@ returns-then-go_on-clause-stands g c = λ s setting fed given d.
 pub moved-requires : goal.moved-requires
 moved-requires g c =
     locks_asked g.O.Observer.keeps g.O.Observer.saw g.O.Observer.asks c.args.observer.now (state_of c.self.inside.front c.self.inside.reassembly c.self.inside.stage) c.go_on.new.self (λ s fed items t here. c.if-go_on.ensures.moves s fed items t here)
-    (subst (λ (v : State). g.O.Observer.asks ≡ true → KeepsSome g.O.Observer.keeps c.args.observer.now v) (sym c.self.view_is) c.requires.told)
+    (subst (λ (v : State). g.O.Observer.asks ≡ true → HasToldSome g.O.Observer.keeps c.args.observer.now v) (sym c.self.view_is) c.requires.told)
 
 pub returns-then-go_on-clause-tells : goal.returns-then-go_on-clause-tells
 returns-then-go_on-clause-tells g c =

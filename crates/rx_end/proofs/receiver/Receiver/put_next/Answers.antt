@@ -5,7 +5,7 @@ use Rattle.epoch_model.proofs.Leasts.{clash}
 use Rattle.rx_end.specs.Stages.{is_closed}
 use Rattle.rx_end.specs.States.{State}
 use Rattle.rx_end.specs.Standing.{Stands}
-use Rattle.rx_end.specs.Observing.{KeepsSome, Tells}
+use Rattle.rx_end.specs.Observing.{HasToldSome, Tells}
 use Rattle.rx_end.proofs.Putting.{drained, item_put}
 use Rattle.rx_end.proofs.Observed.{item_asked, item_told, nothing_told, state_of}
 use Rattle.rx_end.proofs.receiver.Receiver.put_next.Goals as goal
@@ -26,7 +26,7 @@ returns-in-None-clause-all g c = λ s setting fed given st.
 pub item-requires-in-Some-clause-told : goal.item-requires-in-Some-clause-told
 item-requires-in-Some-clause-told g c =
     item_asked g.O.Observer.keeps g.O.Observer.saw g.O.Observer.asks c.args.observer.now (state_of c.self.inside.front c.self.inside.reassembly c.self.inside.stage) c.item.new.self c.in-Some.item (λ s fed items t here. c.in-Some.ensures.gives s fed items t here)
-    (subst (λ (v : State). g.O.Observer.asks ≡ true → KeepsSome g.O.Observer.keeps c.args.observer.now v) (sym c.self.view_is) c.requires.told)
+    (subst (λ (v : State). g.O.Observer.asks ≡ true → HasToldSome g.O.Observer.keeps c.args.observer.now v) (sym c.self.view_is) c.requires.told)
 
 pub returns-in-Some-clause-tells : goal.returns-in-Some-clause-tells
 returns-in-Some-clause-tells g c =
