@@ -38,7 +38,7 @@ abbrev pub AreApart : Settings → Progress → (ℕ → List ℕ) → Type 0
 AreApart s t locks = (i : ℕ) → i < s.lanes → 67 * length (locks i) ≤ t.clock
 
 -- those before stand no closer
-pub apart_before : (s : Settings) (f : State) (t : Progress) (before : ℕ → List ℕ) → AreLater f before t → AreApart s t (λ i. locks_at i t) → AreApart s t before
+pub apart_before : (s : Settings) (f : State) (t : Progress) (before : ℕ → List ℕ) → AreLater f before (λ i. locks_at i t) → AreApart s t (λ i. locks_at i t) → AreApart s t before
 apart_before s f t before later apart i lt =
     let a = apart i lt in
     let e = ap length (later i) ∙ length-append (before i) (cons_option (declared_at i f) []) in

@@ -1,11 +1,10 @@
 ghost use Rattle.std.specs.Prelude.{◌≡◌, ◌≤◌, ◌%◌, ◌<◌, ◌^◌, ◌+◌, ◌++◌, ◌∷◌, [], ℕ, List, IfOk, IfSome, length};
-ghost use Rattle.std.specs.List.{cons_option};
 ghost use Rattle.lk_base.specs.Link.{group_of};
 ghost use Rattle.lk_base.specs.Positions.{words_from};
 ghost use Rattle.lk_base.specs.declared.word.Aligned.{Aligned as Item};
 ghost use Rattle.lk_base.specs.declared.word.Word.{Word as SentWord};
 ghost use Rattle.epoch_model.specs.SoFar.{LaneSoFar};
-ghost use Rattle.rx_front.specs.Locks.{declared_at};
+ghost use Rattle.rx_end.specs.Observing.{AreLater};
 ghost use Rattle.link_replay.specs.Groups.{starts_of};
 ghost use Rattle.link_replay.specs.Lanes.{HaveFew, strange_sum};
 ghost use Rattle.link_replay.specs.Standing.{Holds, IsSame, ShowsItem, TakesWord, TellsGroup, TellsItem, Watches, skews_of, with_break, with_group};
@@ -69,9 +68,9 @@ impl Watch {
         requires most { length self.old.lanes ≤ 64 }
         requires few { HaveFew self.old.lanes }
         ensures same { IsSame self.old self.new }
-        ensures holds { (before now : ℕ → List ℕ) (items : List Item) → ((i : ℕ) → now i ≡ before i ++ cons_option (declared_at i front.now) []) →
+        ensures holds { (before now : ℕ → List ℕ) (items : List Item) → AreLater front.now before now →
             Holds self.old sent.now before items → Holds self.new sent.now now items }
-        ensures watches { (lanes : List LaneSoFar) (before now : ℕ → List ℕ) (items : List Item) → ((i : ℕ) → now i ≡ before i ++ cons_option (declared_at i front.now) []) →
+        ensures watches { (lanes : List LaneSoFar) (before now : ℕ → List ℕ) (items : List Item) → AreLater front.now before now →
             Watches self.old sent.now lanes before items → Watches self.new sent.now lanes now items }
     {
         let made = made(&self.link, sent);

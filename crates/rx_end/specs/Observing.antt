@@ -72,10 +72,10 @@ TakesItem keeps saw o p f item =
 
 -- ---- locks
 
--- Each lane has declared the locks before, and the one that it declared at the bit that the clock of a front passed last, if it
+-- Each lane has now declared the locks before, and the one that it declared at the bit that the clock of a front passed last, if it
 -- declared one there.
-abbrev pub AreLater : fronts.State → (ℕ → List ℕ) → Progress → Type 0
-AreLater f before t = (i : ℕ) → locks_at i t ≡ before i ++ cons_option (declared_at i f) []
+abbrev pub AreLater : fronts.State → (ℕ → List ℕ) → (ℕ → List ℕ) → Type 0
+AreLater f before now = (i : ℕ) → now i ≡ before i ++ cons_option (declared_at i f) []
 
 -- the clock of a front moved on; the observer was told all locks that were declared before
 pub record AsksLocks {O : Type 0} (keeps : Keeping O) (o : O) (f : fronts.State) : Type 0 where
@@ -84,13 +84,13 @@ pub record AsksLocks {O : Type 0} (keeps : Keeping O) (o : O) (f : fronts.State)
   pub items : List Aligned
   pub t : Progress
   pub before : ℕ → List ℕ
-  pub later : AreLater f before t
+  pub later : AreLater f before (λ i. locks_at i t)
   pub knows : Knows keeps o f s fed items t before items
 
 -- it is told those of the bit that was passed last
 abbrev pub TakesLocks : {O : Type 0} → Keeping O → Seeing O → O → O → fronts.State → Type 0
 TakesLocks keeps saw o p f =
-    (s : Settings) (fed : List Fed) (items : List Aligned) (t : Progress) (before : ℕ → List ℕ) → AreLater f before t → Knows keeps o f s fed items t before items →
+    (s : Settings) (fed : List Fed) (items : List Aligned) (t : Progress) (before : ℕ → List ℕ) → AreLater f before (λ i. locks_at i t) → Knows keeps o f s fed items t before items →
     Learns keeps saw o p s fed before (λ i. locks_at i t) items items
 
 -- ---- a receiver that tells an observer
