@@ -5,9 +5,10 @@ use Rattle.std.proofs.lemmas.List.{drop_all, length-take, take-append-drop}
 use Rattle.lk_base.specs.declared.word.Aligned.{Aligned}
 use Rattle.lk_base.specs.Link.{Settings}
 use Rattle.event_model.specs.Fed.{AllBegin, Fed, longest}
-use Rattle.rx_front.specs.Standing.{Drained, MovesOn, Progress, Stands, locks_at}
+use Rattle.rx_front.specs.Standing.{Drained, Progress, Stands, locks_at}
 use Rattle.rx_front.specs.States.{State}
-use Rattle.rx_end.specs.Observing.{AsksItem, AsksLocks, AsksWords, Knows, TakesItem, TakesLocks, TakesWords}
+use Rattle.rx_end.specs.Observing.{AsksItem, AsksLocks, AsksWords, TakesItem, TakesLocks, TakesWords}
+use Rattle.rx_end.proofs.Observed.{GivesOn, MovesEach, PassesOn, Stays, item_known, known_on, moved_known}
 use Rattle.link_replay.specs.Counting.{Counter, Counts, HasCounted, given_to}
 use Rattle.link_replay.specs.Fronts.{IsDrained, IsWatched, Received, WatchesSome, all_fed_to}
 use Rattle.link_replay.specs.Lanes.{AreFew}
@@ -33,13 +34,13 @@ pub some_kept : (f g : State) (c d : Counter) → WatchesSome f c → KeepsWatch
 some_kept f g c d some keeps = (some.0, some.1, keeps some.0 some.1 some.2)
 
 -- the front stays as it is towards the items
-pub still_watched : (f g : State) (c : Counter) → ((s : Settings) (fed : List Fed) (items : List Aligned) (t : Progress) → Stands f s fed items t → Stands g s fed items t) → KeepsWatch f c g c
+pub still_watched : (f g : State) (c : Counter) → Stays f g → KeepsWatch f c g c
 still_watched f g c keeps r at w = record {
   given = w.given;
   few = w.few;
   items = w.items;
   t = w.t;
-  knows = record { few = w.knows.few; stands = keeps r.sent.settings (all_fed_to at r.lanes) w.items w.t w.knows.stands; kept = w.knows.kept };
+  knows = known_on Counts HasCounted c f g r.sent.settings (all_fed_to at r.lanes) w.items w.t keeps w.knows;
   seen = w.seen;
 }
 
@@ -50,8 +51,7 @@ words_asked f c some =
     let w = some.2 in
     record { s = some.0.sent.settings; fed = all_fed_to some.1 some.0.lanes; items = w.items; t = w.t; knows = w.knows }
 
-pub words_watched : (f g : State) (c d : Counter) (count : ℕ) → TakesWords Counts HasCounted c d f count → given_to d ≡ given_to c →
-    ((s : Settings) (fed : List Fed) (items : List Aligned) (t : Progress) → Stands f s fed items t → Stands g s fed (items ++ take count f.waiting) t) → KeepsWatch f c g d
+pub words_watched : (f g : State) (c d : Counter) (count : ℕ) → TakesWords Counts HasCounted c d f count → given_to d ≡ given_to c → PassesOn f g count → KeepsWatch f c g d
 words_watched f g c d count takes given passes r at w =
     let s = r.sent.settings in
     let fed = all_fed_to at r.lanes in
@@ -67,22 +67,19 @@ words_watched f g c d count takes given passes r at w =
 
 -- ---- an item
 
-abbrev GivesOn : State → State → Aligned → Type 0
-GivesOn f g item = (s : Settings) (fed : List Fed) (items : List Aligned) (t : Progress) → Stands f s fed items t → Stands g s fed (items ++ item ∷ []) t
-
-knows_item : (f g : State) (c : Counter) (item : Aligned) → GivesOn f g item → (r : Received) (at : ℕ) (w : IsWatched r at f c) →
-    Knows Counts c g r.sent.settings (all_fed_to at r.lanes) (w.items ++ item ∷ []) w.t (λ i. locks_at i w.t) w.items
-knows_item f g c item gives r at w = record { few = w.knows.few; stands = gives r.sent.settings (all_fed_to at r.lanes) w.items w.t w.knows.stands; kept = w.knows.kept }
-
 pub item_asked : (f g : State) (c : Counter) (item : Aligned) → GivesOn f g item → WatchesSome f c → AsksItem Counts c g item
 item_asked f g c item gives some =
+    let s = some.0.sent.settings in
+    let fed = all_fed_to some.1 some.0.lanes in
     let w = some.2 in
-    record { s = some.0.sent.settings; fed = all_fed_to some.1 some.0.lanes; items = w.items; t = w.t; knows = knows_item f g c item gives some.0 some.1 w }
+    record { s = s; fed = fed; items = w.items; t = w.t; knows = item_known Counts HasCounted c f g item s fed w.items w.t gives w.knows }
 
 pub item_watched : (f g : State) (c d : Counter) (item : Aligned) → GivesOn f g item → TakesItem Counts HasCounted c d g item → given_to d ≡ given_to c → KeepsWatch f c g d
 item_watched f g c d item gives takes given r at w =
-    let k = knows_item f g c item gives r at w in
-    let l = takes r.sent.settings (all_fed_to at r.lanes) w.items w.t k in
+    let s = r.sent.settings in
+    let fed = all_fed_to at r.lanes in
+    let k = item_known Counts HasCounted c f g item s fed w.items w.t gives w.knows in
+    let l = takes s fed w.items w.t k in
     record { given = given ∙ w.given; few = w.few; items = w.items ++ item ∷ []; t = w.t; knows = record { few = k.few; stands = k.stands; kept = l.kept }; seen = l.seen r.lanes (all_begin at r.lanes) w.seen }
 
 -- there was none
@@ -93,21 +90,18 @@ none_drained f g c gives r at w =
 
 -- ---- the clock moves on
 
-abbrev MovesEach : State → State → Type 0
-MovesEach f g = (s : Settings) (fed : List Fed) (items : List Aligned) (t : Progress) → Stands f s fed items t → MovesOn g s fed items t
-
 pub locks_asked : (f g : State) (c : Counter) → MovesEach f g → WatchesSome f c → AsksLocks Counts c g
 locks_asked f g c moves some =
     let w = some.2 in
     let s = some.0.sent.settings in
     let fed = all_fed_to some.1 some.0.lanes in
     let m = moves s fed w.items w.t w.knows.stands in
-    record { s = s; fed = fed; items = w.items; t = m.to; before = λ i. locks_at i w.t; later = m.locks; knows = record { few = w.knows.few; stands = m.stands; kept = w.knows.kept } }
+    record { s = s; fed = fed; items = w.items; t = m.to; before = λ i. locks_at i w.t; later = m.locks; knows = moved_known Counts HasCounted c f g s fed w.items w.t moves w.knows }
 
 pub moved_watched : (f g : State) (c d : Counter) → MovesEach f g → TakesLocks Counts HasCounted c d g → given_to d ≡ given_to c → KeepsWatch f c g d
 moved_watched f g c d moves takes given r at w =
     let s = r.sent.settings in
     let fed = all_fed_to at r.lanes in
     let m = moves s fed w.items w.t w.knows.stands in
-    let l = takes s fed w.items m.to (λ i. locks_at i w.t) m.locks (record { few = w.knows.few; stands = m.stands; kept = w.knows.kept }) in
+    let l = takes s fed w.items m.to (λ i. locks_at i w.t) m.locks (moved_known Counts HasCounted c f g s fed w.items w.t moves w.knows) in
     record { given = given ∙ w.given; few = w.few; items = w.items; t = m.to; knows = record { few = w.knows.few; stands = m.stands; kept = l.kept }; seen = l.seen r.lanes (all_begin at r.lanes) w.seen }

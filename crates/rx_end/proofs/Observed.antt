@@ -27,14 +27,28 @@ fed_of bytes finished = record { bytes = bytes; finished = finished }
 abbrev pub state_of : fronts.State → reassembly.State → Stage → State
 state_of f r stage = record { front = f; reassembly = r; stage = stage }
 
+-- ---- what a call does to a front, whatever was fed and taken
+
+-- nothing is taken of it
+abbrev pub Stays : fronts.State → fronts.State → Type 0
+Stays f g = (s : Settings) (fed : List Fed) (items : List Aligned) (t : Progress) → front.Stands f s fed items t → front.Stands g s fed items t
+
+-- this many of the words that wait are taken
+abbrev pub PassesOn : fronts.State → fronts.State → ℕ → Type 0
+PassesOn f g count = (s : Settings) (fed : List Fed) (items : List Aligned) (t : Progress) → front.Stands f s fed items t → front.Stands g s fed (items ++ take count f.waiting) t
+
+-- it gives this item
+abbrev pub GivesOn : fronts.State → fronts.State → Aligned → Type 0
+GivesOn f g item = (s : Settings) (fed : List Fed) (items : List Aligned) (t : Progress) → front.Stands f s fed items t → front.Stands g s fed (items ++ item ∷ []) t
+
+-- its clock moves on
+abbrev pub MovesEach : fronts.State → fronts.State → Type 0
+MovesEach f g = (s : Settings) (fed : List Fed) (items : List Aligned) (t : Progress) → front.Stands f s fed items t → MovesOn g s fed items t
+
 module _ {O : Type 0} (keeps : Keeping O) (saw : Seeing O) where
   -- ---- nothing is taken of the front
 
-  -- it stays as it is towards all that was fed
-  abbrev pub Stays : fronts.State → fronts.State → Type 0
-  Stays f g = (s : Settings) (fed : List Fed) (items : List Aligned) (t : Progress) → front.Stands f s fed items t → front.Stands g s fed items t
-
-  known_on : (o : O) (f g : fronts.State) (s : Settings) (fed : List Fed) (items : List Aligned) (t : Progress) → Stays f g → Knows keeps o f s fed items t (λ i. locks_at i t) items →
+  pub known_on : (o : O) (f g : fronts.State) (s : Settings) (fed : List Fed) (items : List Aligned) (t : Progress) → Stays f g → Knows keeps o f s fed items t (λ i. locks_at i t) items →
       Knows keeps o g s fed items t (λ i. locks_at i t) items
   known_on o f g s fed items t stays k = record { few = k.few; stands = stays s fed items t k.stands; kept = k.kept }
 
@@ -78,9 +92,6 @@ module _ {O : Type 0} (keeps : Keeping O) (saw : Seeing O) where
       let k = some e in
       record { s = k.0; fed = k.1; items = k.2.items; t = k.2.t; knows = subst (λ (g : fronts.State). Knows keeps o g k.0 k.1 k.2.items k.2.t (λ i. locks_at i k.2.t) k.2.items) same k.2.knows }
 
-  abbrev PassesOn : fronts.State → fronts.State → ℕ → Type 0
-  PassesOn f g count = (s : Settings) (fed : List Fed) (items : List Aligned) (t : Progress) → front.Stands f s fed items t → front.Stands g s fed (items ++ take count f.waiting) t
-
   module _ (o p : O) (v w : State) (count : ℕ) (takes : TakesWords keeps saw o p v.front count) (passes : PassesOn v.front w.front count) (runs : is_closed w.stage ≡ false) where
     words_kept : (s : Settings) (fed : List Fed) → HasTold keeps o v s fed → HasTold keeps p w s fed
     words_kept s fed k = record {
@@ -99,10 +110,7 @@ module _ {O : Type 0} (keeps : Keeping O) (saw : Seeing O) where
 
   -- ---- an item
 
-  abbrev GivesOn : fronts.State → fronts.State → Aligned → Type 0
-  GivesOn f g item = (s : Settings) (fed : List Fed) (items : List Aligned) (t : Progress) → front.Stands f s fed items t → front.Stands g s fed (items ++ item ∷ []) t
-
-  item_known : (o : O) (f g : fronts.State) (item : Aligned) (s : Settings) (fed : List Fed) (items : List Aligned) (t : Progress) → GivesOn f g item →
+  pub item_known : (o : O) (f g : fronts.State) (item : Aligned) (s : Settings) (fed : List Fed) (items : List Aligned) (t : Progress) → GivesOn f g item →
       Knows keeps o f s fed items t (λ i. locks_at i t) items → Knows keeps o g s fed (items ++ item ∷ []) t (λ i. locks_at i t) items
   item_known o f g item s fed items t gives k = record { few = k.few; stands = gives s fed items t k.stands; kept = k.kept }
 
@@ -136,10 +144,7 @@ module _ {O : Type 0} (keeps : Keeping O) (saw : Seeing O) where
 
   -- ---- the clock moves on
 
-  abbrev MovesEach : fronts.State → fronts.State → Type 0
-  MovesEach f g = (s : Settings) (fed : List Fed) (items : List Aligned) (t : Progress) → front.Stands f s fed items t → MovesOn g s fed items t
-
-  moved_known : (o : O) (f g : fronts.State) (s : Settings) (fed : List Fed) (items : List Aligned) (t : Progress) (moves : MovesEach f g) (k : Knows keeps o f s fed items t (λ i. locks_at i t) items) →
+  pub moved_known : (o : O) (f g : fronts.State) (s : Settings) (fed : List Fed) (items : List Aligned) (t : Progress) (moves : MovesEach f g) (k : Knows keeps o f s fed items t (λ i. locks_at i t) items) →
       Knows keeps o g s fed items (moves s fed items t k.stands).to (λ i. locks_at i t) items
   moved_known o f g s fed items t moves k = record { few = k.few; stands = (moves s fed items t k.stands).stands; kept = k.kept }
 
