@@ -1,21 +1,14 @@
 -- A plan's lanes while they are received.
-use Rattle.std.specs.Prelude.{◌≡◌, ℕ, List, [], length, slice_get, Some, Vec}
+use Rattle.std.specs.Prelude.{◌≡◌, ℕ, List, length, slice_get, Some, Vec}
 use Rattle.std.specs.declared.alloc.Global.{Global}
 use Rattle.lk_base.specs.Link.{Settings}
 use Rattle.lock_model.specs.declared.types.LaneReport.{LaneReport}
 use Rattle.receive_model.specs.Events.{Event, Setting}
 use Rattle.event_model.specs.Fed.{Fed}
-use Rattle.reassembly.specs.Settings.{IsSettingOf}
-use Rattle.rx_front.specs.Calls.{IsReportOf, nothing_fed}
+use Rattle.rx_front.specs.Calls.{IsReportOf}
 use Rattle.rx_end.specs.Standing.{Stands}
 use Rattle.rx_end.specs.States.{State}
-use Rattle.link_plan.specs.Listing.{numbers_of}
-use Rattle.link_plan.specs.declared.plan.Plan.{Plan}
 use Rattle.lane_receipts.specs.LaneReports.{lane_lines}
-
--- a receiver of a plan's lanes, of which nothing was fed
-abbrev pub IsUnfed : Plan → State → Type 0
-IsUnfed plan r = (setting : Setting) → IsSettingOf setting (numbers_of plan.channels.items) plan.link.max_packet plan.wide → Stands r plan.link setting (nothing_fed plan.link.lanes) []
 
 -- the lines of the reports of this many lanes, which are those of the receiver
 abbrev pub AreLinesOf : State → ℕ → Vec ℕ Global → Type 0

@@ -1,12 +1,13 @@
 //! The lanes of a plan while they are received from their files.
 ghost use Rattle.std.specs.Prelude.{◌≡◌, ◌<◌, ◌^◌, [], ℕ, List, Some, length, map, replicate, All, IfOk, Contains, string_bytes};
 ghost use Rattle.rx_front.specs.Calls.{nothing_fed};
+ghost use Rattle.rx_end.specs.Standing.{IsUnfed};
 ghost use Rattle.run_stops.specs.Stops.{StopCount};
 ghost use Rattle.run_shell.specs.Outputs.{open_names};
 ghost use Rattle.receipts.specs.Receipts.{Beginning};
 ghost use Rattle.lane_receipts.specs.Feeding.{IsTaking};
 ghost use Rattle.lane_receipts.specs.Taking.{TakesLanes};
-ghost use Rattle.receive_commands.specs.OpenLanes.{AreLinesOf, IsUnfed};
+ghost use Rattle.receive_commands.specs.OpenLanes.{AreLinesOf};
 ghost use Rattle.receive_commands.specs.ReadLanes.{AreBuffers, AreFileLanes, IsFresh};
 
 use crate::lanes::FileLanes;
