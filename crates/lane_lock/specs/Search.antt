@@ -1,0 +1,40 @@
+-- A search for a word lock that is far from finding one.
+use Rattle.std.specs.Prelude.{ℕ, ◌≡◌, ◌≤◌, ◌<◌, ◌+◌, ◌-◌, ◌*◌, Bool, false, List, ◌++◌, length, take, slice_get, Some}
+use Rattle.lk_base.specs.Checksum.{bits_of_bytes}
+use Rattle.lk_base.specs.Link.{Settings}
+use Rattle.lane_model.specs.Coding.{is_legal}
+use Rattle.lock_model.specs.declared.types.LaneStep.{LaneStep}
+use Rattle.lock_model.specs.declared.types.LaneStep.TheVariants as steps
+use Rattle.lock_model.specs.Locks.{code_at}
+use Rattle.lock_model.specs.Steps.{AreSteps}
+use Rattle.phase_finder.specs.Phases.{highest}
+use Rattle.lane_lock.specs.Lane.{LaneState}
+use Rattle.lane_lock.specs.Standing.{Stands}
+
+-- no word lock goes on, and no position of the search has more than 32 words with legal headers in a row up to the last bit
+pub record IsFar (v : LaneState) : Type 0 where
+  pub searching : v.watching ≡ false
+  pub few : highest v.starts.counts ≤ 32
+
+-- no step that the next bits complete, those of 64 words at most, declares a lock: a word lock needs 32 words more, and is declared at
+-- its 97th word or later
+abbrev pub FarDeclaresNothing : Type 0
+FarDeclaresNothing = (v : LaneState) (s : Settings) (bits given : List Bool) (own shown : List LaneStep) (k at : ℕ) → IsFar v → length given ≤ 67 * 64 →
+    Stands v s bits → AreSteps s bits own → AreSteps s (bits ++ given) (own ++ shown) → slice_get shown k ≡ Some (steps.Locked at) → ⊥
+
+-- each of the last 67 positions of these bits, or one that is up to `words` - 1 words before it, has an illegal header
+abbrev pub MissEach : List Bool → ℕ → Type 0
+MissEach bits words = (j : ℕ) → j < 67 → (i : ℕ) × (1 ≤ i) × (i ≤ words) × (is_legal (code_at bits (length bits + j - 66 - 67 * i)) ≡ false)
+
+-- no word lock can be found in these bytes, which come next, and what a search knows after them its last words show
+pub record CanPass (v : LaneState) (bytes : List ℕ) (words : ℕ) : Type 0 where
+  pub far : IsFar v
+  -- a position of the search is there
+  pub begun : v.from + 67 ≤ v.taken
+  pub least : 256 ≤ length bytes
+  pub most : length bytes ≤ 536
+  -- of each phase a header is illegal in the first 256 bytes, and so early that no word lock that begins before it is found
+  pub first : (early : ℕ) × (early ≤ 24) × MissEach (bits_of_bytes (take 256 bytes)) early
+  -- and one in the last words
+  pub few : words ≤ 24
+  pub last : MissEach (bits_of_bytes bytes) words
