@@ -1,8 +1,6 @@
--- In the dark no step is appended.
-use Rattle.std.proofs.Common.{refl}
-use Rattle.lane_lock.proofs.Dark.{dark_batch}
+-- Where bytes are passed over no step is appended.
+use Rattle.lane_lock.proofs.PassedOver.{quiet_batch}
 use Rattle.lane_lock.proofs.lane.LaneLock.take_batch.Goals as goal
 
-pub returns-then-can_pass-clause-stands : goal.returns-then-can_pass-clause-stands
-returns-then-can_pass-clause-stands c =
-    dark_batch c.args.self.now c.pass_dark.new.self c.args.bytes.now c.args.found.now.items (c.if-can_pass.ensures.dark refl) c.pass_dark.ensures.stands
+pub returns-in-Some-clause-stands : goal.returns-in-Some-clause-stands
+returns-in-Some-clause-stands c = quiet_batch c.args.self.now c.pass.new.self c.args.bytes.now c.args.found.now.items c.pass.ensures.stands
