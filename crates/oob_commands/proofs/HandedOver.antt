@@ -11,7 +11,7 @@ use Rattle.csv_rows.specs.Fields.{number_of, decimal_from}
 use Rattle.csv_rows.specs.Items.{item_of}
 use Rattle.csv_rows.specs.Rows.{rows_of}
 use Rattle.csv_rows.specs.Tables.{place_in}
-use Rattle.csv_rows.specs.Told.{value_of, text_of, later_fault, first_fault}
+use Rattle.csv_rows.specs.Checked.{value_of, text_of, later_fault, first_fault}
 use Rattle.csv_rows.specs.Written.{rows_text}
 use Rattle.csv_rows.proofs.ReadBack.{text-read}
 use Rattle.link_plan.specs.Examples.{named_plan, named_plan_value}

@@ -7,7 +7,7 @@ use Rattle.lk_base.specs.Limits.{plan_limit}
 use Rattle.lk_base.specs.declared.shape.Shape.{Shape}
 use Rattle.lk_outside.specs.Files.{Files}
 use Rattle.csv_rows.specs.Rows.{Row, rows_of}
-use Rattle.csv_rows.specs.Told.{first_fault}
+use Rattle.csv_rows.specs.Checked.{first_fault}
 use Rattle.csv_rows.specs.declared.items.RowFault.{RowFault}
 use Rattle.link_plan.specs.Keys.{keys}
 use Rattle.link_plan.specs.Listing.{fit_width, channels_in_order}

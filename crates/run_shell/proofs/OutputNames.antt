@@ -48,9 +48,6 @@ lanes_differ prefix n few i j d lt le e =
     let b : slice_index_or (map name (range_with_len 0 n)) j d ≡ name j = get_or-map-range_with_len name 0 n j j d below (from_zero j) in
     lane_names_differ prefix i j lt (omega arith) (sym a ∙ e ∙ b)
 
-pub one_differs : (name : List ℕ) → Differ (name ∷ [])
-one_differs name i j d lt le e = absurd (omega arith)
-
 -- one more name is told
 pub one_more_name : (prefix : List ℕ) (names new : List (String Global)) (n : String Global) (lane : ℕ) → new ≡ names ++ n ∷ [] → map (string_bytes {Z = Global}) names ≡ lane_names prefix lane → string_bytes n ≡ lane_name prefix lane → map (string_bytes {Z = Global}) new ≡ lane_names prefix (lane + 1)
 one_more_name prefix names new n lane e h is =

@@ -4,8 +4,8 @@ use Rattle.run_stops.specs.Faults.{usage_line, memory_line}
 use Rattle.lk_outside.specs.Files.{Files, Told}
 use Rattle.run_shell.specs.declared.status.Status.{Status}
 use Rattle.run_shell.specs.declared.status.Status.TheVariants.{Done, StoreFault, Usage, Held, PlanRefused, InputRefused, OutOfMemory, SinkFault}
-use Rattle.run_shell.specs.declared.ending.Said.{Said}
-use Rattle.run_shell.specs.declared.ending.Said.TheVariants.{Made, NoMemory}
+use Rattle.run_shell.specs.declared.ending.EndingText.{EndingText}
+use Rattle.run_shell.specs.declared.ending.EndingText.TheVariants.{Made, NoMemory}
 use Rattle.run_stops.specs.declared.stop.Stop.{Stop}
 use Rattle.run_shell.specs.Outcome.{Outcome, IsFault, IsAnswer, LeavesOthers}
 use Rattle.run_shell.specs.Meaning.{Meaning, IsLawful}
@@ -14,11 +14,11 @@ use Rattle.run_shell.specs.Ends.{Ends, stop_status}
 use Rattle.run_shell.specs.Run.{TellsStore, Found, Settles, Tells}
 use Rattle.run_shell.specs.Ended.{Ended}
 
-abbrev pub said_bytes : Said → List ℕ
-said_bytes (Made text) = text.items
-said_bytes NoMemory = memory_line
+abbrev pub text_bytes : EndingText → List ℕ
+text_bytes (Made text) = text.items
+text_bytes NoMemory = memory_line
 
--- the line of a stop with its status, or memory ran out
+-- the line of a stop with its status, or that of memory, where it ran out
 pub record IsEndingOf (s : Stop) (e : Ended) : Type 0 where
   pub is : ((e.status ≡ stop_status s) × (e.text ≡ stop_text s)) ⊎ ((e.status ≡ OutOfMemory) × (e.text ≡ memory_line))
   pub store : e.store_failed ≡ is_of_store s

@@ -16,7 +16,7 @@ use std::marker::Model;
 
 // What is to be said: a text that was made, or the line that needs no memory.
 #[derive(Drop)]
-enum Said {
+enum EndingText {
     Made(Vec<u8>),
     NoMemory,
 }
@@ -25,28 +25,28 @@ enum Said {
 #[derive(Drop)]
 pub struct Ending {
     status: Status,
-    said: Said,
+    text: EndingText,
     store_failed: bool,
 }
 
 impl Model for Ending {
     ghost use Rattle.run_shell.specs.Ended.{Ended};
-    ghost use Rattle.run_shell.specs.Ending.{said_bytes};
+    ghost use Rattle.run_shell.specs.Ending.{text_bytes};
 
     ghost Value = { Ended };
 
-    ghost view = { λ e. record { status = e.status; text = said_bytes e.said; store_failed = e.store_failed } };
+    ghost view = { λ e. record { status = e.status; text = text_bytes e.text; store_failed = e.store_failed } };
 }
 
-impl Said {
-    ghost use Rattle.run_shell.specs.Ending.{said_bytes};
+impl EndingText {
+    ghost use Rattle.run_shell.specs.Ending.{text_bytes};
 
     fn bytes(&self) -> &[u8]
-        ensures { result.now ≡ said_bytes self.now }
+        ensures { result.now ≡ text_bytes self.now }
     {
         match self {
-            Said::Made(text) => text.as_slice(),
-            Said::NoMemory => memory_line(),
+            EndingText::Made(text) => text.as_slice(),
+            EndingText::NoMemory => memory_line(),
         }
     }
 }
@@ -114,12 +114,12 @@ fn ending_of(alloc: Global, stop: &Stop) -> Ending
     match stop_line(alloc, stop) {
         Ok(text) => Ending {
             status: status_of(stop),
-            said: Said::Made(text),
+            text: EndingText::Made(text),
             store_failed,
         },
         Err(_) => Ending {
             status: Status::OutOfMemory,
-            said: Said::NoMemory,
+            text: EndingText::NoMemory,
             store_failed,
         },
     }
@@ -133,26 +133,26 @@ pub fn end<C: Command, S: Store>(alloc: Global, command: &C, store: &mut S) -> E
     match command.obey(alloc, store) {
         Ok(finished) => Ending {
             status: status_when(finished.held),
-            said: Said::Made(finished.text),
+            text: EndingText::Made(finished.text),
             store_failed: false,
         },
         Err(stop) => ending_of(alloc, &stop),
     }
 }
 
-/// The ending where the words are not accepted: the line of the usage, or memory ran out for it.
+/// The ending where the words are not accepted: the line of the usage, or that of memory, where it ran out.
 pub fn misused(alloc: Global) -> Ending
     ensures { IsMisused result }
 {
     match usage_text(alloc) {
         Ok(text) => Ending {
             status: Status::Usage,
-            said: Said::Made(text),
+            text: EndingText::Made(text),
             store_failed: false,
         },
         Err(_) => Ending {
             status: Status::OutOfMemory,
-            said: Said::NoMemory,
+            text: EndingText::NoMemory,
             store_failed: false,
         },
     }
@@ -164,7 +164,7 @@ pub fn no_memory() -> Ending
 {
     Ending {
         status: Status::OutOfMemory,
-        said: Said::NoMemory,
+        text: EndingText::NoMemory,
         store_failed: false,
     }
 }
@@ -197,6 +197,6 @@ pub fn say<K: Sink>(ending: &Ending, out: &mut K) -> Status
     requires { K.faults out.old < 2 ^ 60 }
     ensures { Says ending.now.status ending.now.store_failed ending.now.text result (K.faults out.old) (K.faults out.new) (K.written out.old) (K.written out.new) }
 {
-    let text = ending.said.bytes();
+    let text = ending.text.bytes();
     write_text(ending.status, ending.store_failed, text, out)
 }
