@@ -79,7 +79,7 @@ module _ (v : LaneState) (s : Settings) (bits : List Bool) (st : Stands v s bits
   many = 8 * length bytes
 
   h : Hunts v s bits st.front
-  h = hunted v s bits st can.far.searching
+  h = hunted v s bits st can.searching
 
   long : length given ≡ many
   long = length-bytes bytes
@@ -117,7 +117,7 @@ module _ (v : LaneState) (s : Settings) (bits : List Bool) (st : Stands v s bits
       let l = both in
       let top = can.most in
       elim (cases_lt (length bits) (q + 67 * 33)) [
-        | inr le ↦ begun_early v s bits given st.front q h can.far.few low le locks
+        | inr le ↦ begun_early v s bits given st.front q h can.far low le locks
         | inl lt ↦
             let ahead = length bits + 1982 - q in
             let d = div-add-mod' (ahead + 66) 67 in
@@ -312,7 +312,7 @@ module _ (v : LaneState) (s : Settings) (bits : List Bool) (st : Stands v s bits
         front = st.front;
         over = λ rest. subst (λ (x : ℕ). Chain s.metaframe ((bits ++ given) ++ rest) 0 st.front x) (sym ef)
             (subst (λ (bs : List Bool). Chain s.metaframe bs 0 st.front v.from) (sym (append_assoc bits given rest)) (st.over (given ++ rest)));
-        state = subst (λ (x : Bool). MatchBool x (Holds w s (bits ++ given) st.front) (Hunts w s (bits ++ given) st.front)) (sym (ew ∙ can.far.searching)) hunts;
+        state = subst (λ (x : Bool). MatchBool x (Holds w s (bits ++ given) st.front) (Hunts w s (bits ++ given) st.front)) (sym (ew ∙ can.searching)) hunts;
       }
     where
       quiet_after : (g : List Bool) (b : Bool) (rest : List Bool) → step_of s (bits ++ (g ++ b ∷ rest)) st.front ≡ steps.Nothing

@@ -1,5 +1,5 @@
--- A search for a word lock that is far from finding one.
-use Rattle.std.specs.Prelude.{ℕ, ◌≡◌, ◌≤◌, ◌<◌, ◌+◌, ◌-◌, ◌*◌, Bool, false, List, ◌++◌, length, take, slice_get, Some}
+-- A lane that is far from a declared lock.
+use Rattle.std.specs.Prelude.{ℕ, ◌≡◌, ◌≤◌, ◌<◌, ◌+◌, ◌-◌, ◌*◌, Bool, false, List, ◌++◌, length, take, slice_get, Some, MatchBool}
 use Rattle.lk_base.specs.Checksum.{bits_of_bytes}
 use Rattle.lk_base.specs.Link.{Settings}
 use Rattle.lane_model.specs.Coding.{is_legal}
@@ -10,14 +10,20 @@ use Rattle.lock_model.specs.Steps.{AreSteps}
 use Rattle.phase_finder.specs.Phases.{highest}
 use Rattle.lane_lock.specs.Lane.{LaneState}
 use Rattle.lane_lock.specs.Standing.{Stands}
+use Rattle.lane_lock.specs.Watch.{WatchState}
 
--- no word lock goes on, and no position of the search has more than 32 words with legal headers in a row up to the last bit
-pub record IsFar (v : LaneState) : Type 0 where
-  pub searching : v.watching ≡ false
-  pub few : highest v.starts.counts ≤ 32
+-- of a word lock no lock is declared, and at no place of its metaframes more than one word in a row, up to the last, is Sync
+pub record HasFewSyncs (w : WatchState) : Type 0 where
+  pub undeclared : w.declared ≡ false
+  pub few : highest w.frames.counts ≤ 1
+
+-- no word lock goes on, and no position of the search has more than 32 words with legal headers in a row up to the last bit; or one goes
+-- on that had few Syncs
+abbrev pub IsFar : LaneState → Type 0
+IsFar v = MatchBool v.watching (HasFewSyncs v.watch) (highest v.starts.counts ≤ 32)
 
 -- no step that the next bits complete, those of 64 words at most, declares a lock: a word lock needs 32 words more, and is declared at
--- its 97th word or later
+-- its 97th word or later; and 64 words have two Syncs of one place at most, where it takes four in a row
 abbrev pub FarDeclaresNothing : Type 0
 FarDeclaresNothing = (v : LaneState) (s : Settings) (bits given : List Bool) (own shown : List LaneStep) (k at : ℕ) → IsFar v → length given ≤ 67 * 64 →
     Stands v s bits → AreSteps s bits own → AreSteps s (bits ++ given) (own ++ shown) → slice_get shown k ≡ Some (steps.Locked at) → ⊥
@@ -28,7 +34,8 @@ MissEach bits words = (j : ℕ) → j < 67 → (i : ℕ) × (1 ≤ i) × (i ≤ 
 
 -- no word lock can be found in these bytes, which come next, and what a search knows after them its last words show
 pub record CanPass (v : LaneState) (bytes : List ℕ) (words : ℕ) : Type 0 where
-  pub far : IsFar v
+  pub searching : v.watching ≡ false
+  pub far : highest v.starts.counts ≤ 32
   -- a position of the search is there
   pub begun : v.from + 67 ≤ v.taken
   pub least : 256 ≤ length bytes
