@@ -1,16 +1,17 @@
--- A search that is far from a word lock: no lock is declared soon.
-use Rattle.std.proofs.Common.{ℕ, ◌≡◌, refl, sym, ap, ◌∙◌, subst, ◌+◌, ◌-◌, ◌*◌, ◌/◌, ◌%◌, ◌<◌, ◌≤◌, Bool, true, false, List, [], ◌∷◌, ◌++◌, length, take, append_assoc, Option, Some, None, MatchOption, arith, inl, inr}
+-- A lane that is far from a declared lock: none is declared soon.
+use Rattle.std.proofs.Common.{ℕ, zero, suc, ◌≡◌, refl, sym, ap, ◌∙◌, subst, ◌+◌, ◌-◌, ◌*◌, ◌/◌, ◌%◌, ◌<◌, ◌≤◌, Bool, true, false, List, [], ◌∷◌, ◌++◌, length, take, append_assoc, Option, Some, None, MatchBool, MatchOption, arith, inl, inr}
 use Rattle.std.specs.Prelude.{◌==◌, nat_lt, nat_le}
 use Rattle.std.proofs.Math.Seq.{take-append-add}
 use Rattle.std.proofs.lemmas.Bool.{and_parts, cases_lt, eqb-true, leb-true}
 use Rattle.std.proofs.lemmas.List.{append-nil, get_or-append-add, length-append, length-take-le}
+use Rattle.std.proofs.lemmas.List.FromFn.{get_or-map-range_with_len, length-map-range_with_len}
 use Rattle.std.proofs.lemmas.Nat.{div-add-mod'}
 use Rattle.std.proofs.lemmas.Option.{get_or_from_slice_get, slice_get_within}
 use Rattle.lk_base.specs.Link.{Settings}
 use Rattle.lk_base.proofs.LeastLemmas.{one_least}
 use Rattle.lane_model.proofs.Numbers.{split}
 use Rattle.lock_model.specs.declared.types.LaneStep.TheVariants as steps
-use Rattle.lock_model.specs.Locks.{Attempt, AttemptsFrom, IsAttempt, IsDeclared, LocksWords, Loss, further, has_legal, next_search}
+use Rattle.lock_model.specs.Locks.{Attempt, AttemptsFrom, IsAttempt, IsDeclared, IsFirstLoss, LocksWords, Loss, further, has_legal, has_sync, loss_at, next_search}
 use Rattle.lock_model.specs.Steps.{ends_word, step_covered, step_of, step_of_attempt, step_unless_lost}
 use Rattle.lock_model.proofs.Determined.{same_attempt}
 use Rattle.lock_model.proofs.Existing.{attempts_exist}
@@ -19,11 +20,14 @@ use Rattle.phase_finder.specs.Phases.{highest}
 use Rattle.phase_finder.specs.Runs.{hit_at}
 use Rattle.phase_finder.proofs.Passing.{missed_since}
 use Rattle.lane_lock.specs.Lane.{LaneState}
-use Rattle.lane_lock.specs.Search.{FarDeclaresNothing}
-use Rattle.lane_lock.specs.Standing.{Chain, Hunts, positions}
+use Rattle.lane_lock.specs.Search.{FarDeclaresNothing, HasFewSyncs}
+use Rattle.lane_lock.specs.Standing.{Chain, Holds, Hunts, positions}
+use Rattle.lane_lock.specs.Watch.{WatchState}
+use Rattle.lane_lock.specs.Watching.{WatchesLock, syncs_of}
 use Rattle.lane_lock.proofs.Chains.{step_of-last}
 use Rattle.lane_lock.proofs.Hunting.{count_positions, position_at}
-use Rattle.lane_lock.proofs.LastWord.{hunted}
+use Rattle.lane_lock.proofs.LastWord.{held, hunted}
+use Rattle.lane_lock.proofs.WatchSteps.{declared_before, has_frames, none_of, undeclared_before}
 
 -- ---- no word lock began long ago
 
@@ -50,7 +54,7 @@ begun_early v s bits rest front q h few low early k = elim (cases_lt (length bit
         let e : true ≡ false = sym (position_at has_legal bits v.from n (q + 67 * t) at there ∙ legal_there t there less) ∙ missed in
         cc
 
--- ---- the attempts of the search that goes on
+-- ---- the attempts of the last search
 
 -- those after the ones that are lost
 attempts_behind : (L : ℕ) (bits : List Bool) (first next : ℕ) (front all : List Attempt) → Chain L bits first front next → AttemptsFrom L bits (Some first) all →
@@ -75,21 +79,22 @@ record Last (s : Settings) (bits : List Bool) (first : ℕ) (all : List Attempt)
   is : IsAttempt s.metaframe bits attempt
   step : step_of s bits all ≡ step_of_attempt s bits attempt
 
+-- behind an attempt come others where it is lost, and they start behind its losing word
 later_search : (L : ℕ) (bits : List Bool) (p : ℕ) (lost : Option Loss) (b : Attempt) (back : List Attempt) → AttemptsFrom L bits (next_search p lost) (b ∷ back) →
-    (m : ℕ) × (p ≤ m) × AttemptsFrom L bits (Some m) (b ∷ back)
+    (loss : Loss) × (lost ≡ Some loss) × (m : ℕ) × (p + 67 * loss.word + 67 ≤ m) × AttemptsFrom L bits (Some m) (b ∷ back)
 later_search L bits p None b back are = absurd are
-later_search L bits p (Some loss) b back are = (p + 67 * (loss.word + 1) + further loss.why, omega arith, are)
+later_search L bits p (Some loss) b back are = (loss, refl, p + 67 * (loss.word + 1) + further loss.why, omega arith, are)
 
 last_from : (s : Settings) (bits : List Bool) (first : ℕ) (front : List Attempt) (a : Attempt) (back : List Attempt) → AttemptsFrom s.metaframe bits (Some first) (a ∷ back) →
     Last s bits first (front ++ a ∷ back)
 last_from s bits first front a [] are = record { attempt = a; low = are.0.0.0; lock = are.0.0.1; is = are.1; step = step_of-last s bits front a }
 last_from s bits first front a (b ∷ back) are =
     let next = later_search s.metaframe bits a.starts a.lost b back are.2 in
-    let l = last_from s bits next.0 (front ++ a ∷ []) b back next.2 in
+    let l = last_from s bits next.2 (front ++ a ∷ []) b back next.4 in
     let low = l.low in
     record {
       attempt = l.attempt;
-      low = omega (arith, low, next.1, are.0.0.0);
+      low = omega (arith, low, next.3, are.0.0.0);
       lock = l.lock;
       is = l.is;
       step = ap (step_of s bits) (sym (append_assoc front (a ∷ []) (b ∷ back))) ∙ l.step;
@@ -124,21 +129,114 @@ attempt_declares s bits a at e = split {b = ends_word bits a.starts}
     ((length bits - (a.starts + 67)) / 67, unless_lost_declares s bits a.starts a.declared a.lost ((length bits - (a.starts + 67)) / 67) at (rw ends at e), omega (arith, there, whole, d)))
     (λ inside. absurd (let f = rw inside at e in cc))
 
+-- a lock that an attempt declares
+declared_at : (L : ℕ) (bits : List Bool) (a : Attempt) (d : ℕ) → IsAttempt L bits a → a.declared ≡ Some d → IsDeclared L bits a.starts d
+declared_at L bits a d is e = subst (λ (x : Option ℕ). MatchOption x ((n : ℕ) → IsDeclared L bits a.starts n → ⊥) (IsDeclared L bits a.starts)) e is.declared
+
 -- which is the 97th word of the word lock or a later one
 declared_late : (L : ℕ) (bits : List Bool) (a : Attempt) (d : ℕ) → 32 ≤ L → IsAttempt L bits a → a.declared ≡ Some d → 96 ≤ d
-declared_late L bits a d long is e =
-    let declared : IsDeclared L bits a.starts d = subst (λ (x : Option ℕ). MatchOption x ((n : ℕ) → IsDeclared L bits a.starts n → ⊥) (IsDeclared L bits a.starts)) e is.declared in
-    let at = declared.at in
-    omega (arith, long, at)
+declared_late L bits a d long is e = let at = (declared_at L bits a d is e).at in omega (arith, long, at)
+
+-- attempts that start in the last 97 words declare none
+none_late : (s : Settings) (bits : List Bool) (first : ℕ) (front : List Attempt) (a : Attempt) (back : List Attempt) (at : ℕ) → 32 ≤ s.metaframe → length bits < first + 67 * 97 →
+    AttemptsFrom s.metaframe bits (Some first) (a ∷ back) → step_of s bits (front ++ a ∷ back) ≡ steps.Locked at → ⊥
+none_late s bits first front a back at long late are e =
+    let l = last_from s bits first front a back are in
+    let d = attempt_declares s bits l.attempt at (sym l.step ∙ e) in
+    let low = l.low in
+    let end = d.2 in
+    omega (arith, late, low, end, declared_late s.metaframe bits l.attempt d.0 long l.is d.1)
+
+-- ---- a word lock that had few Syncs
+
+module _ (w : WatchState) (s : Settings) (bits : List Bool) (p t : ℕ) (k : WatchesLock w s bits p t None) where
+  -- its first t words lose nothing, wherever a lock is declared later
+  lossless : (declared : Option ℕ) → MatchOption declared ((d : ℕ) → IsDeclared s.metaframe bits p d → ⊥) (IsDeclared s.metaframe bits p) → (j : ℕ) → j < t → loss_at s.metaframe bits p declared j ≡ None
+  lossless None none j less = undeclared_before s.metaframe bits p t k.legal k.phase.short j less
+  lossless (Some d) declared j less = declared_before s bits p t d k.legal
+      (λ i behind early. absurd (k.phase.none declared.from declared.least.0 (omega (arith, declared.at, behind, early)))) j less
+
+  -- so it is lost later, if at all
+  lost_later : (declared : Option ℕ) (loss : Loss) → MatchOption declared ((d : ℕ) → IsDeclared s.metaframe bits p d → ⊥) (IsDeclared s.metaframe bits p) →
+      IsFirstLoss s.metaframe bits p declared loss → t ≤ loss.word
+  lost_later declared loss is lost = elim (cases_lt loss.word t) [
+    | inl less ↦ absurd (let e : None ≡ Some loss.why = sym (lossless declared is loss.word less) ∙ lost.why in cc)
+    | inr behind ↦ behind
+  ]
+
+  module _ (few : highest w.frames.counts ≤ 1) where
+    -- the last two of its words at a place of the metaframes are not both Sync
+    never_twice : (j : ℕ) → j + s.metaframe < t → t ≤ j + 2 * s.metaframe → has_sync bits (p + 67 * j) ≡ true → has_sync bits (p + 67 * (j + s.metaframe)) ≡ true → ⊥
+    never_twice j there last one two =
+        let n = length-map-range_with_len (λ i. has_sync bits (p + 67 * i)) 0 t in
+        let miss = missed_since w.frames s.metaframe 4 0 1 (syncs_of bits p t) k.phase.given few (omega arith) (j + 2 * s.metaframe) (omega arith) (omega arith) in
+        missed miss.0 miss.1 miss.2
+      where
+        hit : (i : ℕ) → i < t → has_sync bits (p + 67 * i) ≡ true → hit_at (syncs_of bits p t) i ≡ false → ⊥
+        hit i less is not =
+            let e : true ≡ false = sym (get_or-map-range_with_len (λ i. has_sync bits (p + 67 * i)) 0 t i i false less (omega arith) ∙ is) ∙ not in
+            cc
+
+        missed : (c : ℕ) → c ≤ 1 → ((m : ℕ) → m + (c + 1) * s.metaframe ≡ j + 2 * s.metaframe → hit_at (syncs_of bits p t) m ≡ false) → ⊥
+        missed zero most miss = hit (j + s.metaframe) there two (miss (j + s.metaframe) (omega arith))
+        missed (suc zero) most miss = hit j (omega arith) one (miss j (omega arith))
+        missed (suc (suc c)) most miss = absurd (omega (arith, most))
+
+    -- so none of its next 64 words declares a lock
+    undeclared_soon : (d : ℕ) → d < t + 64 → IsDeclared s.metaframe bits p d → ⊥
+    undeclared_soon d soon is =
+        let at = is.at in
+        let long = k.link.metaframe.0 in
+        let sync = has_frames s.metaframe bits p is.from is.least.0 in
+        let e0 : is.from + 0 * s.metaframe ≡ is.from = omega arith in
+        let e1 : is.from + 1 * s.metaframe ≡ is.from + s.metaframe = omega arith in
+        let e2 : is.from + 2 * s.metaframe ≡ is.from + s.metaframe + s.metaframe = omega arith in
+        elim (cases_lt d t) [
+          | inl early ↦ k.phase.none is.from is.least.0 (omega arith)
+          | inr behind ↦ elim (cases_lt (is.from + 2 * s.metaframe) t) [
+            | inl there ↦ never_twice (is.from + s.metaframe) (omega arith) (omega arith) (is_sync e1 (sync 1 (omega arith))) (is_sync e2 (sync 2 (omega arith)))
+            | inr next ↦ never_twice is.from (omega arith) (omega arith) (is_sync e0 (sync 0 (omega arith))) (is_sync e1 (sync 1 (omega arith)))
+          ]
+        ]
+      where
+        is_sync : {i j : ℕ} → i ≡ j → has_sync bits (p + 67 * i) ≡ true → has_sync bits (p + 67 * j) ≡ true
+        is_sync e = subst (λ (x : ℕ). has_sync bits (p + 67 * x) ≡ true) e
 
 -- ---- the law
 
-none_declared : (v : LaneState) (s : Settings) (bits more : List Bool) (front back : List Attempt) (at : ℕ) → Hunts v s bits front → highest v.starts.counts ≤ 32 → 32 ≤ s.metaframe →
+-- of a word lock that goes on
+none_of_lock : (v : LaneState) (s : Settings) (bits more : List Bool) (front back : List Attempt) (at : ℕ) → Holds v s bits front → HasFewSyncs v.watch → 32 ≤ s.metaframe →
+    length more ≤ 67 * 64 → AttemptsFrom s.metaframe (bits ++ more) (Some v.from) back → step_of s (bits ++ more) (front ++ back) ≡ steps.Locked at → ⊥
+none_of_lock v s bits more front [] at h far long short are e = let lock = h.lock more in are h.p lock.0.0 lock.0.1
+none_of_lock v s bits more front (a ∷ back) at h far long short are e =
+    let same : h.p ≡ a.starts = one_least (λ q. (v.from ≤ q) × LocksWords (bits ++ more) q) h.p a.starts (h.lock more) are.0 in
+    let none : h.declared ≡ None = none_of h.declared (sym (h.words []).is_declared ∙ far.undeclared) in
+    let words : WatchesLock v.watch s (bits ++ more) a.starts h.t None = subst (λ (x : ℕ). WatchesLock v.watch s (bits ++ more) x h.t None) same (subst (WatchesLock v.watch s (bits ++ more) h.p h.t) none (h.words more)) in
+    let all = length-append bits more in
+    let next = h.next in
+    let ends = h.short in
+    before_next back are e words (omega (arith, short, all, next, ends, same))
+  where
+    before_next : (back : List Attempt) → AttemptsFrom s.metaframe (bits ++ more) (Some v.from) (a ∷ back) → step_of s (bits ++ more) (front ++ a ∷ back) ≡ steps.Locked at →
+        WatchesLock v.watch s (bits ++ more) a.starts h.t None → length (bits ++ more) < a.starts + 67 * (h.t + 65) → ⊥
+    before_next [] are e words close =
+        let d = attempt_declares s (bits ++ more) a at (sym (step_of-last s (bits ++ more) front a) ∙ e) in
+        undeclared_soon v.watch s (bits ++ more) a.starts h.t words far.few d.0 (omega (arith, close, d.2)) (declared_at s.metaframe (bits ++ more) a d.0 are.1 d.1)
+    before_next (b ∷ back) are e words close =
+        let next = later_search s.metaframe (bits ++ more) a.starts a.lost b back are.2 in
+        let lost : IsFirstLoss s.metaframe (bits ++ more) a.starts a.declared next.0 =
+        subst (λ (x : Option Loss). MatchOption x ((j : ℕ) → loss_at s.metaframe (bits ++ more) a.starts a.declared j ≡ None) (IsFirstLoss s.metaframe (bits ++ more) a.starts a.declared)) next.1 are.1.lost in
+        let later = lost_later v.watch s (bits ++ more) a.starts h.t words a.declared next.0 are.1.declared lost in
+        none_late s (bits ++ more) next.2 (front ++ a ∷ []) b back at long (omega (arith, close, later, next.3)) next.4
+        (ap (step_of s (bits ++ more)) (append_assoc front (a ∷ []) (b ∷ back)) ∙ e)
+
+-- of a search
+none_of_search : (v : LaneState) (s : Settings) (bits more : List Bool) (front back : List Attempt) (at : ℕ) → Hunts v s bits front → highest v.starts.counts ≤ 32 → 32 ≤ s.metaframe →
     1 ≤ length more → length more ≤ 67 * 64 → AttemptsFrom s.metaframe (bits ++ more) (Some v.from) back → step_of s (bits ++ more) (front ++ back) ≡ steps.Locked at → ⊥
-none_declared v s bits [] front back at h low long some short are e = absurd (omega (arith, some))
-none_declared v s bits (b ∷ more) front [] at h low long some short are e =
+none_of_search v s bits [] front back at h low long some short are e = absurd (omega (arith, some))
+none_of_search v s bits (b ∷ more) front [] at h low long some short are e =
     absurd (let f : steps.Nothing ≡ steps.Locked at = sym (h.quiet b more) ∙ ap (step_of s (bits ++ b ∷ more)) (sym (append-nil front)) ∙ e in cc)
-none_declared v s bits (b ∷ more) front (a ∷ back) at h low long some short are e =
+none_of_search v s bits (b ∷ more) front (a ∷ back) at h low long some short are e =
     let l = last_from s (bits ++ b ∷ more) v.from front a back are in
     let d = attempt_declares s (bits ++ b ∷ more) l.attempt at (sym l.step ∙ e) in
     let late = declared_late s.metaframe (bits ++ b ∷ more) l.attempt d.0 long l.is d.1 in
@@ -148,7 +246,6 @@ none_declared v s bits (b ∷ more) front (a ∷ back) at h low long some short 
 
 pub far_declares_nothing : FarDeclaresNothing
 far_declares_nothing v s bits given own shown k at far few st own_are are e =
-    let h = hunted v s bits st far.searching in
     let ends = own_are.long in
     let all_end = are.long in
     let all_shown = length-append own shown in
@@ -166,4 +263,12 @@ far_declares_nothing v s bits given own shown k at far few st own_are are e =
     sym (get_or_from_slice_get (own ++ shown) (length own + k) (step_of s (take (length own + k + 1) (bits ++ given)) all.0) steps.Nothing each
     ∙ ap (λ (bs : List Bool). step_of s bs all.0) cut)
     ∙ get_or-append-add own shown k steps.Nothing ∙ get_or_from_slice_get shown k (steps.Locked at) steps.Nothing e in
-    none_declared v s bits more st.front back.0 at h far.few st.link.metaframe.0 (omega (arith, size)) (omega (arith, size, within, few)) back.2 (ap (step_of s (bits ++ more)) (sym back.1) ∙ step)
+    let long = st.link.metaframe.0 in
+    let short : length more ≤ 67 * 64 = omega (arith, size, within, few) in
+    let last = ap (step_of s (bits ++ more)) (sym back.1) ∙ step in
+    split {b = v.watching}
+    (λ on. none_of_lock v s bits more st.front back.0 at (held v s bits st on) (is_far true on) long short back.2 last)
+    (λ off. none_of_search v s bits more st.front back.0 at (hunted v s bits st off) (is_far false off) long (omega (arith, size)) short back.2 last)
+  where
+    is_far : (on : Bool) → v.watching ≡ on → MatchBool on (HasFewSyncs v.watch) (highest v.starts.counts ≤ 32)
+    is_far on e = subst (λ (x : Bool). MatchBool x (HasFewSyncs v.watch) (highest v.starts.counts ≤ 32)) e far

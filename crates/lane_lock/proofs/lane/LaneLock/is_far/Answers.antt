@@ -2,8 +2,8 @@
 use Rattle.lane_lock.proofs.Far.{far_declares_nothing}
 use Rattle.lane_lock.proofs.lane.LaneLock.is_far.Goals as goal
 
-pub returns-then-not-self-clause-lawful : goal.returns-then-not-self-clause-lawful
-returns-then-not-self-clause-lawful c = far_declares_nothing
+pub returns-then-self-clause-lawful : goal.returns-then-self-clause-lawful
+returns-then-self-clause-lawful c = far_declares_nothing
 
-pub returns-else-not-self-clause-lawful : goal.returns-else-not-self-clause-lawful
-returns-else-not-self-clause-lawful c = far_declares_nothing
+pub returns-else-self-clause-lawful : goal.returns-else-self-clause-lawful
+returns-else-self-clause-lawful c = far_declares_nothing
