@@ -1,1 +1,1 @@
-mod Founds
+mod Shows

@@ -1,2 +1,2 @@
-pub mod Founds
+pub mod Shows
 pub mod States

@@ -5,10 +5,10 @@ ghost use Rattle.lk_base.specs.Link.{Settings};
 ghost use Rattle.lock_model.specs.declared.types.LaneStep.TheVariants as variants;
 ghost use Rattle.lock_model.specs.Low.{is_low};
 ghost use Rattle.lane_lock.specs.Bytes.{Brings, BringsBatch};
-ghost use Rattle.lane_lock.specs.Dark.{StaysDark};
+ghost use Rattle.lane_lock.specs.Search.{IsFar};
 ghost use Rattle.lane_lock.specs.Standing.{IsReport, Stands};
 
-use crate::found::{Found, found_of};
+use crate::shown::{Shown, shown_of};
 use lane_lock::LaneLock;
 use lk_base::{Link, OutOfMemory};
 use lock_model::{LaneReport, LaneStep};
@@ -20,21 +20,21 @@ use std::marker::Model;
 pub struct LaneSteps {
     lock: LaneLock,
     /// What the last bytes show: the end before the first.
-    found: Found,
+    last_shown: Shown,
     /// How many bits they have: at most 56; none where the steps of the last bytes were appended to a list.
     width: u32,
 }
 
 impl Model for LaneSteps {
     ghost use Rattle.std.specs.Prelude.{◌≤◌};
-    ghost use Rattle.lane_steps.specs.Founds.{IsWithin, steps_found};
+    ghost use Rattle.lane_steps.specs.Shows.{IsWithin, steps_shown};
     ghost use Rattle.lane_steps.specs.States.{StepsState};
 
     ghost Value = { StepsState };
 
-    ghost view = { λ a. record { lock = a.lock; shown = steps_found a.width a.found } };
+    ghost view = { λ a. record { lock = a.lock; shown = steps_shown a.width a.last_shown } };
 
-    ghost invariant = { λ a. (a.width ≤ 56) × IsWithin a.width a.found };
+    ghost invariant = { λ a. (a.width ≤ 56) × IsWithin a.width a.last_shown };
 }
 
 impl LaneSteps {
@@ -45,7 +45,7 @@ impl LaneSteps {
         let lock = LaneLock::make(alloc, link)?;
         Ok(LaneSteps {
             lock,
-            found: Found::End,
+            last_shown: Shown::End,
             width: 8,
         })
     }
@@ -57,7 +57,7 @@ impl LaneSteps {
         ensures count { length self.new.shown ≡ 8 }
         ensures stands { Brings self.old.lock self.new.lock (bits_of 8 byte) self.new.shown }
     {
-        self.found = found_of(self.lock.byte(byte), 8);
+        self.last_shown = shown_of(self.lock.byte(byte), 8);
         self.width = 8;
     }
 
@@ -66,7 +66,7 @@ impl LaneSteps {
         ensures lock { self.new.lock ≡ self.old.lock }
         ensures shown { self.new.shown ≡ replicate 8 variants.Ended }
     {
-        self.found = Found::End;
+        self.last_shown = Shown::End;
         self.width = 8;
     }
 
@@ -80,7 +80,7 @@ impl LaneSteps {
         ensures count { length self.new.shown ≡ 8 * count }
         ensures stands { Brings self.old.lock self.new.lock (bits_of (8 * count) bits) self.new.shown }
     {
-        self.found = found_of(self.lock.take_bytes(bits, count), 8 * count);
+        self.last_shown = shown_of(self.lock.take_bytes(bits, count), 8 * count);
         self.width = 8 * count;
     }
 
@@ -96,17 +96,17 @@ impl LaneSteps {
         ensures stands { BringsBatch self.old.lock self.new.lock (bits_of_bytes bytes.now) found.old.items found.new.items }
     {
         self.lock.take_batch(bytes, found);
-        self.found = Found::Quiet;
+        self.last_shown = Shown::Quiet;
         self.width = 0;
     }
 
-    /// Whether it is dark in these bytes, which come next: it is in no word lock, its search began 67 bits ago or more, and its last
-    /// 67 bits and theirs are all 0, or all 1. Then their bits complete no step.
-    pub fn stays_dark(&self, bytes: &[u8]) -> bool
-        ensures dark { result ≡ true → StaysDark self.now.lock bytes.now }
-        ensures light { result ≡ false → StaysDark self.now.lock bytes.now → ⊥ }
+    /// Whether it is far from a declared lock: no word lock goes on, and no position of its search has more than 32 words with legal
+    /// headers in a row up to the last bit. Then the bits of 64 words, whatever they are, declare none.
+    pub fn is_far(&self) -> bool
+        ensures far { result ≡ true → IsFar self.now.lock }
+        ensures near { result ≡ false → IsFar self.now.lock → ⊥ }
     {
-        self.lock.stays_dark(bytes)
+        self.lock.is_far()
     }
 
     /// The step of bit k of the last bytes, counted from the first, the highest of the first byte; after them it has ended.
@@ -114,7 +114,7 @@ impl LaneSteps {
         ensures value { result ≡ get_or self.now.shown k variants.Ended }
         ensures low { is_low result }
     {
-        self.found.step(k, self.width)
+        self.last_shown.step(k, self.width)
     }
 
     /// At which of the last bytes' bits it may show something: bit k of the number is 0 only where bit k of the bytes, counted from
@@ -122,10 +122,10 @@ impl LaneSteps {
     pub fn shows(&self) -> u64
         ensures { (k : ℕ) → k < length self.now.shown → bit_at result k ≡ 0 → get_or self.now.shown k variants.Ended ≡ variants.Nothing }
     {
-        match self.found {
-            Found::End => u64::MAX,
-            Found::Quiet => 0,
-            Found::Step(place, _) => 1 << place,
+        match self.last_shown {
+            Shown::End => u64::MAX,
+            Shown::Quiet => 0,
+            Shown::Step(place, _) => 1 << place,
         }
     }
 

@@ -4,10 +4,10 @@ use Rattle.std.specs.Int.{bit_at}
 use Rattle.std.proofs.lemmas.Nat.{shl_whole}
 use Rattle.lock_model.specs.declared.types.LaneStep.{LaneStep}
 use Rattle.lock_model.specs.declared.types.LaneStep.TheVariants as steps
-use Rattle.lane_steps.specs.declared.found.Found.TheVariants as founds
-use Rattle.lane_steps.specs.Founds.{IsWithin, steps_found}
+use Rattle.lane_steps.specs.declared.shown.Shown.TheVariants as shows
+use Rattle.lane_steps.specs.Shows.{IsWithin, steps_shown}
 use Rattle.lane_steps.specs.States.{StepsState}
-use Rattle.lane_steps.proofs.Founds.{ended_covered, step_covered}
+use Rattle.lane_steps.proofs.Shows.{ended_covered, step_covered}
 use Rattle.lane_steps.proofs.steps.LaneSteps.shows.Goals as goal
 
 -- the steps of a number's zeros
@@ -18,7 +18,7 @@ pub returns-in-End : goal.returns-in-End
 returns-in-End c =
     let i = c.self.inside in
     let most = c.self.invariant.0 in
-    subst (AreNothing 18446744073709551615) (ap (steps_found i.width) (sym c.in-End.is) ∙ ap (λ (v : StepsState). v.shown) c.self.view_is)
+    subst (AreNothing 18446744073709551615) (ap (steps_shown i.width) (sym c.in-End.is) ∙ ap (λ (v : StepsState). v.shown) c.self.view_is)
     (λ k. ended_covered i.width k (omega (arith, most)))
 
 pub returns-in-Step : goal.returns-in-Step
@@ -29,6 +29,6 @@ returns-in-Step c =
     let within : place < i.width = (subst (IsWithin i.width) c.in-Step.is c.self.invariant.1).0 in
     let whole : 1 * 2 ^ place % 2 ^ 64 ≡ 1 * 2 ^ place = shl_whole 1 1 place 64 (omega arith) (omega (arith, most, within)) in
     let one : 1 * 2 ^ place ≡ 2 ^ place = omega arith in
-    subst (AreNothing (1 * 2 ^ place % 2 ^ 64)) (ap (steps_found i.width) (sym c.in-Step.is) ∙ ap (λ (v : StepsState). v.shown) c.self.view_is)
-    (subst (λ (number : ℕ). AreNothing number (steps_found i.width (founds.Step place c.in-Step.field-1))) (sym (whole ∙ one))
+    subst (AreNothing (1 * 2 ^ place % 2 ^ 64)) (ap (steps_shown i.width) (sym c.in-Step.is) ∙ ap (λ (v : StepsState). v.shown) c.self.view_is)
+    (subst (λ (number : ℕ). AreNothing number (steps_shown i.width (shows.Step place c.in-Step.field-1))) (sym (whole ∙ one))
     (λ k. step_covered i.width place k c.in-Step.field-1 within))

@@ -2,14 +2,14 @@ ghost use Rattle.std.specs.Prelude.{◌≡◌, ◌<◌, ◌≤◌, ◌+◌, ◌^
 ghost use Rattle.lane_lock.specs.Bytes.{steps_of_bits};
 ghost use Rattle.lock_model.specs.Low.{is_low};
 ghost use Rattle.lock_model.specs.declared.types.LaneStep.TheVariants as variants;
-ghost use Rattle.lane_steps.specs.Founds.{IsWithin, steps_found};
+ghost use Rattle.lane_steps.specs.Shows.{IsWithin, steps_shown};
 
 use lane_lock::Completed;
 use lock_model::LaneStep;
 
-/// What a lane shows next.
+/// What the bits of a lane's last bytes show.
 #[derive(Clone, Copy, Debug, Drop, PartialEq, Eq)]
-pub enum Found {
+pub enum Shown {
     /// Its end.
     End,
     /// Bytes of which no bit completes a step.
@@ -19,29 +19,29 @@ pub enum Found {
 }
 
 /// Bytes of this many bits within which a word ends, or none does.
-pub fn found_of(completed: Option<Completed>, width: u32) -> Found
+pub fn shown_of(completed: Option<Completed>, width: u32) -> Shown
     requires place { IfSome completed (λ c. c.place < width) }
     requires low { IfSome completed (λ c. is_low c.step) }
-    ensures value { steps_found width result ≡ steps_of_bits width completed }
+    ensures value { steps_shown width result ≡ steps_of_bits width completed }
     ensures within { IsWithin width result }
 {
     match completed {
-        None => Found::Quiet,
-        Some(word) => Found::Step(word.place, word.step),
+        None => Shown::Quiet,
+        Some(word) => Shown::Step(word.place, word.step),
     }
 }
 
-impl Found {
+impl Shown {
     /// The step of bit k of `width` bits; after them it has ended.
     pub fn step(self, k: u32, width: u32) -> LaneStep
         requires { IsWithin width self }
-        ensures value { result ≡ get_or (steps_found width self) k variants.Ended }
+        ensures value { result ≡ get_or (steps_shown width self) k variants.Ended }
         ensures low { is_low result }
     {
         match self {
-            Found::End => LaneStep::Ended,
-            Found::Quiet => step_if(false, k < width, LaneStep::Nothing),
-            Found::Step(place, step) => step_if(place == k, k < width, step),
+            Shown::End => LaneStep::Ended,
+            Shown::Quiet => step_if(false, k < width, LaneStep::Nothing),
+            Shown::Step(place, step) => step_if(place == k, k < width, step),
         }
     }
 }

@@ -1,13 +1,13 @@
 -- The step of a bit among those that show nothing.
 use Rattle.std.proofs.Common.{◌≡◌, sym, subst, get_or}
 use Rattle.lock_model.specs.declared.types.LaneStep.TheVariants as steps
-use Rattle.lane_steps.specs.declared.found.Found.{Found}
-use Rattle.lane_steps.specs.Founds.{IsWithin, steps_found}
-use Rattle.lane_steps.proofs.Founds.{step_there}
-use Rattle.lane_steps.proofs.found.Found.step.Goals as goal
+use Rattle.lane_steps.specs.declared.shown.Shown.{Shown}
+use Rattle.lane_steps.specs.Shows.{IsWithin, steps_shown}
+use Rattle.lane_steps.proofs.Shows.{step_there}
+use Rattle.lane_steps.proofs.shown.Shown.step.Goals as goal
 
 pub returns-in-Step-clause-value : goal.returns-in-Step-clause-value
 returns-in-Step-clause-value c =
     let within = subst (IsWithin c.args.width) c.in-Step.is c.requires in
-    subst (λ (f : Found). c.step_if-in-Step.result ≡ get_or (steps_found c.args.width f) c.args.k steps.Ended) (sym c.in-Step.is)
+    subst (λ (f : Shown). c.step_if-in-Step.result ≡ get_or (steps_shown c.args.width f) c.args.k steps.Ended) (sym c.in-Step.is)
     (step_there c.in-Step.place c.args.width c.args.k c.in-Step.step c.step_if-in-Step.result within.0 c.step_if-in-Step.ensures.here c.step_if-in-Step.ensures.elsewhere c.step_if-in-Step.ensures.behind)
