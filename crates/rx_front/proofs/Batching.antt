@@ -1,9 +1,9 @@
 -- Many rounds at once.
-use Rattle.std.proofs.Common.{ℕ, zero, suc, ◌≡◌, refl, sym, ap, ◌∙◌, subst, ◌+◌, ◌-◌, ◌*◌, ◌<◌, ◌≤◌, Bool, true, false, List, [], ◌∷◌, ◌++◌, length, get_or, set, take, drop, Option, append_assoc, append-nil, replicate, All, arith, inl, inr}
-use Rattle.std.specs.Prelude.{◌&&◌}
+use Rattle.std.proofs.Common.{ℕ, zero, suc, ◌≡◌, refl, sym, ap, ◌∙◌, subst, ◌+◌, ◌-◌, ◌*◌, ◌<◌, ◌≤◌, Bool, true, false, List, [], ◌∷◌, ◌++◌, length, get_or, set, take, drop, Option, append_assoc, append-nil, All, arith, inl, inr}
+use Rattle.std.specs.Prelude.{◌&&◌, Some, slice_get}
 use Rattle.std.specs.List.{cons_option, list_all, list_any}
 use Rattle.std.proofs.lemmas.Bool.{and_parts}
-use Rattle.std.proofs.lemmas.List.{drop_all, length-append, length-drop, length-take-le}
+use Rattle.std.proofs.lemmas.List.{drop_all, length-append, length-drop, length-take, length-take-le}
 use Rattle.std.proofs.lemmas.List.Elements.{All-head}
 use Rattle.std.proofs.lemmas.List.Sums.{sum_by-cons}
 use Rattle.lk_base.specs.declared.word.Aligned.{Aligned}
@@ -14,8 +14,9 @@ use Rattle.lock_model.specs.declared.types.LaneStep.TheVariants as steps
 use Rattle.lock_model.specs.Shows.{shown_in}
 use Rattle.lane_lock.specs.Bytes.{Brings, BringsBatch}
 use Rattle.lane_lock.specs.Lane.{LaneState}
-use Rattle.lock_model.proofs.StepsHold.{steps_determined, steps_exist}
-use Rattle.lane_lock.proofs.Dark.{dark_shows_nothing}
+use Rattle.lane_lock.specs.Search.{IsFar}
+use Rattle.lock_model.proofs.StepsHold.{steps_exist}
+use Rattle.lane_lock.proofs.Far.{far_declares_nothing}
 use Rattle.event_model.specs.Fed.{Fed, first_bits}
 use Rattle.event_model.proofs.Clocks.{length-bits}
 use Rattle.deskew.specs.Ahead.{is_inside, is_locked, keeps_lock, AreLong}
@@ -28,7 +29,7 @@ use Rattle.deskew.specs.Ticks.{AreTicks, steps_in, tick_at, ticks_of}
 use Rattle.deskew.proofs.Awaiting.{batch_awaits}
 use Rattle.deskew.proofs.Columns.{batch_of_columns, columns_keep_locks, columns_more, one_more}
 use Rattle.deskew.proofs.Running.{running_ends}
-use Rattle.rx_front.specs.Batches.{AreBatches, IsBatch, IsBatchOf, IsDarkFor, KeepLocks, MayTake, TookBatch, both}
+use Rattle.rx_front.specs.Batches.{AreBatches, IsBatch, IsBatchOf, KeepLocks, MayTake, TookBatch, both}
 use Rattle.rx_front.specs.Lanes.{AllStand, AreCovered, AreWide, HasBytes, LaneStands, bytes_left}
 use Rattle.rx_front.specs.States.{Lane, State}
 use Rattle.rx_front.specs.Locks.{locks_in}
@@ -267,49 +268,50 @@ after_batch later d v = record { lanes = later; left = v.left; deskew = d; waiti
 
 -- ---- the bits may be taken at once
 
-cancel : {A : Type 0} (xs ys zs : List A) → xs ++ ys ≡ xs ++ zs → ys ≡ zs
-cancel [] ys zs e = e
-cancel (x ∷ xs) ys zs e = cancel xs ys zs (let f : xs ++ ys ≡ xs ++ zs = cc in f)
+-- steps none of which declares a lock
+all_keep : (xs : List LaneStep) → ((k at : ℕ) → slice_get xs k ≡ Some (steps.Locked at) → ⊥) → list_all keeps_lock xs ≡ true
+all_keep [] none = refl
+all_keep (steps.Nothing ∷ xs) none = all_keep xs (λ k. none (suc k))
+all_keep (steps.Word w role at ∷ xs) none = all_keep xs (λ k. none (suc k))
+all_keep (steps.Locked at ∷ xs) none = absurd (none 0 at refl)
+all_keep (steps.Lost why at ∷ xs) none = all_keep xs (λ k. none (suc k))
+all_keep (steps.Ended ∷ xs) none = all_keep xs (λ k. none (suc k))
 
-nothings_keep : (n : ℕ) → list_all keeps_lock (replicate n steps.Nothing) ≡ true
-nothings_keep zero = refl
-nothings_keep (suc n) = nothings_keep n
-
--- a lane that stays dark declares no lock
-dark_keeps : (n : ℕ) (v w : Lane) (column before : List LaneStep) (s : Settings) (rounds : ℕ) (fed : Fed) → IsBatch n v w column → LaneStands v s rounds fed before → IsDarkFor n v → list_all keeps_lock column ≡ true
-dark_keeps n v w column before s rounds fed b st dark =
+-- a lane that is far from a declared lock declares none
+far_keeps : (n : ℕ) (v w : Lane) (column before : List LaneStep) (s : Settings) (rounds : ℕ) (fed : Fed) → 8 * n ≤ 67 * 64 → IsBatch n v w column → LaneStands v s rounds fed before → IsFar v.lock →
+    list_all keeps_lock column ≡ true
+far_keeps n v w column before s rounds fed few b st is_far =
     let bits = first_bits (8 * rounds) fed in
     let own = steps_exist s bits in
-    let one = (b.brings s bits own.0 st.lock own.1).1 in
-    let other = dark_shows_nothing v.lock (take n v.ring) dark s bits own.0 st.lock own.1 in
-    let nothings = replicate (8 * length (take n v.ring)) steps.Nothing in
-    let e = steps_determined s (bits ++ bits_of_bytes (take n v.ring)) (own.0 ++ column) (own.0 ++ nothings) one other in
-    ap (λ (xs : List LaneStep). list_all keeps_lock xs) (cancel own.0 column nothings e) ∙ nothings_keep (8 * length (take n v.ring))
+    let all = (b.brings s bits own.0 st.lock own.1).1 in
+    let l = length-bits (take n v.ring) in
+    let t = length-take n v.ring in
+    all_keep column (λ k at. far_declares_nothing v.lock s bits (bits_of_bytes (take n v.ring)) own.0 column k at is_far (omega (arith, few, l, t)) st.lock own.1 all)
 
-are_kept : (n : ℕ) (ls : List deskew.LaneState) (lanes later : List Lane) (s : Settings) (rounds : ℕ) (fed : List Fed) (columns more : List (List LaneStep)) → AreBatches n lanes later more →
-    AllStand lanes s rounds fed columns → KeepLocks n ls lanes → AreKept ls more
-are_kept n [] lanes later s rounds fed columns more b st k = tt
-are_kept n (l ∷ ls) [] [] s rounds fed columns [] b st k = tt
-are_kept n (l ∷ ls) [] [] s rounds fed columns (x ∷ more) b st k = absurd b
-are_kept n (l ∷ ls) [] (w ∷ later) s rounds fed columns more b st k = absurd b
-are_kept n (l ∷ ls) (v ∷ lanes) [] s rounds fed columns more b st k = absurd b
-are_kept n (l ∷ ls) (v ∷ lanes) (w ∷ later) s rounds fed columns [] b st k = absurd b
-are_kept n (l ∷ ls) (v ∷ lanes) (w ∷ later) s rounds [] columns (x ∷ more) b st k = absurd st
-are_kept n (l ∷ ls) (v ∷ lanes) (w ∷ later) s rounds (lane ∷ fed) [] (x ∷ more) b st k = absurd st
-are_kept n (l ∷ ls) (v ∷ lanes) (w ∷ later) s rounds (lane ∷ fed) (column ∷ columns) (x ∷ more) b st k = (
+are_kept : (n : ℕ) (ls : List deskew.LaneState) (lanes later : List Lane) (s : Settings) (rounds : ℕ) (fed : List Fed) (columns more : List (List LaneStep)) → 8 * n ≤ 67 * 64 → AreBatches n lanes later more →
+    AllStand lanes s rounds fed columns → KeepLocks ls lanes → AreKept ls more
+are_kept n [] lanes later s rounds fed columns more few b st k = tt
+are_kept n (l ∷ ls) [] [] s rounds fed columns [] few b st k = tt
+are_kept n (l ∷ ls) [] [] s rounds fed columns (x ∷ more) few b st k = absurd b
+are_kept n (l ∷ ls) [] (w ∷ later) s rounds fed columns more few b st k = absurd b
+are_kept n (l ∷ ls) (v ∷ lanes) [] s rounds fed columns more few b st k = absurd b
+are_kept n (l ∷ ls) (v ∷ lanes) (w ∷ later) s rounds fed columns [] few b st k = absurd b
+are_kept n (l ∷ ls) (v ∷ lanes) (w ∷ later) s rounds [] columns (x ∷ more) few b st k = absurd st
+are_kept n (l ∷ ls) (v ∷ lanes) (w ∷ later) s rounds (lane ∷ fed) [] (x ∷ more) few b st k = absurd st
+are_kept n (l ∷ ls) (v ∷ lanes) (w ∷ later) s rounds (lane ∷ fed) (column ∷ columns) (x ∷ more) few b st k = (
   elim k.0 [
     | inl locked ↦ inl locked
-    | inr dark ↦ inr (dark_keeps n v w x column s rounds lane b.0 st.0 dark)
+    | inr is_far ↦ inr (far_keeps n v w x column s rounds lane few b.0 st.0 is_far)
   ],
-  are_kept n ls lanes later s rounds fed columns more b.1 st.1 k.1,
+  are_kept n ls lanes later s rounds fed columns more few b.1 st.1 k.1,
 )
 
-is_settled : (n : ℕ) (v : State) → MayTake n v → v.deskew.settled ≡ true
-is_settled n v (inl can) = (and_parts v.deskew.settled (is_inside v.deskew.phase) (and_parts (v.deskew.settled && is_inside v.deskew.phase) (list_all is_locked v.deskew.lanes) can).0).0
-is_settled n v (inr may) =
+is_settled : (v : State) → MayTake v → v.deskew.settled ≡ true
+is_settled v (inl can) = (and_parts v.deskew.settled (is_inside v.deskew.phase) (and_parts (v.deskew.settled && is_inside v.deskew.phase) (list_all is_locked v.deskew.lanes) can).0).0
+is_settled v (inr may) =
     (and_parts v.deskew.settled (is_outside v.deskew.phase && list_any (lags (67 * v.deskew.settings.deskew) (highest v.deskew.lanes)) v.deskew.lanes) may.0).0
 
-batch_goes : (n : ℕ) (v : State) (later : List Lane) (s : Settings) (rounds : ℕ) (fed : List Fed) (columns ticks : List (List LaneStep)) (given : List Aligned) (more : List (List LaneStep)) → MayTake n v →
+batch_goes : (n : ℕ) (v : State) (later : List Lane) (s : Settings) (rounds : ℕ) (fed : List Fed) (columns ticks : List (List LaneStep)) (given : List Aligned) (more : List (List LaneStep)) → MayTake v →
     8 * n ≤ 67 * deskews.most_ahead → length more ≡ s.lanes → AreLong (8 * n) more → AreBatches n v.lanes later more → AllStand v.lanes s rounds fed columns → AreTicks s (ticks ++ ticks_of more (8 * n)) →
     deskews.Stands v.deskew s ticks given →
     deskews.StandsAhead (columns_taken 0 more v.deskew) s (ticks ++ ticks_of more (8 * n)) given × (list_all (list_all keeps_lock) (ticks_of more (8 * n)) ≡ true)
@@ -318,10 +320,10 @@ batch_goes n v later s rounds fed columns ticks given more (inl can) few count l
   columns_keep_locks v.deskew s ticks given more (8 * n) can few count are strict,
 )
 batch_goes n v later s rounds fed columns ticks given more (inr may) few count long b st are strict =
-    (let a = batch_awaits v.deskew s ticks given more (8 * n) may.0 few count long (are_kept n v.deskew.lanes v.lanes later s rounds fed columns more b st may.1) are strict in (a.0, a.2))
+    (let a = batch_awaits v.deskew s ticks given more (8 * n) may.0 few count long (are_kept n v.deskew.lanes v.lanes later s rounds fed columns more few b st may.1) are strict in (a.0, a.2))
 
 pub batch_moves : (n : ℕ) (v : State) (later : List Lane) (d : deskew.State) (s : Settings) (fed : List Fed) (items : List Aligned) (t : Progress) → v.over ≡ false → v.left ≡ 0 → 1 ≤ n → n ≤ 536 →
-    All (HasBytes n) v.lanes → MayTake n v → TookBatch n v.lanes later v.deskew d → Stands v s fed items t → MovesOn (after_batch later d v) s fed items t
+    All (HasBytes n) v.lanes → MayTake v → TookBatch n v.lanes later v.deskew d → Stands v s fed items t → MovesOn (after_batch later d v) s fed items t
 batch_moves n v later d s fed items t run left some most has can took st =
     let time = st.time in
     let more = took.columns in
@@ -334,7 +336,7 @@ batch_moves n v later d s fed items t run left some most has can took st =
     (λ k. ap (λ (m : ℕ). tick_at all (m + k)) (sym clock) ∙ later_ticks n v.lanes later s t.rounds k fed t.columns more took.batches st.lanes) in
     let are : AreTicks s (ticks_of t.columns t.clock ++ ticks_of more (8 * n)) = subst (λ (ts : List (List LaneStep)). AreTicks s ts) ticks
     (are_ticks later s (t.rounds + n) (t.clock + 8 * n) fed all st.lane_count (omega (arith, time)) lanes) in
-    let settled = is_settled n v can in
+    let settled = is_settled v can in
     let strict = (running_ends v.deskew s (ticks_of t.columns t.clock) (items ++ v.waiting) settled st.deskew).1 in
     let went = batch_goes n v later s t.rounds fed t.columns (ticks_of t.columns t.clock) (items ++ v.waiting) more can (omega (arith, most)) (long.1 ∙ st.lane_count) long.0 took.batches st.lanes are strict in
     let ran = went.0 in

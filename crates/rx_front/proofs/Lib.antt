@@ -16,4 +16,4 @@ mod Covering
 mod Batching
 mod Slices
 mod Seen
-mod Darkness
+mod Keeping

@@ -5,7 +5,7 @@ use Rattle.lk_base.specs.Link.{Settings}
 use Rattle.lock_model.specs.declared.types.LaneStep.{LaneStep}
 use Rattle.lock_model.specs.Shows.{shown_in}
 use Rattle.lane_lock.specs.Bytes.{Brings}
-use Rattle.lane_lock.specs.Dark.{StaysDark}
+use Rattle.lane_lock.specs.Search.{IsFar}
 use Rattle.deskew.specs.Ahead.{can_run_ahead, is_locked}
 use Rattle.deskew.specs.Awaits.{awaits_lock}
 use Rattle.deskew.specs.Columns.{columns_taken}
@@ -34,19 +34,15 @@ AreBatches n [] [] [] = Unit {0}
 AreBatches n (v ∷ lanes) (w ∷ later) (column ∷ columns) = IsBatch n v w column × AreBatches n lanes later columns
 AreBatches n lanes later columns = ⊥
 
--- it is dark in this many of its next bytes
-abbrev pub IsDarkFor : ℕ → Lane → Type 0
-IsDarkFor n v = StaysDark v.lock (take n v.ring)
+-- each lane is in a declared lock, or far from one
+abbrev pub KeepLocks : List deskew.LaneState → List Lane → Type 0
+KeepLocks [] lanes = Unit {0}
+KeepLocks (l ∷ ls) [] = Unit {0}
+KeepLocks (l ∷ ls) (v ∷ lanes) = ((is_locked l ≡ true) ⊎ IsFar v.lock) × KeepLocks ls lanes
 
--- each lane is in a declared lock, or dark in this many of its next bytes
-abbrev pub KeepLocks : ℕ → List deskew.LaneState → List Lane → Type 0
-KeepLocks n [] lanes = Unit {0}
-KeepLocks n (l ∷ ls) [] = Unit {0}
-KeepLocks n (l ∷ ls) (v ∷ lanes) = ((is_locked l ≡ true) ⊎ IsDarkFor n v) × KeepLocks n ls lanes
-
--- all bits of this many rounds may be taken before an item is given
-abbrev pub MayTake : ℕ → State → Type 0
-MayTake n v = (can_run_ahead v.deskew ≡ true) ⊎ ((awaits_lock v.deskew ≡ true) × KeepLocks n v.deskew.lanes v.lanes)
+-- all bits of at most 536 rounds may be taken before an item is given
+abbrev pub MayTake : State → Type 0
+MayTake v = (can_run_ahead v.deskew ≡ true) ⊎ ((awaits_lock v.deskew ≡ true) × KeepLocks v.deskew.lanes v.lanes)
 
 -- the same of all lanes
 pub record TookBatch (n : ℕ) (lanes later : List Lane) (d e : deskew.State) : Type 0 where

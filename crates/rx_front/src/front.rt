@@ -16,7 +16,7 @@ ghost use Rattle.rx_front.specs.Waiting.{words_in};
 
 use crate::batch::{Batch, MOST_BYTES};
 use crate::block::Block;
-use crate::lane::{Lane, lock_of};
+use crate::fed_lane::{FedLane, lock_of};
 use crate::lanes::{
     are_empty, are_ready, feed_at, finish_at, fresh_lanes, keep_locks, report_at, show_steps,
     take_all, take_batches, take_rounds, whole_rounds, zeros_from,
@@ -33,7 +33,7 @@ use std::marker::Model;
 /// end. A bit of every lane that is not at its end moves the clock of all lanes on by one.
 #[derive(Drop)]
 pub struct Front {
-    lanes: Vec<Lane>,
+    lanes: Vec<FedLane>,
     /// The bits of the last rounds by which the clock has not moved yet.
     left: u32,
     /// How many bits of each lane they took: 8 times 1..=7; none where they were more, since no bit of theirs is left then.
@@ -270,29 +270,28 @@ impl Front {
         ensures there { All (HasBytes result) self.now.lanes }
         ensures left { 1 ≤ result → self.now.left ≡ 0 }
         ensures running { 1 ≤ result → self.now.over ≡ false }
-        ensures ahead { 1 ≤ result → MayTake result self.now }
+        ensures ahead { 1 ≤ result → MayTake self.now }
     {
         if self.left > 0 || self.over {
             return 0;
         }
         let count = whole_rounds(&self.lanes, MOST_BYTES);
-        if count < LEAST_BYTES || !self.may_take(count) {
+        if count < LEAST_BYTES || !self.may_take() {
             return 0;
         }
         count
     }
 
-    // Whether all bits of this many rounds may be taken before an item is given: an epoch goes on in which each lane is in a declared
+    // Whether all bits of at most 536 rounds may be taken before an item is given: an epoch goes on in which each lane is in a declared
     // lock; or none goes on, and none can begin before a lane declares a lock, which no lane does.
-    fn may_take(&self, count: usize) -> bool
-        requires { All (HasBytes count) self.now.lanes }
-        ensures may { result ≡ true → MayTake count self.now }
-        ensures not { length self.now.deskew.lanes ≡ length self.now.lanes → result ≡ false → MayTake count self.now → ⊥ }
+    fn may_take(&self) -> bool
+        ensures may { result ≡ true → MayTake self.now }
+        ensures not { length self.now.deskew.lanes ≡ length self.now.lanes → result ≡ false → MayTake self.now → ⊥ }
     {
         if self.deskew.can_run_ahead() {
             return true;
         }
-        self.deskew.awaits_lock() && keep_locks(&self.lanes, count, &self.deskew)
+        self.deskew.awaits_lock() && keep_locks(&self.lanes, &self.deskew)
     }
 
     // This many rounds at once, each of which finds a byte of every lane. The clock moves on by all their bits.
@@ -302,7 +301,7 @@ impl Front {
         requires there { All (HasBytes count) self.old.lanes }
         requires left { self.old.left ≡ 0 }
         requires running { self.old.over ≡ false }
-        requires ahead { MayTake count self.old }
+        requires ahead { MayTake self.old }
         ensures moves { (s : Settings) (fed : List Fed) (items : List Item) (t : Progress) →
             Stands self.old s fed items t → MovesOn self.new s fed items t }
         ensures less { weight self.new < weight self.old }

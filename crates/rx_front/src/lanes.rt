@@ -2,29 +2,30 @@ ghost use Rattle.std.specs.Prelude.{◌≡◌, ◌<◌, ◌≤◌, true, false, 
 ghost use Rattle.std.specs.Prelude.{◌+◌, ◌^◌, ◌⊎◌, min, take, List, ℕ};
 ghost use Rattle.lk_base.specs.Link.{Settings};
 ghost use Rattle.lock_model.specs.declared.types.LaneStep.{LaneStep as Step};
+ghost use Rattle.lane_lock.specs.Search.{IsFar};
 ghost use Rattle.std.specs.Int.{bit_at};
 ghost use Rattle.event_model.specs.Fed.{Fed};
 ghost use Rattle.rx_front.specs.Calls.{IsReportOf, count_at, is_open, lanes_fed, lanes_finished, room_at};
 ghost use Rattle.rx_front.specs.Lanes.{AllStand, AreCovered, AreTaken, AreWide, HasBytes, IsFresh, are_empty as have_no_byte, are_ready as can_be_taken, step_at};
-ghost use Rattle.rx_front.specs.Batches.{IsDarkFor, KeepLocks, TookBatch};
+ghost use Rattle.rx_front.specs.Batches.{KeepLocks, TookBatch};
 ghost use Rattle.deskew.specs.Steps.{ticked};
 
 use crate::batch::Batch;
-use crate::lane::Lane;
+use crate::fed_lane::FedLane;
 use deskew::Deskew;
 use lk_base::{Link, OutOfMemory};
 use lock_model::LaneReport;
 use std::alloc::Global;
 
 /// The lanes of a link, of which no byte came.
-pub fn fresh_lanes(alloc: Global, link: &Link) -> Result<Vec<Lane>, OutOfMemory>
+pub fn fresh_lanes(alloc: Global, link: &Link) -> Result<Vec<FedLane>, OutOfMemory>
     ensures count { IfOk result (λ lanes. length lanes.items ≡ link.now.lanes) }
     ensures each { IfOk result (λ lanes. All (λ v. IsFresh link.now v) lanes.items) }
     ensures wide { IfOk result (λ lanes. AreWide 8 lanes.items) }
 {
     let mut lanes = Vec::new(alloc);
     for _lane in 0..link.lanes() {
-        let lane = Lane::make(alloc, link)?;
+        let lane = FedLane::make(alloc, link)?;
         match lanes.push(lane) {
             Ok(()) => {}
             Err(_) => return Err(OutOfMemory),
@@ -34,7 +35,7 @@ pub fn fresh_lanes(alloc: Global, link: &Link) -> Result<Vec<Lane>, OutOfMemory>
 }
 
 /// Whether a round can be made: no lane that is not finished lacks a byte.
-pub fn are_ready(lanes: &[Lane]) -> bool
+pub fn are_ready(lanes: &[FedLane]) -> bool
     ensures { result ≡ can_be_taken lanes.now }
 {
     for lane in lanes {
@@ -46,7 +47,7 @@ pub fn are_ready(lanes: &[Lane]) -> bool
 }
 
 /// Whether a round finds no byte of any lane.
-pub fn are_empty(lanes: &[Lane]) -> bool
+pub fn are_empty(lanes: &[FedLane]) -> bool
     ensures { result ≡ have_no_byte lanes.now }
 {
     for lane in lanes {
@@ -58,7 +59,7 @@ pub fn are_empty(lanes: &[Lane]) -> bool
 }
 
 /// A round: it takes one byte of every lane that is not at its end.
-pub fn take_all(lanes: &mut [Lane])
+pub fn take_all(lanes: &mut [FedLane])
     requires { can_be_taken lanes.old ≡ true }
     ensures { AreTaken 1 lanes.old lanes.new }
 {
@@ -68,7 +69,7 @@ pub fn take_all(lanes: &mut [Lane])
 }
 
 /// The deskew takes the steps of bit k of the last rounds, one of each lane.
-pub fn show_steps(lanes: &[Lane], k: u32, deskew: &mut Deskew)
+pub fn show_steps(lanes: &[FedLane], k: u32, deskew: &mut Deskew)
     requires some { 0 < length lanes.now }
     requires few { length lanes.now ≤ 64 }
     requires count { length lanes.now ≡ deskew.old.settings.lanes }
@@ -90,7 +91,7 @@ pub fn zeros_from(number: u64, k: u32, end: u32) -> u32
 }
 
 /// How many rounds at once find a byte of every lane each: at most this many.
-pub fn whole_rounds(lanes: &[Lane], most: usize) -> usize
+pub fn whole_rounds(lanes: &[FedLane], most: usize) -> usize
     ensures most { result ≤ most }
     ensures there { All (HasBytes result) lanes.now }
 {
@@ -101,36 +102,34 @@ pub fn whole_rounds(lanes: &[Lane], most: usize) -> usize
     count
 }
 
-/// Whether in this many rounds no lane declares a lock, since each is in one or stays dark: false only where some lane is in none and
-/// does not stay dark.
-pub fn keep_locks(lanes: &[Lane], count: usize, deskew: &Deskew) -> bool
-    requires there { All (HasBytes count) lanes.now }
+/// Whether in at most 536 rounds no lane declares a lock, since each is in one or far from one: false only where some lane is
+/// neither.
+pub fn keep_locks(lanes: &[FedLane], deskew: &Deskew) -> bool
     requires few { length lanes.now ≤ 64 }
     requires count { length lanes.now ≡ deskew.now.settings.lanes }
-    ensures keep { result ≡ true → KeepLocks count deskew.now.lanes lanes.now }
-    ensures lose { length deskew.now.lanes ≡ length lanes.now → result ≡ false → KeepLocks count deskew.now.lanes lanes.now → ⊥ }
+    ensures keep { result ≡ true → KeepLocks deskew.now.lanes lanes.now }
+    ensures lose { length deskew.now.lanes ≡ length lanes.now → result ≡ false → KeepLocks deskew.now.lanes lanes.now → ⊥ }
 {
     for i in 0..lanes.len() {
         let locked = deskew.is_locked(i as u32);
-        if !declares_none(&lanes[i], locked, count) {
+        if !declares_none(&lanes[i], locked) {
             return false;
         }
     }
     true
 }
 
-// Whether in this many rounds the lane declares no lock, since it is in one, as `locked` says, or stays dark.
-fn declares_none(lane: &Lane, locked: bool, count: usize) -> bool
-    requires { HasBytes count lane.now }
-    ensures none { result ≡ true → (locked ≡ true) ⊎ IsDarkFor count lane.now }
-    ensures some { result ≡ false → (locked ≡ true) ⊎ IsDarkFor count lane.now → ⊥ }
+// Whether in at most 536 rounds the lane declares no lock, since it is in one, as `locked` says, or far from one.
+fn declares_none(lane: &FedLane, locked: bool) -> bool
+    ensures none { result ≡ true → (locked ≡ true) ⊎ IsFar lane.now.lock }
+    ensures some { result ≡ false → (locked ≡ true) ⊎ IsFar lane.now.lock → ⊥ }
 {
-    locked || lane.stays_dark(count)
+    locked || lane.is_far()
 }
 
 /// This many rounds, at most 536, take a byte of every lane each, and the deskew takes the steps that their bits show, lane by lane.
 /// No step is kept.
-pub fn take_batches(lanes: &mut [Lane], count: usize, batch: &mut Batch, deskew: &mut Deskew)
+pub fn take_batches(lanes: &mut [FedLane], count: usize, batch: &mut Batch, deskew: &mut Deskew)
     requires some { 1 ≤ count }
     requires most { count ≤ 536 }
     requires there { All (HasBytes count) lanes.old }
@@ -145,7 +144,7 @@ pub fn take_batches(lanes: &mut [Lane], count: usize, batch: &mut Batch, deskew:
 
 /// This many rounds take a byte of every lane each. Returns at which of their bits some lane may show something: bit k of the number
 /// is 0 only where no lane shows anything at bit k.
-pub fn take_rounds(lanes: &mut [Lane], count: u32) -> u64
+pub fn take_rounds(lanes: &mut [FedLane], count: u32) -> u64
     requires some { 1 ≤ count }
     requires most { count ≤ 7 }
     requires there { All (HasBytes count) lanes.old }
@@ -160,7 +159,7 @@ pub fn take_rounds(lanes: &mut [Lane], count: u32) -> u64
 }
 
 /// Feeds a lane, which is not finished, and returns how many bytes it took.
-pub fn feed_at(lanes: &mut [Lane], lane: u32, piece: &[u8]) -> usize
+pub fn feed_at(lanes: &mut [FedLane], lane: u32, piece: &[u8]) -> usize
     requires unfinished { is_open lane lanes.old ≡ true }
     requires few { count_at lane lanes.old + length piece.now < 2 ^ 57 }
     ensures count { result ≡ min (length piece.now) (room_at lane lanes.old) }
@@ -170,7 +169,7 @@ pub fn feed_at(lanes: &mut [Lane], lane: u32, piece: &[u8]) -> usize
 }
 
 /// No further byte of this lane comes, which is not finished.
-pub fn finish_at(lanes: &mut [Lane], lane: u32)
+pub fn finish_at(lanes: &mut [FedLane], lane: u32)
     requires { is_open lane lanes.old ≡ true }
     ensures { lanes.new ≡ lanes_finished lane lanes.old }
 {
@@ -178,7 +177,7 @@ pub fn finish_at(lanes: &mut [Lane], lane: u32)
 }
 
 /// The report of a lane over the bytes that the rounds took of it.
-pub fn report_at(lanes: &[Lane], lane: u32) -> LaneReport
+pub fn report_at(lanes: &[FedLane], lane: u32) -> LaneReport
     requires { lane < length lanes.now }
     ensures { (s : Settings) (rounds : ℕ) (fed : List Fed) (columns : List (List Step)) → AllStand lanes.now s rounds fed columns → IsReportOf s rounds lane fed result }
 {

@@ -4,8 +4,8 @@
 
 mod batch;
 mod block;
+mod fed_lane;
 mod front;
-mod lane;
 mod lanes;
 
 pub use front::Front;

@@ -22,7 +22,7 @@ returns-clause-moves c = λ s fed items t st.
     let running = subst (λ (v : State). v.over ≡ false) (sym c.self.view_is) c.requires.running in
     let left = subst (λ (v : State). ◌≡◌ {A = ℕ} v.left 0) (sym c.self.view_is) c.requires.left in
     let has = subst (λ (v : State). All (HasBytes n) v.lanes) (sym c.self.view_is) c.requires.there in
-    let can = subst (λ (v : State). MayTake n v) (sym c.self.view_is) c.requires.ahead in
+    let can = subst (λ (v : State). MayTake v) (sym c.self.view_is) c.requires.ahead in
     subst (λ (vs : List Lane). MovesOn (after_batch vs d v) s fed items t) (sym whole)
     (batch_moves n v later d s fed items t running left c.requires.some c.requires.most has can took (subst (λ (v : State). Stands v s fed items t) (sym c.self.view_is) st))
 

@@ -5,7 +5,7 @@ use Rattle.deskew.specs.Steps.{steps_taken}
 use Rattle.lock_model.specs.declared.types.LaneStep.{LaneStep}
 use Rattle.rx_front.specs.States.{Lane}
 use Rattle.rx_front.proofs.Batching.{batch_of}
-use Rattle.rx_front.proofs.lane.Lane.take_batch.Goals as goal
+use Rattle.rx_front.proofs.fed_lane.FedLane.take_batch.Goals as goal
 
 pub returns : goal.returns
 returns c =

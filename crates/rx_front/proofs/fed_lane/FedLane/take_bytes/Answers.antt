@@ -3,7 +3,7 @@ use Rattle.std.proofs.Common.{ℕ, ◌≤◌, sym, ap, subst, length}
 use Rattle.circular_buffer.specs.Buffer.{Buffer}
 use Rattle.rx_front.specs.States.{Lane}
 use Rattle.rx_front.proofs.Rounds.{is_taken}
-use Rattle.rx_front.proofs.lane.Lane.take_bytes.Goals as goal
+use Rattle.rx_front.proofs.fed_lane.FedLane.take_bytes.Goals as goal
 
 pub returns-clause-taken : goal.returns-clause-taken
 returns-clause-taken c =

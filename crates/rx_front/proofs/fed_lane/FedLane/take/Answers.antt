@@ -5,7 +5,7 @@ use Rattle.lane_lock.specs.Lane.{LaneState}
 use Rattle.rx_front.specs.States.{Lane}
 use Rattle.rx_front.specs.Lanes.{LaneStands, is_ready}
 use Rattle.rx_front.proofs.Rounds.{found_at_end, took}
-use Rattle.rx_front.proofs.lane.Lane.take.Goals as goal
+use Rattle.rx_front.proofs.fed_lane.FedLane.take.Goals as goal
 
 pub returns-in-Some : goal.returns-in-Some
 returns-in-Some c = record {

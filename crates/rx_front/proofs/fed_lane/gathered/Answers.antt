@@ -1,7 +1,7 @@
 -- One more byte.
 use Rattle.std.proofs.Common.{◌≤◌, arith}
 use Rattle.rx_front.proofs.Gathering.{gathered_low, none_gathered, one_gathered}
-use Rattle.rx_front.proofs.lane.gathered.Goals as goal
+use Rattle.rx_front.proofs.fed_lane.gathered.Goals as goal
 
 pub loop-k-init : goal.loop-k-init
 loop-k-init c = none_gathered c.args.ring.now

@@ -4,9 +4,10 @@ ghost use Rattle.lk_base.specs.Checksum.{bits_of, bits_of_bytes};
 ghost use Rattle.lk_base.specs.Link.{Settings};
 ghost use Rattle.lock_model.specs.declared.types.LaneStep.{LaneStep as Step};
 ghost use Rattle.lock_model.specs.Low.{is_low};
+ghost use Rattle.lane_lock.specs.Search.{IsFar};
 ghost use Rattle.lane_lock.specs.Standing.{IsReport};
 ghost use Rattle.event_model.specs.Fed.{Fed, first_bits};
-ghost use Rattle.rx_front.specs.Batches.{IsBatchOf, IsDarkFor};
+ghost use Rattle.rx_front.specs.Batches.{IsBatchOf};
 ghost use Rattle.rx_front.specs.Locks.{lock_of};
 ghost use Rattle.rx_front.specs.Lanes.{Covers, HasBytes, IsFresh, IsTaken, LaneStands, fed_lane, finished_lane, is_empty as has_no_byte, is_ready as can_take, step_at};
 
@@ -22,9 +23,9 @@ use std::marker::Model;
 /// The bytes that a lane's ring has room for.
 const ROOM: usize = 4096;
 
-/// One lane of a receiver.
+/// A lane of a receiver, to which bytes are fed: those that no round took, and the locks of those that rounds took.
 #[derive(Drop)]
-pub struct Lane {
+pub struct FedLane {
     /// The bytes that no round took.
     ring: HeapCircularBuffer<u8>,
     /// No further byte comes.
@@ -35,11 +36,11 @@ pub struct Lane {
     steps: LaneSteps,
 }
 
-impl Model for Lane {
+impl Model for FedLane {
     ghost use Rattle.std.specs.Prelude.{◌≡◌, ◌<◌, ◌+◌, ◌*◌, ◌^◌, length};
-    ghost use Rattle.rx_front.specs.States.{Lane as LaneState};
+    ghost use Rattle.rx_front.specs.States.{Lane};
 
-    ghost Value = { LaneState };
+    ghost Value = { Lane };
 
     ghost view = { λ a. record { ring = a.ring.items; finished = a.finished; fed = a.fed; lock = a.steps.lock; steps = a.steps.shown } };
 
@@ -127,9 +128,9 @@ pub fn lock_of(step: LaneStep) -> Option<u64>
     }
 }
 
-impl Lane {
+impl FedLane {
     /// A lane of which no byte came.
-    pub fn make(alloc: Global, link: &Link) -> Result<Lane, OutOfMemory>
+    pub fn make(alloc: Global, link: &Link) -> Result<FedLane, OutOfMemory>
         ensures { IfOk result (λ v. IsFresh link.now v × (length v.steps ≡ 8)) }
     {
         let ring = match HeapCircularBuffer::with_capacity(alloc, ROOM) {
@@ -137,7 +138,7 @@ impl Lane {
             Err(_) => return Err(OutOfMemory),
         };
         let steps = LaneSteps::make(alloc, link)?;
-        Ok(Lane {
+        Ok(FedLane {
             ring,
             finished: false,
             fed: 0,
@@ -196,18 +197,12 @@ impl Lane {
         self.ring.len()
     }
 
-    /// Whether it is dark in this many of its next bytes: then rounds that take them show nothing of it.
-    pub fn stays_dark(&self, count: usize) -> bool
-        requires { HasBytes count self.now }
-        ensures dark { result ≡ true → IsDarkFor count self.now }
-        ensures light { result ≡ false → IsDarkFor count self.now → ⊥ }
+    /// Whether it is far from a declared lock: then rounds that take at most 536 bytes of it, whatever they are, show none.
+    pub fn is_far(&self) -> bool
+        ensures far { result ≡ true → IsFar self.now.lock }
+        ensures near { result ≡ false → IsFar self.now.lock → ⊥ }
     {
-        let (front, behind) = self.ring.as_slices();
-        if count <= front.len() {
-            return self.steps.stays_dark(&front[..count]);
-        }
-        let first = self.steps.stays_dark(front);
-        first && self.steps.stays_dark(&behind[..count - front.len()])
+        self.steps.is_far()
     }
 
     /// This many rounds take a byte of it each. Returns at which of their bits it may show something: bit k of the number is 0 only
