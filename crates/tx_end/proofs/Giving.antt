@@ -13,7 +13,7 @@ use Rattle.lane_model.proofs.Numbers.{split}
 use Rattle.lane_model.specs.Framing.{payloads}
 use Rattle.lane_model.specs.Striping.{lane_payload}
 use Rattle.stream_model.specs.BurstStream.{Source, IsBurstStream}
-use Rattle.tx_end.specs.declared.lane.Lane.{Lane}
+use Rattle.tx_end.specs.declared.lane_writer.LaneWriter.{LaneWriter}
 use Rattle.tx_end.specs.declared.transmitter.Transmitter.{Transmitter}
 use Rattle.tx_end.specs.declared.tx_out.TxOut.{TxOut}
 use Rattle.tx_end.specs.Lanes.{Fills, HasEnded, HasFilled, HasRoom, InTurn, IsCarried, IsEnded, IsFilled}
@@ -99,7 +99,7 @@ block_whole source words block m g n shape count within long on whole =
     take_all n block (omega (arith, full, long))
 
 -- a lane that was given all words awaits its own of the next group
-pub awaits : (s : Settings) (words block group : List Word) (m i : ℕ) (l : Lane) (b : List ℕ) → i < s.lanes → length words ≡ m * group_of s → group ≡ block → IsFilled s words m i l b → Awaits s group (words ++ block) (m + 1) i l b
+pub awaits : (s : Settings) (words block group : List Word) (m i : ℕ) (l : LaneWriter) (b : List ℕ) → i < s.lanes → length words ≡ m * group_of s → group ≡ block → IsFilled s words m i l b → Awaits s group (words ++ block) (m + 1) i l b
 awaits s words block group m i l b h count e k = (
   lane_payload s.lanes words i,
   m,
@@ -118,7 +118,7 @@ all_ended t a k over all given =
     record {
       stream = m.whole;
       files = λ i h.
-          let d : Lane = first_lane t.lanes.items (omega (arith, h, m.turns.count)) in
+          let d : LaneWriter = first_lane t.lanes.items (omega (arith, h, m.turns.count)) in
           file_closed s a.words i m.metaframes (bytes_on i a.outs) k.driven.link m.count
           (subst (λ (b : List ℕ). IsCarried s i (lane_payload s.lanes a.words i) (m.metaframes * s.metaframe) b) (done_on t.turn t.at t.bytes.items a.outs i given)
           (m.turns.had i d (omega (arith, h, all)) h));
@@ -137,15 +137,15 @@ gives t a n k some within =
     let d = k.driven in
     let lane : ℕ = t.turn - 1 in
     let first : List ℕ = take n (drop t.at t.bytes.items) in
-    let started = d.begun (omega (arith, some, within)) in
-    let low : lane < s.lanes = omega (arith, started, d.turn) in
+    let started = d.place.begun (omega (arith, some, within)) in
+    let low : lane < s.lanes = omega (arith, started, d.place.turn) in
     let last : lane + 1 ≡ t.turn = omega (arith, started) in
     let cut : first ++ drop (t.at + n) t.bytes.items ≡ drop t.at t.bytes.items = ap (λ r. first ++ r) (sym (drop-drop n t.at t.bytes.items)) ∙ take-append-drop n (drop t.at t.bytes.items) in
     let same : (i : ℕ) → bytes_on i (a.outs ++ on_lane lane first) ++ left_on t.turn (drop (t.at + n) t.bytes.items) i ≡ made_on t a.outs i =
     λ i. given_on t.turn lane a.outs first (drop (t.at + n) t.bytes.items) i last ∙ ap (λ l. bytes_on i a.outs ++ left_on t.turn l i) cut in
     let more : ℕ → List ℕ = λ i. bytes_on i (a.outs ++ on_lane lane first) ++ left_on t.turn (drop (t.at + n) t.bytes.items) i in (
       record {
-        driven = record { link = d.link; settings = d.settings; shape = d.shape; gave = d.gave; bytes = d.bytes; few = d.few; lists = d.lists; group = d.group; room = d.room; turn = d.turn; at = within; begun = λ h. started };
+        driven = record { link = d.link; settings = d.settings; shape = d.shape; gave = d.gave; bytes = d.bytes; few = d.few; lists = d.lists; place = record { group = d.place.group; room = d.place.room; turn = d.place.turn; at = within; begun = λ h. started } };
         stage = elim k.stage [
           | inl m ↦ inl (
             m.0,
@@ -161,7 +161,7 @@ gives t a n k some within =
               whole = m.1.whole;
               metaframes = m.1.metaframes;
               count = m.1.count;
-              turns = same_turn s.lanes t.turn t.lanes.items (made_on t a.outs) more (IsFilled s a.words m.1.metaframes) (IsEnded s a.words m.1.metaframes) m.1.turns same;
+              turns = same_turn s.lanes t.turn t.lanes.items (made_on t a.outs) more (IsFilled s a.words m.1.metaframes) (λ i _. IsEnded s a.words m.1.metaframes i) m.1.turns same;
             },
           )
         ];
@@ -173,7 +173,7 @@ gives t a n k some within =
 -- ---- a lane makes its bytes
 
 -- the lane whose turn it was is this, and these are its bytes
-abbrev pub after_turn : Transmitter → Vec Lane Global → Vec ℕ Global → Transmitter
+abbrev pub after_turn : Transmitter → Vec LaneWriter Global → Vec ℕ Global → Transmitter
 after_turn t lanes bytes = record { link = t.link; maker = t.maker; list = t.list; lanes = lanes; group = t.group; turn = t.turn + 1; bytes = bytes; at = 0; over = t.over }
 
 -- what the next lane made stands after what is given of it, and the others keep theirs
@@ -183,7 +183,7 @@ more_on turn at i old bytes outs given other = ap (λ l. bytes_on i outs ++ l) (
 own_on : (turn at : ℕ) (old bytes : List ℕ) (outs : List TxOut) → at ≡ length old → (bytes_on turn outs ++ left_on turn (drop at old) turn) ++ bytes ≡ bytes_on turn outs ++ left_on (turn + 1) (drop 0 bytes) turn
 own_on turn at old bytes outs given = ap (λ b. b ++ bytes) (done_on turn at old outs turn given) ∙ sym (ap (λ l. bytes_on turn outs ++ l) (own_left turn bytes))
 
-drives_on : (t : Transmitter) (a : Sending) (lanes : Vec Lane Global) (bytes : Vec ℕ Global) → IsDriven t a.settings a.source a.words → t.turn < a.settings.lanes → HasRoom a.settings bytes → IsDriven (after_turn t lanes bytes) a.settings a.source a.words
+drives_on : (t : Transmitter) (a : Sending) (lanes : Vec LaneWriter Global) (bytes : Vec ℕ Global) → IsDriven t a.settings a.source a.words → t.turn < a.settings.lanes → HasRoom a.settings bytes → IsDriven (after_turn t lanes bytes) a.settings a.source a.words
 drives_on t a lanes bytes d low room = record {
   link = d.link;
   settings = d.settings;
@@ -192,24 +192,26 @@ drives_on t a lanes bytes d low room = record {
   bytes = d.bytes;
   few = d.few;
   lists = d.lists;
-  group = d.group;
-  room = room;
-  turn = omega (arith, low);
-  at = omega arith;
-  begun = λ h. omega arith;
+  place = record {
+    group = d.place.group;
+    room = room;
+    turn = omega (arith, low);
+    at = omega arith;
+    begun = λ h. omega arith;
+  };
 }
 
 -- a metaframe has bytes
 some_made : (b0 b1 x y m : ℕ) (l : ℕ) → 8 * b0 + x ≡ 67 * (m * l) → 8 * (b0 + b1) + y ≡ 67 * ((m + 1) * l) → y < 8 → 32 ≤ l → 0 < b1
 some_made b0 b1 x y m l e f low long = (let p : (m + 1) * l ≡ m * l + l = omega arith in omega (arith, e, f, low, long, p))
 
-pub metaframe_made : (t : Transmitter) (a : Sending) (l : Lane) (lanes : Vec Lane Global) (bytes : Vec ℕ Global) → HasTurn t a → t.over ≡ false → lanes.items ≡ set t.lanes.items t.turn l →
-    ((d : Lane) → Fills a.settings t.turn t.group.items (get_or t.lanes.items t.turn d) l bytes.items) → HasRoom a.settings bytes → Sends (after_turn t lanes bytes) a × (0 < length bytes.items)
+pub metaframe_made : (t : Transmitter) (a : Sending) (l : LaneWriter) (lanes : Vec LaneWriter Global) (bytes : Vec ℕ Global) → HasTurn t a → t.over ≡ false → lanes.items ≡ set t.lanes.items t.turn l →
+    ((d : LaneWriter) → Fills a.settings t.turn t.group.items (get_or t.lanes.items t.turn d) l bytes.items) → HasRoom a.settings bytes → Sends (after_turn t lanes bytes) a × (0 < length bytes.items)
 metaframe_made t a l lanes bytes is going items fills room =
     let (k, low, given) = is in
     let s = a.settings in
     let m = makes_of t a k going in
-    let d : Lane = first_lane t.lanes.items (omega (arith, low, m.turns.count)) in
+    let d : LaneWriter = first_lane t.lanes.items (omega (arith, low, m.turns.count)) in
     let (before, made, filled, words, one) = m.turns.still t.turn d (omega arith) low in
     let next : HasFilled l s t.turn (before ++ lane_payload s.lanes t.group.items t.turn) (made + 1) (made_on t a.outs t.turn ++ bytes.items) = fills d before made (made_on t a.outs t.turn) filled in
     let more : ℕ → List ℕ = λ i. bytes_on i a.outs ++ left_on (t.turn + 1) (drop 0 bytes.items) i in
@@ -231,7 +233,7 @@ metaframe_made t a l lanes bytes is going items fills room =
           record {
             metaframes = m.metaframes;
             count = m.count;
-            turns = subst (λ (xs : List Lane). InTurn s.lanes (t.turn + 1) xs more (Awaits s t.group.items a.words m.metaframes) (IsFilled s a.words m.metaframes)) (sym items) turns;
+            turns = subst (λ (xs : List LaneWriter). InTurn s.lanes (t.turn + 1) xs more (Awaits s t.group.items a.words m.metaframes) (IsFilled s a.words m.metaframes)) (sym items) turns;
           },
         );
         lanes = k.lanes;
@@ -239,20 +241,20 @@ metaframe_made t a l lanes bytes is going items fills room =
       some,
     )
 
-pub end_made : (t : Transmitter) (a : Sending) (l : Lane) (lanes : Vec Lane Global) (bytes : Vec ℕ Global) → HasTurn t a → t.over ≡ true → lanes.items ≡ set t.lanes.items t.turn l →
-    ((d : Lane) (b : List ℕ) → HasEnded (get_or t.lanes.items t.turn d) b (b ++ bytes.items)) → (bytes.items ≡ [] → (d : Lane) → length (get_or t.lanes.items t.turn d).bits ≡ 0) → HasRoom a.settings bytes →
+pub end_made : (t : Transmitter) (a : Sending) (l : LaneWriter) (lanes : Vec LaneWriter Global) (bytes : Vec ℕ Global) → HasTurn t a → t.over ≡ true → lanes.items ≡ set t.lanes.items t.turn l →
+    ((d : LaneWriter) (b : List ℕ) → HasEnded (get_or t.lanes.items t.turn d) b (b ++ bytes.items)) → (bytes.items ≡ [] → (d : LaneWriter) → length (get_or t.lanes.items t.turn d).bits ≡ 0) → HasRoom a.settings bytes →
     Sends (after_turn t lanes bytes) a × (0 ≡ length bytes.items → AreAll a)
 end_made t a l lanes bytes is over items ends none room =
     let (k, low, given) = is in
     let s = a.settings in
     let m = closes_of t a k over in
-    let d : Lane = first_lane t.lanes.items (omega (arith, low, m.turns.count)) in
+    let d : LaneWriter = first_lane t.lanes.items (omega (arith, low, m.turns.count)) in
     let filled = m.turns.still t.turn d (omega arith) low in
     let more : ℕ → List ℕ = λ i. bytes_on i a.outs ++ left_on (t.turn + 1) (drop 0 bytes.items) i in
-    let own : IsEnded s a.words m.metaframes t.turn l (more t.turn) =
-    subst (λ (b : List ℕ). IsEnded s a.words m.metaframes t.turn l b) (own_on t.turn t.at t.bytes.items bytes.items a.outs given)
+    let own : IsEnded s a.words m.metaframes t.turn (more t.turn) =
+    subst (λ (b : List ℕ). IsEnded s a.words m.metaframes t.turn b) (own_on t.turn t.at t.bytes.items bytes.items a.outs given)
     (ends d (made_on t a.outs t.turn) s t.turn (lane_payload s.lanes a.words t.turn) (m.metaframes * s.metaframe) filled.carries) in
-    let turns = one_turn s.lanes t.turn t.lanes.items (made_on t a.outs) more (IsFilled s a.words m.metaframes) (IsEnded s a.words m.metaframes) l m.turns low
+    let turns = one_turn s.lanes t.turn t.lanes.items (made_on t a.outs) more (IsFilled s a.words m.metaframes) (λ i _. IsEnded s a.words m.metaframes i) l m.turns low
     (λ i h other. more_on t.turn t.at i t.bytes.items bytes.items a.outs given other) own in (
       record {
         driven = drives_on t a lanes bytes k.driven low room;
@@ -262,7 +264,7 @@ end_made t a l lanes bytes is over items ends none room =
             whole = m.whole;
             metaframes = m.metaframes;
             count = m.count;
-            turns = subst (λ (xs : List Lane). InTurn s.lanes (t.turn + 1) xs more (IsFilled s a.words m.metaframes) (IsEnded s a.words m.metaframes)) (sym items) turns;
+            turns = subst (λ (xs : List LaneWriter). InTurn s.lanes (t.turn + 1) xs more (IsFilled s a.words m.metaframes) (λ i _. IsEnded s a.words m.metaframes i)) (sym items) turns;
           },
         );
         lanes = k.lanes;

@@ -10,7 +10,7 @@ use Rattle.lk_base.specs.Link.{Settings, group_of}
 use Rattle.lane_model.specs.Framing.{payloads}
 use Rattle.lane_model.specs.Striping.{lane_payload, share}
 use Rattle.lane_model.proofs.StripingHolds.{length-lane_payload, striping_holds}
-use Rattle.tx_end.specs.declared.lane.Lane.{Lane}
+use Rattle.tx_end.specs.declared.lane_writer.LaneWriter.{LaneWriter}
 use Rattle.tx_end.specs.Lanes.{Fills, HasFilled}
 
 share_more : (lanes n b i : ℕ) → i < lanes → share lanes (n * lanes + b) i ≡ n + share lanes b i
@@ -66,7 +66,7 @@ regroup : (m l p : ℕ) → m * (l * p) ≡ m * p * l
 regroup m l p = omega arith
 
 -- a lane made its metaframe of one group more
-pub filled_more : (s : Settings) (i m : ℕ) (words group : List Word) (old new : Lane) (bytes more : List ℕ) → i < s.lanes → length words ≡ m * group_of s → HasFilled old s i (lane_payload s.lanes words i) m bytes → Fills s i group old new more →
+pub filled_more : (s : Settings) (i m : ℕ) (words group : List Word) (old new : LaneWriter) (bytes more : List ℕ) → i < s.lanes → length words ≡ m * group_of s → HasFilled old s i (lane_payload s.lanes words i) m bytes → Fills s i group old new more →
     HasFilled new s i (lane_payload s.lanes (words ++ group) i) (m + 1) (bytes ++ more)
 filled_more s i m words group old new bytes more h e k fills =
     subst (λ (g : List Word). HasFilled new s i g (m + 1) (bytes ++ more)) (sym (payload_append s.lanes (m * payloads s) i words group h (e ∙ regroup m s.lanes (payloads s))))

@@ -6,7 +6,7 @@ ghost use Rattle.lane_model.specs.Striping.{lane_payload};
 ghost use Rattle.metaframe.specs.Writing.{wants_payload};
 ghost use Rattle.tx_end.specs.Lanes.{Carries, Fills, HasEnded, HasFilled, HasRoom};
 
-use crate::lane::Lane;
+use crate::lane_writer::LaneWriter;
 use lk_base::{Link, OutOfMemory, Word};
 use std::alloc::Global;
 
@@ -22,7 +22,7 @@ fn payload_at(group: &[Word], lanes: u32, number: u32, place: usize) -> Word
 
 // Makes the next word of a lane, of the lane's next payload word in the group where it is one, and says how many of these
 // were taken so far.
-fn next_word(lane: &mut Lane, group: &[Word], lanes: u32, number: u32, taken: usize) -> usize
+fn next_word(lane: &mut LaneWriter, group: &[Word], lanes: u32, number: u32, taken: usize) -> usize
     requires waiting { length lane.old.bits < 8 }
     requires lane { number < lanes }
     requires there { wants_payload lane.old.framing ≡ true → taken < length (lane_payload lanes group.now number) }
@@ -42,7 +42,7 @@ fn next_word(lane: &mut Lane, group: &[Word], lanes: u32, number: u32, taken: us
 }
 
 // The next eight payload words of a lane, out of a group.
-fn eight_at(group: &[Word], lanes: u32, number: u32, place: usize) -> [Word; 8]
+fn next_eight(group: &[Word], lanes: u32, number: u32, place: usize) -> [Word; 8]
     requires lane { number < lanes }
     requires there { place + 8 ≤ length (lane_payload lanes group.now number) }
     requires few { place ≤ 2 ^ 20 }
@@ -68,7 +68,7 @@ fn append(bytes: &mut Vec<u8>, more: &[u8])
 }
 
 // Gives the whole bytes that wait.
-fn give_bytes(lane: &mut Lane, bytes: &mut Vec<u8>)
+fn give_bytes(lane: &mut LaneWriter, bytes: &mut Vec<u8>)
     requires many { 64 ≤ length lane.old.bits }
     requires few { length lane.old.bits < 80 }
     requires room { length bytes.old.items + 9 ≤ vec_capacity bytes.old }
@@ -83,7 +83,13 @@ fn give_bytes(lane: &mut Lane, bytes: &mut Vec<u8>)
 
 /// Makes the words of a lane's next metaframe, whose payload words are the lane's own among those of a group. The bytes
 /// become the whole bytes of these words.
-pub fn fill_lane(lane: &mut Lane, link: &Link, group: &[Word], number: u32, bytes: &mut Vec<u8>)
+pub fn fill_lane(
+    lane: &mut LaneWriter,
+    link: &Link,
+    group: &[Word],
+    number: u32,
+    bytes: &mut Vec<u8>,
+)
     requires limits { IsLink link.now }
     requires group { length group.now ≡ group_of link.now }
     requires lane { number < link.now.lanes }
@@ -99,7 +105,7 @@ pub fn fill_lane(lane: &mut Lane, link: &Link, group: &[Word], number: u32, byte
     bytes.clear();
     while place < metaframe {
         if lane.takes_eight() {
-            let eight = eight_at(group, lanes, number, taken);
+            let eight = next_eight(group, lanes, number, taken);
             append(bytes, &lane.payload_eight(&eight));
             taken += 8;
             place += 8;
@@ -112,7 +118,7 @@ pub fn fill_lane(lane: &mut Lane, link: &Link, group: &[Word], number: u32, byte
 }
 
 /// The bytes become the last one of a lane, where bits wait, and none elsewhere.
-pub fn end_lane(lane: &mut Lane, bytes: &mut Vec<u8>)
+pub fn end_lane(lane: &mut LaneWriter, bytes: &mut Vec<u8>)
     requires waiting { length lane.old.bits < 8 }
     requires room { 1 ≤ vec_capacity bytes.old }
     ensures ended { (before : List ℕ) → HasEnded lane.old before (before ++ bytes.new.items) }
@@ -136,7 +142,5 @@ pub fn group_room(alloc: Global, link: &Link) -> Result<Vec<Word>, OutOfMemory>
 pub fn metaframe_room(alloc: Global, link: &Link) -> Result<Vec<u8>, OutOfMemory>
     ensures { IfOk result (λ bytes. (bytes.items ≡ []) × HasRoom link.now bytes) }
 {
-    // The settings of a link are within their limits.
-    link.keeps_limits();
     Ok(Vec::with_capacity(alloc, 9 * link.metaframe() as usize)?)
 }

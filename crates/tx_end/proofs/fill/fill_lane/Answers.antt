@@ -13,15 +13,15 @@ loop-place-init c = record {
   room = (let r = c.requires.room in omega (arith, r, c.clear.ensures.capacity));
 }
 
-pub eight_at-eight-requires-clause-there : goal.eight_at-eight-requires-clause-there
-eight_at-eight-requires-clause-there c =
+pub next_eight-eight-requires-clause-there : goal.next_eight-eight-requires-clause-there
+next_eight-eight-requires-clause-there c =
     let (given, made, before, h) = c.requires.filled in
     let k = c.loop-place.invariant.making given made before h in
     (eight_inside c.args.link.now c.lanes-lanes.result c.args.number made c.loop-place.place c.loop-place.taken c.args.group.now given c.args.lane.now c.loop-place.lane before (before ++ c.loop-place.bytes.items) c.lanes-lanes.ensures c.requires.group c.requires.lane
     (omega (arith, c.loop-place-test.true, c.metaframe-metaframe.ensures)) h k (c.takes_eight.ensures.0 c.if-takes_eight.true).0).0
 
-pub eight_at-eight-requires-clause-few : goal.eight_at-eight-requires-clause-few
-eight_at-eight-requires-clause-few c =
+pub next_eight-eight-requires-clause-few : goal.next_eight-eight-requires-clause-few
+next_eight-eight-requires-clause-few c =
     let (given, made, before, h) = c.requires.filled in
     let k = c.loop-place.invariant.making given made before h in
     let each = group_lane c.args.link.now c.args.group.now c.lanes-lanes.result c.args.number c.lanes-lanes.ensures c.requires.group c.requires.lane in
@@ -43,9 +43,9 @@ append-requires c =
     let t = eight_inside s c.lanes-lanes.result c.args.number made c.loop-place.place c.loop-place.taken c.args.group.now given c.args.lane.now c.loop-place.lane before (before ++ c.loop-place.bytes.items) c.lanes-lanes.ensures c.requires.group c.requires.lane
     (omega (arith, c.loop-place-test.true, c.metaframe-metaframe.ensures)) h k (c.takes_eight.ensures.0 c.if-takes_eight.true).0 in
     let file : List ℕ = c.loop-place.bytes.items ++ c.payload_eight.result in
-    let m = eight_made c.payload_eight.new.self s c.args.number given sent c.eight_at-eight.result c.loop-place.taken made c.loop-place.place before c.loop-place.bytes.items c.payload_eight.result file
+    let m = eight_made c.payload_eight.new.self s c.args.number given sent c.next_eight-eight.result c.loop-place.taken made c.loop-place.place before c.loop-place.bytes.items c.payload_eight.result file
     (c.payload_eight.ensures.carries s c.args.number (given ++ take c.loop-place.taken sent) (made * s.metaframe + c.loop-place.place) (before ++ c.loop-place.bytes.items) k.carries)
-    c.eight_at-eight.ensures refl t.0 c.payload_eight.ensures.empty in
+    c.next_eight-eight.ensures refl t.0 c.payload_eight.ensures.empty in
     let long = bytes_long c.args.lane.now c.payload_eight.new.self s c.args.number made (c.loop-place.place + 8) (c.loop-place.taken + 8) given sent before file h m in
     let both = length-append c.loop-place.bytes.items c.payload_eight.result in
     let room = c.loop-place.invariant.room in
@@ -60,9 +60,9 @@ loop-place-preserved-then-takes_eight c =
     (omega (arith, c.loop-place-test.true, c.metaframe-metaframe.ensures)) h (c.loop-place.invariant.making given made before h) (c.takes_eight.ensures.0 c.if-takes_eight.true).0 in
     record {
       making = λ g m b is.
-          eight_made c.payload_eight.new.self s c.args.number g sent c.eight_at-eight.result c.loop-place.taken m c.loop-place.place b c.loop-place.bytes.items c.payload_eight.result c.append.new.bytes.items
+          eight_made c.payload_eight.new.self s c.args.number g sent c.next_eight-eight.result c.loop-place.taken m c.loop-place.place b c.loop-place.bytes.items c.payload_eight.result c.append.new.bytes.items
           (c.payload_eight.ensures.carries s c.args.number (g ++ take c.loop-place.taken sent) (m * s.metaframe + c.loop-place.place) (b ++ c.loop-place.bytes.items) (c.loop-place.invariant.making g m b is).carries)
-          c.eight_at-eight.ensures c.append.ensures.items t.0 c.payload_eight.ensures.empty;
+          c.next_eight-eight.ensures c.append.ensures.items t.0 c.payload_eight.ensures.empty;
       within = omega (arith, t.1);
       room = (let r = c.loop-place.invariant.room in omega (arith, r, c.append.ensures.room));
     }
@@ -98,7 +98,7 @@ give_bytes-requires-clause-room c =
     let (given, made, before, h) = c.requires.filled in
     let long = bytes_long c.args.lane.now c.loop-place.lane c.args.link.now c.args.number made c.loop-place.place c.loop-place.taken given _ before c.loop-place.bytes.items h (c.loop-place.invariant.making given made before h) in
     let room = c.loop-place.invariant.room in
-    omega (arith, long, room, c.loop-place-test.true, c.metaframe-metaframe.ensures)
+    omega (arith, long, room, c.loop-place-test.true, c.metaframe-metaframe.ensures, c.requires.limits.metaframe.0)
 
 one_more : (m l place : ℕ) → m * l + place + 1 ≡ m * l + (place + 1)
 one_more m l place = omega arith

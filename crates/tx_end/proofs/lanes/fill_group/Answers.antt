@@ -1,7 +1,7 @@
 use Rattle.std.proofs.Common.{ℕ, ◌≡◌, ◌+◌, ◌<◌, [], ◌++◌, ◌∙◌, sym, ap, subst, map, length, get_or, List, arith}
 use Rattle.std.proofs.lemmas.List.{get_or-map, get_or-set_other, get_or-set_same, length-map, length-set, map-set}
 use Rattle.std.proofs.Math.ListN.{set}
-use Rattle.tx_end.specs.declared.lane.Lane.{Lane}
+use Rattle.tx_end.specs.declared.lane_writer.LaneWriter.{LaneWriter}
 use Rattle.tx_end.specs.Lanes.{InTurn, IsFilled}
 use Rattle.tx_end.proofs.Groups.{filled_more}
 use Rattle.tx_end.proofs.Turns.{one_turn}
@@ -31,7 +31,7 @@ loop-number-preserved c =
       files_count = length-set c.loop-number.files n c.extend_from_slice.new.self ∙ c.loop-number.invariant.files_count;
       turns = λ words made e k.
           let i = c.loop-number.invariant.turns words made e k in
-          let lane : Lane = get_or c.loop-number.lanes n c.index-lanes-at.result in
+          let lane : LaneWriter = get_or c.loop-number.lanes n c.index-lanes-at.result in
           let old : List ℕ = get_or files n [] in
           let own : (get_or c.loop-number.files n c.index-files-at.result).items ≡ old = sym (get_or-map (λ file. file.items) c.loop-number.files n c.index-files-at.result [] (omega (arith, low, c.loop-number.invariant.files_count))) in
           let now : file ≡ old ++ c.fill_lane.new.bytes.items = (c.in_ok-extend_from_slice.ensures {u = tt}).items ∙ ap (λ b. b ++ c.deref.result.now) own ∙ ap (λ b. old ++ b) c.deref.ensures.value in

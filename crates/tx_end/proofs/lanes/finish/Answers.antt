@@ -1,7 +1,7 @@
 use Rattle.std.proofs.Common.{ℕ, ◌≡◌, ◌+◌, ◌<◌, [], ◌++◌, ◌∙◌, refl, sym, ap, subst, map, length, get_or, List, arith}
 use Rattle.std.proofs.lemmas.List.{get_or-map, get_or-set_other, get_or-set_same, length-map, length-set, map-set}
 use Rattle.std.proofs.Math.ListN.{set}
-use Rattle.tx_end.specs.declared.lane.Lane.{Lane}
+use Rattle.tx_end.specs.declared.lane_writer.LaneWriter.{LaneWriter}
 use Rattle.tx_end.specs.Lanes.{InTurn, IsEnded, IsFilled}
 use Rattle.tx_end.proofs.Turns.{first_lane, one_turn}
 use Rattle.tx_end.proofs.lanes.finish.Goals as goal
@@ -40,17 +40,17 @@ loop-number-preserved c =
           let low : n < s.lanes = omega (arith, c.loop-number-test.true, k.lanes_count) in
           let same : length c.loop-number.files ≡ s.lanes = long ∙ sym (length-map c.args.files.now (λ file. file.items)) ∙ k.files_count in
           let there : n < length files = (let m = length-map c.loop-number.files (λ file. file.items) in omega (arith, m, low, same)) in
-          let lane : Lane = get_or c.loop-number.lanes n c.index-lanes-number.result in
+          let lane : LaneWriter = get_or c.loop-number.lanes n c.index-lanes-number.result in
           let old : List ℕ = get_or files n [] in
           let own : (get_or c.loop-number.files n c.index-files-number.result).items ≡ old = sym (get_or-map (λ file. file.items) c.loop-number.files n c.index-files-number.result [] (omega (arith, low, same))) in
           let now : file ≡ old ++ c.end_lane.new.bytes.items = (c.in_ok-extend_from_slice.ensures {u = tt}).items ∙ ap (λ b. b ++ c.deref.result.now) own ∙ ap (λ b. old ++ b) c.deref.ensures.value in
           let ended = c.end_lane.ensures.ended old s n _ _ (i.still n c.index-lanes-number.result (omega arith) low).carries in
-          subst (λ (fs : List (List ℕ)). InTurn s.lanes (n + 1) (set c.loop-number.lanes n c.end_lane.new.lane) (λ m. get_or fs m []) (IsFilled s words made) (IsEnded s words made))
+          subst (λ (fs : List (List ℕ)). InTurn s.lanes (n + 1) (set c.loop-number.lanes n c.end_lane.new.lane) (λ m. get_or fs m []) (IsFilled s words made) (λ i _. IsEnded s words made i))
           (sym (map-set (λ file. file.items) c.loop-number.files n c.extend_from_slice.new.self))
-          (one_turn s.lanes n c.loop-number.lanes (λ m. get_or files m []) (λ m. get_or (set files n file) m []) (IsFilled s words made) (IsEnded s words made) c.end_lane.new.lane i low
+          (one_turn s.lanes n c.loop-number.lanes (λ m. get_or files m []) (λ m. get_or (set files n file) m []) (IsFilled s words made) (λ i _. IsEnded s words made i) c.end_lane.new.lane i low
           (λ m h other. get_or-set_other files n m file [] other)
-          (subst (λ (b : List ℕ). IsEnded s words made n c.end_lane.new.lane b) (sym (get_or-set_same files n file [] there))
-          (subst (λ (b : List ℕ). IsEnded s words made n c.end_lane.new.lane b) (sym now) ended)));
+          (subst (λ (b : List ℕ). IsEnded s words made n b) (sym (get_or-set_same files n file [] there))
+          (subst (λ (b : List ℕ). IsEnded s words made n b) (sym now) ended)));
     }
 
 pub returns-clause-ended : goal.returns-clause-ended

@@ -10,5 +10,5 @@ invariant-loop-number l = record {
   lanes_count : length l.lanes ≡ length l.fn.lanes;
   files_count : length l.files ≡ length l.fn.files;
   turns : (s : Settings) (words : List Word) (made : ℕ) → AreFilled s words made l.fn.lanes (map (λ file. file.items) l.fn.files) →
-      InTurn s.lanes l.number l.lanes (λ i. get_or (map (λ file. file.items) l.files) i []) (IsFilled s words made) (IsEnded s words made);
+      InTurn s.lanes l.number l.lanes (λ i. get_or (map (λ file. file.items) l.files) i []) (IsFilled s words made) (λ i _. IsEnded s words made i);
 }

@@ -21,14 +21,14 @@ pass_block-requires c =
     let d = k.driven in
     let m = makes_of c.args.self.now a k going in
     let block = c.next_block.new.block in
-    let old : length c.deref_mut.result.now ≡ group_of a.settings = ap length c.deref_mut.ensures.value ∙ d.group in
+    let old : length c.deref_mut.result.now ≡ group_of a.settings = ap length c.deref_mut.ensures.value ∙ d.place.group in
     let long : length block ≡ group_of a.settings = c.next_block.ensures.long ∙ old in
     let whole = c.next_block.ensures.whole a.source a.words d.gave in
     let first : take c.next_block.result block ≡ block =
     block_whole a.source a.words block m.metaframes (group_of a.settings) c.next_block.result d.shape.group m.count (let w = c.next_block.ensures.within in omega (arith, w, old)) long
     (c.is_over.ensures.going a.source a.words d.gave c.if-is_over.false) (λ l. whole (omega (arith, l, old))) in
     let gave : GaveWords c.next_block.new.self a.source (a.words ++ block) = subst (λ (b : List Word). GaveWords c.next_block.new.self a.source (a.words ++ b)) first (c.next_block.ensures.given a.source a.words d.gave) in
-    let items : (with_items c.args.self.now.group block).items ≡ block = with_items_is c.args.self.now.group block (long ∙ sym d.group ∙ sym c.args.self.now.group.ok.0) in
+    let items : (with_items c.args.self.now.group block).items ≡ block = with_items_is c.args.self.now.group block (long ∙ sym d.place.group ∙ sym c.args.self.now.group.ok.0) in
     let same : c.deref.result.now ≡ c.next_block.new.block = c.deref.ensures.value ∙ items in
     let words : List Word = a.words ++ c.next_block.new.block in
     let short = few_made c.next_block.new.self a.source words gave in
@@ -58,11 +58,13 @@ returns-then-is_over c a (k, going, all, given) =
             bytes = d.bytes;
             few = d.few;
             lists = d.lists;
-            group = d.group;
-            room = d.room;
-            turn = omega arith;
-            at = d.at;
-            begun = λ h. absurd (omega (arith, h, given));
+            place = record {
+              group = d.place.group;
+              room = d.place.room;
+              turn = omega arith;
+              at = d.place.at;
+              begun = λ h. absurd (omega (arith, h, given));
+            };
           };
           stage = inr (
             refl,
@@ -70,7 +72,7 @@ returns-then-is_over c a (k, going, all, given) =
               whole = c.is_over.ensures.over a.source a.words d.gave c.if-is_over.true;
               metaframes = m.metaframes;
               count = m.count;
-              turns = next_turn s.lanes t.turn t.lanes.items (made_on t a.outs) (λ i. bytes_on i a.outs ++ left_on 0 (drop t.at t.bytes.items) i) (Awaits s t.group.items a.words m.metaframes) (IsFilled s a.words m.metaframes) (IsFilled s a.words m.metaframes) (IsEnded s a.words m.metaframes)
+              turns = next_turn s.lanes t.turn t.lanes.items (made_on t a.outs) (λ i. bytes_on i a.outs ++ left_on 0 (drop t.at t.bytes.items) i) (Awaits s t.group.items a.words m.metaframes) (IsFilled s a.words m.metaframes) (IsFilled s a.words m.metaframes) (λ i _. IsEnded s a.words m.metaframes i)
                   m.turns (omega (arith, all)) (λ i. done_on 0 t.at t.bytes.items a.outs i given ∙ sym (done_on t.turn t.at t.bytes.items a.outs i given)) (λ i l b h f. f);
             },
           );
@@ -89,14 +91,14 @@ returns-else-is_over c a is =
     let d = k.driven in
     let m = makes_of c.args.self.now a k going in
     let block = c.next_block.new.block in
-    let old : length c.deref_mut.result.now ≡ group_of a.settings = ap length c.deref_mut.ensures.value ∙ d.group in
+    let old : length c.deref_mut.result.now ≡ group_of a.settings = ap length c.deref_mut.ensures.value ∙ d.place.group in
     let long : length block ≡ group_of a.settings = c.next_block.ensures.long ∙ old in
     let whole = c.next_block.ensures.whole a.source a.words d.gave in
     let first : take c.next_block.result block ≡ block =
     block_whole a.source a.words block m.metaframes (group_of a.settings) c.next_block.result d.shape.group m.count (let w = c.next_block.ensures.within in omega (arith, w, old)) long
     (c.is_over.ensures.going a.source a.words d.gave c.if-is_over.false) (λ l. whole (omega (arith, l, old))) in
     let gave : GaveWords c.next_block.new.self a.source (a.words ++ block) = subst (λ (b : List Word). GaveWords c.next_block.new.self a.source (a.words ++ b)) first (c.next_block.ensures.given a.source a.words d.gave) in
-    let items : (with_items c.args.self.now.group block).items ≡ block = with_items_is c.args.self.now.group block (long ∙ sym d.group ∙ sym c.args.self.now.group.ok.0) in
+    let items : (with_items c.args.self.now.group block).items ≡ block = with_items_is c.args.self.now.group block (long ∙ sym d.place.group ∙ sym c.args.self.now.group.ok.0) in
     let group : List Word = (with_items t.group block).items in
     let words : List Word = a.words ++ block in (
       words,
@@ -110,11 +112,13 @@ returns-else-is_over c a is =
             bytes = d.bytes;
             few = d.few;
             lists = subst (λ (b : List Word). Lists c.pass_block.new.self (a.words ++ b) (length a.source.packets)) (c.deref.ensures.value ∙ items) (c.pass_block.ensures a.words (length a.source.packets) d.lists);
-            group = ap length items ∙ long;
-            room = d.room;
-            turn = omega arith;
-            at = d.at;
-            begun = λ h. absurd (omega (arith, h, given));
+            place = record {
+              group = ap length items ∙ long;
+              room = d.place.room;
+              turn = omega arith;
+              at = d.place.at;
+              begun = λ h. absurd (omega (arith, h, given));
+            };
           };
           stage = inl (
             going,

@@ -6,13 +6,13 @@ use Rattle.tx_end.proofs.transmitter.Transmitter.refill.Goals as goal
 
 -- all bytes that were made are given
 given : (t : Transmitter) (a : Sending) → Sends t a → length t.bytes.items ≤ t.at → t.at ≡ length t.bytes.items
-given t a k h = (let at = k.driven.at in omega (arith, at, h))
+given t a k h = (let at = k.driven.place.at in omega (arith, at, h))
 
 turn_of : (t : Transmitter) (a : Sending) → Sends t a → t.turn < length t.lanes.items → length t.bytes.items ≤ t.at → HasTurn t a
 turn_of t a k low all = (let n = lanes_count t a k in (k, omega (arith, n, low), given t a k all))
 
 done_of : (t : Transmitter) (a : Sending) → Sends t a → t.over ≡ false → length t.lanes.items ≤ t.turn → length t.bytes.items ≤ t.at → IsDone t a
-done_of t a k going past all = (let n = lanes_count t a k in let within = k.driven.turn in (k, going, omega (arith, n, past, within), given t a k all))
+done_of t a k going past all = (let n = lanes_count t a k in let within = k.driven.place.turn in (k, going, omega (arith, n, past, within), given t a k all))
 
 pub returns-then-self-len : goal.returns-then-self-len
 returns-then-self-len c a k = (a.words, k, λ e. absurd (omega (arith, c.if-self-len.true, c.len.ensures, c.args.self.now.bytes.ok.0, e)))

@@ -1,6 +1,6 @@
 use Rattle.std.proofs.Common.{◌≡◌, ◌+◌, ◌++◌, length, take}
 use Rattle.lane_model.specs.Striping.{lane_payload}
-use Rattle.tx_end.proofs.fill.eight_at.Given as goal
+use Rattle.tx_end.proofs.fill.next_eight.Given as goal
 
 -- the first words are there
 abbrev pub invariant-loop-k : goal.invariant-loop-k

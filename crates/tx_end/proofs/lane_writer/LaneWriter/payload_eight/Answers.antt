@@ -2,7 +2,7 @@
 use Rattle.std.proofs.Common.{◌++◌, ◌<◌, ◌^◌, subst, rules}
 use Rattle.std.proofs.lemmas.List.{get_or_default}
 use Rattle.tx_end.proofs.LaneSteps.{codes_given}
-use Rattle.tx_end.proofs.lane.Lane.payload_eight.Goals as goal
+use Rattle.tx_end.proofs.lane_writer.LaneWriter.payload_eight.Goals as goal
 
 pub returns-clause-carries : goal.returns-clause-carries
 returns-clause-carries c s lane given made bytes k =
