@@ -7,14 +7,14 @@ use Rattle.link_commands.specs.Values.{planned_value}
 use Rattle.link_commands.proofs.Writing.{came_of, kept_none, stopped_link}
 use Rattle.link_commands.proofs.link.write_clean.Goals as goal
 
-pub returns-in_err-held-clause-writes : goal.returns-in_err-held-clause-writes
-returns-in_err-held-clause-writes g c inputs is =
+pub returns-in_err-received-clause-writes : goal.returns-in_err-received-clause-writes
+returns-in_err-received-clause-writes g c inputs is =
     let value = plan_value c.args.plan.now in
     let r = c.from_residual in
     let p = err_from_is_err_and r.result r.ensures.1 in
-    rw (p.1, p.2) (stopped_link (planned_value c.args.plan.now inputs c.args.schedule.now) c.args.carried.now is (g.S.Store.files c.args.store.now) (the_setting value) (is_the_setting value) c.in_err-held.field-0.0 _
-    (subst (λ lanes. HeldStopped (held_beginning value (the_setting value) (map vec_bytes lanes) (g.S.Store.files c.args.store.now)) value.settings (map vec_bytes lanes) c.in_err-held.field-0.0 (g.S.Store.files c.receive_held.new.store)) c.deref.ensures.value
-    (c.in_err-held.ensures.comes (the_setting value) (is_the_setting value))))
+    rw (p.1, p.2) (stopped_link (planned_value c.args.plan.now inputs c.args.schedule.now) c.args.carried.now is (g.S.Store.files c.args.store.now) (the_setting value) (is_the_setting value) c.in_err-received.field-0.0 _
+    (subst (λ lanes. HeldStopped (held_beginning value (the_setting value) (map vec_bytes lanes) (g.S.Store.files c.args.store.now)) value.settings (map vec_bytes lanes) c.in_err-received.field-0.0 (g.S.Store.files c.receive_held.new.store)) c.deref.ensures.value
+    (c.in_err-received.ensures.comes (the_setting value) (is_the_setting value))))
 
 pub write_received-requires-clause-received : goal.write_received-requires-clause-received
 write_received-requires-clause-received g c =
@@ -23,7 +23,7 @@ write_received-requires-clause-received g c =
     let (inputs, is) = c.requires.carried in (
       inputs,
       was,
-      record { carried = is; came = λ setting is_setting. came_of c.deref.result.now c.args.carried.now.lanes.items c.deref.ensures.value value setting was c.in_ok-held.held.receipt c.in_ok-held.held.lines.items _ (c.in_ok-held.ensures.comes setting is_setting) },
+      record { carried = is; came = λ setting is_setting. came_of c.deref.result.now c.args.carried.now.lanes.items c.deref.ensures.value value setting was c.in_ok-received.received.receipt c.in_ok-received.received.lines.items _ (c.in_ok-received.ensures.comes setting is_setting) },
     )
 
 pub returns-clause-writes : goal.returns-clause-writes
@@ -33,5 +33,5 @@ returns-clause-writes g c inputs is =
     let i = planned_value c.args.plan.now inputs c.args.schedule.now in
     let carried = c.args.carried.now in
     c.write_received.ensures.writes inputs was
-    (record { carried = is; came = λ setting is_setting. came_of c.deref.result.now carried.lanes.items c.deref.ensures.value value setting was c.in_ok-held.held.receipt c.in_ok-held.held.lines.items _ (c.in_ok-held.ensures.comes setting is_setting) })
+    (record { carried = is; came = λ setting is_setting. came_of c.deref.result.now carried.lanes.items c.deref.ensures.value value setting was c.in_ok-received.received.receipt c.in_ok-received.received.lines.items _ (c.in_ok-received.ensures.comes setting is_setting) })
     (λ here. kept_none i here.stream (map vec_bytes carried.lanes.items) carried.words here.kept c.requires.none)

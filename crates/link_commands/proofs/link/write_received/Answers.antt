@@ -55,8 +55,8 @@ returns-in_err-text-clause-writes g c inputs was is counted =
     let came = is.came (the_setting value) (is_the_setting value) in
     let r = c.from_residual in
     let p = err_from_is_err_and r.result r.ensures.1 in
-    rw (p.1, p.2) (writes_link i carried is.carried was (the_setting value) (is_the_setting value) c.args.held.receipt c.args.held.lines.items _ came counts (counted is.carried) (Err stop.OutOfMemory) _ _ refl
-    (memory_writes (held_beginning value (the_setting value) (map vec_bytes carried.lanes.items) was) came.events (is_some carried.held) (text_of i carried is.carried was (the_setting value) (is_the_setting value) counts c.args.held.lines.items came.events) c.args.held.receipt _ came.came))
+    rw (p.1, p.2) (writes_link i carried is.carried was (the_setting value) (is_the_setting value) c.args.received.receipt c.args.received.lines.items _ came counts (counted is.carried) (Err stop.OutOfMemory) _ _ refl
+    (memory_writes (held_beginning value (the_setting value) (map vec_bytes carried.lanes.items) was) came.events (is_some carried.held) (text_of i carried is.carried was (the_setting value) (is_the_setting value) counts c.args.received.lines.items came.events) c.args.received.receipt _ came.came))
 
 pub returns-clause-writes : goal.returns-clause-writes
 returns-clause-writes g c inputs was is counted =
@@ -66,7 +66,7 @@ returns-clause-writes g c inputs was is counted =
     let counts = counts_value c.args.counts.now in
     let b = held_beginning value (the_setting value) (map vec_bytes carried.lanes.items) was in
     let came = is.came (the_setting value) (is_the_setting value) in
-    writes_link i carried is.carried was (the_setting value) (is_the_setting value) c.args.held.receipt c.args.held.lines.items _ came counts (counted is.carried) c.close.result _ c.in_ok-text.text.items
+    writes_link i carried is.carried was (the_setting value) (is_the_setting value) c.args.received.receipt c.args.received.lines.items _ came counts (counted is.carried) c.close.result _ c.in_ok-text.text.items
     (c.in_ok-text.ensures b came.events _ came.came refl
     ∙ ap (λ k. ((((carried.lines.items ++ c.deref-2.result.now) ++ received_text b.setting came.events) ++ count_line counts)
     ++ missing_lines carried.sent.items (missing_of (place_of value.settings k) (found_in came.events) (shown_spans came.events) carried.sent.items)) ++ held_text carried.held)
