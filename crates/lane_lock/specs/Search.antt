@@ -22,17 +22,19 @@ pub record HasFewSyncs (w : WatchState) : Type 0 where
 abbrev pub IsFar : LaneState → Type 0
 IsFar v = MatchBool v.watching (HasFewSyncs v.watch) (highest v.starts.counts ≤ 32)
 
--- no step that the next bits complete, those of 64 words at most, declares a lock: a word lock needs 32 words more, and is declared at
--- its 97th word or later; and 64 words have two Syncs of one place at most, where it takes four in a row
+-- no step that the next bits complete, those of 64 words at most, declares a lock: a word lock that a search finds in them began less
+-- than 33 words ago, and a lock is declared at its 97th word or later; of one that goes on 64 words have two Syncs of one place at most,
+-- where it takes four in a row
 abbrev pub FarDeclaresNothing : Type 0
 FarDeclaresNothing = (v : LaneState) (s : Settings) (bits given : List Bool) (own shown : List LaneStep) (k at : ℕ) → IsFar v → length given ≤ 67 * 64 →
     Stands v s bits → AreSteps s bits own → AreSteps s (bits ++ given) (own ++ shown) → slice_get shown k ≡ Some (steps.Locked at) → ⊥
 
--- each of the last 67 positions of these bits, or one that is up to `words` - 1 words before it, has an illegal header
+-- each of the last 67 positions of these bits at which a whole word is there, or one up to `words` - 1 words before it, has an illegal
+-- header
 abbrev pub MissEach : List Bool → ℕ → Type 0
 MissEach bits words = (j : ℕ) → j < 67 → (i : ℕ) × (1 ≤ i) × (i ≤ words) × (is_legal (code_at bits (length bits + j - 66 - 67 * i)) ≡ false)
 
--- no word lock can be found in these bytes, which come next, and what a search knows after them its last words show
+-- no word lock is found in these bytes, which come next, and their last words alone show what a search knows after them
 pub record CanPass (v : LaneState) (bytes : List ℕ) (words : ℕ) : Type 0 where
   pub searching : v.watching ≡ false
   pub far : highest v.starts.counts ≤ 32
@@ -40,7 +42,8 @@ pub record CanPass (v : LaneState) (bytes : List ℕ) (words : ℕ) : Type 0 whe
   pub begun : v.from + 67 ≤ v.taken
   pub least : 256 ≤ length bytes
   pub most : length bytes ≤ 536
-  -- of each phase a header is illegal in the first 256 bytes, and so early that no word lock that begins before it is found
+  -- each of the 67 positions of a word has an illegal header in the last 24 words of the first 256 bytes: a word lock that began before
+  -- it has too many words to go, and for one that begins after it there are too few
   pub first : (early : ℕ) × (early ≤ 24) × MissEach (bits_of_bytes (take 256 bytes)) early
   -- and one in the last words
   pub few : words ≤ 24

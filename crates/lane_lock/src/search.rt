@@ -19,12 +19,12 @@ use phase_finder::Finder;
 // 67 positions, all of them.
 const ALL: u128 = (1 << 67) - 1;
 
-// How many words are looked at before the positions count as such that may lock.
+// The most words that are looked at: a position that has legal headers in all of them may be one of a word lock.
 const MOST_WORDS: usize = 24;
 
 /// How many of the last words of these bytes show an illegal header at each of 67 positions, at most 24; `None` where more would
 /// have to be looked at. There are at least 256 bytes.
-pub fn words_of_misses(bytes: &[u8]) -> Option<usize>
+pub fn words_to_miss(bytes: &[u8]) -> Option<usize>
     requires long { 256 ≤ length bytes.now }
     requires size { 8 * length bytes.now ≤ 2 ^ 60 }
     ensures few { IfSome result (λ words. words ≤ 24) }

@@ -101,7 +101,8 @@ impl LaneSteps {
     }
 
     /// Whether it is far from a declared lock: no word lock goes on, and no position of its search has more than 32 words with legal
-    /// headers in a row up to the last bit. Then the bits of 64 words, whatever they are, declare none.
+    /// headers in a row up to the last bit; or no lock is declared of the word lock, and at no place of its metaframes more than
+    /// one word in a row, up to the last, was Sync. Then the bits of 64 words, whatever they are, declare none.
     pub fn is_far(&self) -> bool
         ensures far { result ≡ true → IsFar self.now.lock }
         ensures near { result ≡ false → IsFar self.now.lock → ⊥ }

@@ -2,7 +2,7 @@
 use Rattle.std.proofs.Common.{◌≤◌, ◌-◌}
 use Rattle.lk_base.specs.Checksum.{bits_of_bytes}
 use Rattle.lane_lock.proofs.Misses.{MissUnless}
-use Rattle.lane_lock.proofs.search.words_of_misses.Given as goal
+use Rattle.lane_lock.proofs.search.words_to_miss.Given as goal
 
 abbrev pub decreases-loop-legal : goal.decreases-loop-legal
 decreases-loop-legal l = 24 - l.words

@@ -3,7 +3,7 @@ use Rattle.std.proofs.Common.{◌≡◌, ◌+◌, ◌-◌, ◌*◌, ◌≤◌, l
 use Rattle.lk_base.specs.Checksum.{bits_of_bytes}
 use Rattle.lane_model.proofs.FilesHold.{length-flat_map_bits}
 use Rattle.lane_lock.proofs.Misses.{misses_more, misses_none}
-use Rattle.lane_lock.proofs.search.words_of_misses.Goals as goal
+use Rattle.lane_lock.proofs.search.words_to_miss.Goals as goal
 
 pub loop-legal-init : goal.loop-legal-init
 loop-legal-init c = record { few = omega arith; missed = misses_none (bits_of_bytes c.args.bytes.now) }
