@@ -5,10 +5,12 @@
 It prints a table for each size of packets, of the least of three runs each. The ratio is the processor time of a command over that of md5sum on the same capture
 in the same run. The link has 8 lanes and a metaframe of 2,048 words; `receive` reads the lanes that `send` wrote. Channels, where there are many, share the
 capture's bytes evenly. What does not read the capture has a size of its own, and no ratio: `duplex`, `resend`, `oobwrite` and `oobread` go to their limits, or by
-1,000,000 slots. What the program does not know is left out.
+1,000,000 slots. What the program does not know is left out. Then `receive` once more, of the first size, with lane 3 of the eight replaced by one of the same
+length that declares no lock.
 """
 
 import os
+import random
 import subprocess
 import sys
 import tempfile
@@ -49,6 +51,9 @@ OTHERS = [
     ("duplex", "1,000,000 slots", ["duplex", "e.csv"]), ("resend", "4,194,304 events", ["resend", "r.plan"]),
     ("oobwrite", "4.2 MB of samples", ["oobwrite", "s.plan"]), ("oobread", "these samples", ["oobread", "s.plan"]),
 ]
+# The same link with another metaframe: a receiver of `a.plan` finds word locks on its lanes, and declares no lock.
+OTHER = "lanes,8\nmetaframe,1999\nchannel,0,a.pcap\nout,m\n"
+REPLACED = 3
 MISUSED = 2
 RUNS = 3
 
@@ -82,6 +87,35 @@ def cut_words(folder):
         file.write(first)
 
 
+def lane_in_place(kind, folder, length):
+    """The bytes of a lane of this kind."""
+    if kind == "of another metaframe":
+        with open(os.path.join(folder, "m.lane.%d" % REPLACED), "rb") as file:
+            return (file.read(length) * 2)[:length]
+    return bytes(length) if kind == "dark" else random.Random(1).randbytes(length)
+
+
+def lanes_table(program, megabytes, size):
+    print("\n`receive` of that capture with one lane of eight replaced:\n")
+    row("lane", "seconds", "to all as sent")
+    row("---", "---", "---")
+    with tempfile.TemporaryDirectory() as folder:
+        write_inputs(folder, megabytes, size)
+        with open(os.path.join(folder, "m.plan"), "w") as file:
+            file.write(OTHER)
+        measured([program, "send", "a.plan"], folder)
+        measured([program, "send", "m.plan"], folder)
+        _, base, _ = least([program, "receive", "a.plan"], folder)
+        row("as sent", "%.2f" % base, "1.0")
+        name = os.path.join(folder, "o.lane.%d" % REPLACED)
+        length = os.path.getsize(name)
+        for kind in ("dark", "of noise", "of another metaframe"):
+            with open(name, "wb") as file:
+                file.write(lane_in_place(kind, folder, length))
+            _, seconds, _ = least([program, "receive", "a.plan"], folder)
+            row(kind, "%.2f" % seconds, "%.1f" % (seconds / base))
+
+
 def row(*fields):
     print("| " + " | ".join(fields) + " |", flush=True)
 
@@ -108,6 +142,7 @@ def main():
     program, numbers = os.path.abspath(sys.argv[1]), [int(word) for word in sys.argv[2:]]
     for size in numbers[1:] or [1514, 64]:
         table(program, numbers[0] if numbers else 100, size)
+    lanes_table(program, numbers[0] if numbers else 100, (numbers[1:] or [1514])[0])
 
 
 if __name__ == "__main__":
