@@ -30,6 +30,7 @@ EVENTS = 1384 * "send,255\nrepeat,755\ntake,1010\ntakeback,1010\n" + "send,255\n
 STATUS = LINK + "channel,1\nchannel,2\nlocal,s.local\noob,s.oob\nout,s\n"
 FILES = {
     "a.plan": PLAN + "out,o\n", "d.plan": PLAN + "schedule,d.schedule\nout,o\n", "d.schedule": SCHEDULE,
+    "m.plan": "lanes,8\nmetaframe,1999\nchannel,0,a.pcap\nout,m\n",
     "w.plan": LINK + "wide,1\n" + "".join("channel,%d,w.pcap\n" % (65 * n) for n in range(WIDE)) + "out,o\n",
     "n.plan": LINK + "".join("channel,%d,n.pcap\n" % n for n in range(NARROW)) + "out,o\n",
     "e.plan": "lanes,1\nmetaframe,32\nwarmup,4\nchannel,0,e.pcap\nout,e\n", "e.csv": ENDS,
@@ -51,8 +52,7 @@ OTHERS = [
     ("duplex", "1,000,000 slots", ["duplex", "e.csv"]), ("resend", "4,194,304 events", ["resend", "r.plan"]),
     ("oobwrite", "4.2 MB of samples", ["oobwrite", "s.plan"]), ("oobread", "these samples", ["oobread", "s.plan"]),
 ]
-# The same link with another metaframe: a receiver of `a.plan` finds word locks on its lanes, and declares no lock.
-OTHER = "lanes,8\nmetaframe,1999\nchannel,0,a.pcap\nout,m\n"
+# The lane that `receive` gets another in place of. One of `m.plan` has another metaframe, so it gives word locks and no lock.
 REPLACED = 3
 MISUSED = 2
 RUNS = 3
@@ -96,13 +96,12 @@ def lane_in_place(kind, folder, length):
 
 
 def lanes_table(program, megabytes, size):
+    """What `receive` takes with one of the eight lanes replaced."""
     print("\n`receive` of that capture with one lane of eight replaced:\n")
     row("lane", "seconds", "to all as sent")
     row("---", "---", "---")
     with tempfile.TemporaryDirectory() as folder:
         write_inputs(folder, megabytes, size)
-        with open(os.path.join(folder, "m.plan"), "w") as file:
-            file.write(OTHER)
         measured([program, "send", "a.plan"], folder)
         measured([program, "send", "m.plan"], folder)
         _, base, _ = least([program, "receive", "a.plan"], folder)
