@@ -25,6 +25,13 @@ def shown(value):
 class Tally:
     def __init__(self, name):
         self.name, self.passed, self.failed = name, 0, 0
+        sys.excepthook = self.break_off
+
+    def break_off(self, *error):
+        """An exception ends the check; that is a failure like others."""
+        sys.__excepthook__(*error)
+        self.failed += 1
+        self.end()
 
     def count(self, what, wrong=""):
         """One thing was tried. Where it failed, `wrong` says why, and that is printed."""
