@@ -20,8 +20,8 @@ end() { # as tally.py ends the other checks
   exit
 }
 
-holds() { # WHAT FOUND WANTED
-  if [ "$2" = "$3" ]; then
+holds() { # WHAT FOUND WANTED, which is not empty
+  if [ -n "$3" ] && [ "$2" = "$3" ]; then
     passed=$((passed + 1))
   else
     failed=$((failed + 1))
@@ -76,6 +76,13 @@ bit_of() { # METAFRAME WORD BIT
   echo $((67 * (32 * $1 + $2) + $3))
 }
 
+plan "${captures[@]}"
+"$program" send p.plan >sent 2>&1
+if [ ! -s o.lane.0 ]; then
+  failed=1
+  echo "testbench: send leaves no lane, and prints: $(cat sent)"
+  end
+fi
 compile check check32 METAFRAME=32
 compile check check40 METAFRAME=40
 compile make make32 METAFRAME=32 SKIPS=1
@@ -161,7 +168,8 @@ done
 case $(verilator --version 2>/dev/null) in
   'Verilator '[5-9]* | 'Verilator '[1-9][0-9]*)
     for name in check make; do
-      holds "lint of $name" "$(cd "$bench" && verilator --lint-only -Wall --timing -f "$name.f" --top-module "tb_$name" 2>&1)" ''
+      complaints=$(cd "$bench" && verilator --lint-only -Wall --timing -f "$name.f" --top-module "tb_$name" 2>&1)
+      holds "lint of $name" "complaints: $complaints" 'complaints: '
     done
     ;;
   *) echo 'testbench: not tried, no verilator of version 5 or later (Debian package verilator): the lint of both benches' ;;

@@ -147,7 +147,7 @@ def arguments():
     parser.add_argument("library", type=os.path.abspath)
     parser.add_argument("--seconds", type=float, default=120)
     parser.add_argument("cases", nargs="*", default=list(CASES), metavar="CASE")
-    return parser.parse_args()
+    return parser.parse_intermixed_args()
 
 
 def main():
