@@ -67,7 +67,7 @@ ran() { # WHAT WANTED [with|without] WORDS..
 }
 
 calls() {
-  cat "$folder/calls" 2>/dev/null | wc -l
+  grep -c . "$folder/calls" 2>/dev/null
 }
 
 say() { # CRATE TEXT
@@ -78,6 +78,8 @@ settings=()
 release=$(cd "$tree/release" && pwd)/interlaken-x86_64-linux
 (. "$top/tools/sources.bash" && sum_of_sources "$tree" >"$tree/release/sources.sha256")
 (cd "$tree/release" && sha256sum interlaken-x86_64-linux >interlaken-x86_64-linux.sha256)
+cp -a "$tree" "$folder/old"
+from=$EPOCHSECONDS
 before=$(cd "$tree" && find . -printf '%p %T@ %s\n' | sort)
 
 # The release.
@@ -132,11 +134,11 @@ echo "$tree/crates/low/src/lib.rt" >"$folder/meanwhile"
 ran 'sources that change meanwhile' '5 built' with x
 rm "$folder/meanwhile"
 ran 'what was built is of the sources before that' '70 ' without x
-from=$(calls)
+asked=$(calls)
 for _ in 1 2; do (launch with x; echo "$status $(head -n 1 <<<"$text")" >>"$folder/both") & done
 wait
 holds 'two at once' "$(cat "$folder/both")" "$(printf '5 built\n5 built')"
-holds 'of which one builds' "$(($(calls) - from))" 1
+holds 'of which one builds' "$(($(calls) - asked))" 1
 
 # A release that is damaged, or does not start.
 say low 'low as released'
@@ -147,6 +149,19 @@ ran 'a damaged release' '70 ' without x
 printf '#!/bin/no-such-loader\n' >"$release"
 (cd "$tree/release" && sha256sum interlaken-x86_64-linux >interlaken-x86_64-linux.sha256)
 ran 'a release that does not start' '5 built' with x
+
+# A sum that is remembered, which takes files that are some seconds old.
+tree=$folder/old
+sleep $((from + 5 - EPOCHSECONDS > 0 ? from + 5 - EPOCHSECONDS : 0))
+rm -r "$folder/cache"
+ran 'a first start' '5 release' without x
+holds 'the sum is remembered' "$(cat "$folder"/cache/interlaken/*/sum | tail -n 1)" "$(cat "$tree/release/sources.sha256")"
+ran 'a start by the sum that is remembered' '5 release' without x
+touch -r "$tree/crates/low/src/lib.rt" "$folder/time"
+say low 'low as chagned '
+touch -r "$folder/time" "$tree/crates/low/src/lib.rt"
+ran 'a change, then, that keeps length and time' '70 ' without x
+tree=$folder/a\ tree
 
 # tools/release and its check.
 checked() { # WHAT WANTED

@@ -33,17 +33,16 @@ find_parts() { # FOLDER
 }
 
 # SHA-256 of all that the program is built of: the crates' lines, what HANDLES allows, and each file by its SHA-256 and its name.
+# Nothing, and a status that is not 0, where a file cannot be read.
 sum_of_sources() { # FOLDER
   local lines parts sum
   find_parts "$1"
-  read -r sum _ < <(
+  sum=$(
+    set -o pipefail
     cd "$1" && {
-      printf '%s\n' "${lines[@]}"
-      cat HANDLES
-      find "${parts[@]}" -type f -print0 | LC_ALL=C sort -z | xargs -0 sha256sum
+      printf '%s\n' "${lines[@]}" && cat HANDLES && find "${parts[@]}" -type f -print0 | LC_ALL=C sort -z | xargs -0 sha256sum
     } | sha256sum
-  )
-  echo "$sum"
+  ) && echo "${sum%% *}"
 }
 
 # Whether the program is older than a file that it is built of.
