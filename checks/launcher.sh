@@ -4,6 +4,7 @@
 set -u
 top=$(cd "$(dirname "${BASH_SOURCE[0]}")/.." && pwd)
 . "$top/checks/tally.bash"
+[ -x "$top/interlaken" ] || gives_up 'there is no launcher'
 wants python3 python3
 folder=$(mktemp -d)
 trap 'rm -rf "$folder"' EXIT

@@ -4,8 +4,4 @@ top=$(cd "$(dirname "${BASH_SOURCE[0]}")/.." && pwd)
 . "$top/checks/tally.bash"
 program=${INTERLAKEN_PROGRAM:-$(INTERLAKEN_WHICH=1 "$top/interlaken")}
 [ ! -e "$program" ] || program=$(readlink -f "$program")
-if [ ! -x "$program" ]; then
-  echo "$name: there is no program to try"
-  echo "$name: 0 passed, 1 failed"
-  exit 1
-fi
+[ -x "$program" ] || gives_up 'there is no program to try'

@@ -4,8 +4,8 @@
 # has to be there; without it, one that was built in this checkout counts where it is not older than its sources.
 set -u
 top=$(cd "$(dirname "${BASH_SOURCE[0]}")/.." && pwd)
-. "$top/tools/sources.bash"
 . "$top/checks/tally.bash"
+. "$top/tools/sources.bash" || gives_up 'there is no tools/sources.bash'
 cd "$top" || exit 1
 built=${INTERLAKEN_BUILT:-}
 if [ -z "$built" ] && [ -x "crates/$main/out/$main" ] && ! is_older "crates/$main/out/$main" .; then
@@ -17,7 +17,7 @@ holds 'the sum of the sources (after a change tools/release makes another)' "$(s
 if command -v rt >/dev/null 2>&1; then
   holds 'the version of the kit' "$(rt version)" "$(cat release/kit 2>&1)"
 else
-  echo "release: not tried, no kit: the version of the kit"
+  echo "release: not tried, no rt (of the kit): the version of the kit"
 fi
 if [ "$(uname -sm)" != 'Linux x86_64' ]; then
   echo "release: not tried, no Linux on x86-64: the program of the release"

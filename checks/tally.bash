@@ -12,6 +12,13 @@ holds() { # WHAT FOUND WANTED
   fi
 }
 
+# Ends the check where the rest cannot be tried since something is wrong.
+gives_up() { # WHY
+  failed=$((failed + 1))
+  echo "$name: $1"
+  ends
+}
+
 # Prints the last line, and ends the check.
 ends() {
   echo "$name: $passed passed, $failed failed"
