@@ -49,12 +49,12 @@ program_of release >"$tree/release/interlaken-x86_64-linux"
 program_of built >"$folder/built"
 chmod +x "$tree/release/interlaken-x86_64-linux"
 
-# Sets text, errors and status to what the launcher gives, with or without an rt that can be found.
+# Sets text, errors and status to what the launcher gives, with or without an rt that can be found. settings are put before it.
 launch() { # [with|without] WORDS..
   local path=/usr/bin:/bin
   [ "$1" = without ] || path=$folder/bin:$path
   shift
-  text=$(cd "$folder/elsewhere" && env -i "${settings[@]}" XDG_CACHE_HOME="$folder/cache" PATH="$path" "$tree/interlaken" "$@" 2>"$folder/errors")
+  text=$(cd "$folder/elsewhere" && env -i XDG_CACHE_HOME="$folder/cache" PATH="$path" "${settings[@]}" "$tree/interlaken" "$@" 2>"$folder/errors")
   status=$?
   errors=$(cat "$folder/errors")
 }
@@ -155,6 +155,11 @@ ran 'a release that does not start' '5 built' with x
 tree=$folder/old
 sleep $((from + 5 - EPOCHSECONDS > 0 ? from + 5 - EPOCHSECONDS : 0))
 rm -r "$folder/cache"
+settings=(XDG_CACHE_HOME=/dev/null/none)
+ran 'a start where nothing can be remembered' '5 release' without x
+settings+=(INTERLAKEN_PROVE=1)
+ran 'a build where nothing can be written' '70 ' with x
+settings=()
 ran 'a first start' '5 release' without x
 holds 'the sum is remembered' "$(cat "$folder"/cache/interlaken/*/sum | tail -n 1)" "$(cat "$tree/release/sources.sha256")"
 ran 'a start by the sum that is remembered' '5 release' without x
