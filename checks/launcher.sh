@@ -13,7 +13,7 @@ tree=$folder/a\ tree
 mkdir -p "$tree"/{release,checks,tools,.ci} "$folder"/{bin,elsewhere} "$tree"/crates/{low,interlaken,interlaken_main,beside}/src
 cp "$top/interlaken" "$tree"
 cp -r "$top"/tools/{sources.bash,build,building,release} "$tree/tools/"
-cp "$top"/checks/{run,release.sh,tally.bash,program.bash} "$tree/checks/"
+cp "$top"/checks/{run,release.sh,*.bash} "$tree/checks/"
 cp "$top/.ci/run" "$tree/.ci/"
 printf '%s\n' 'low:' 'interlaken: low' 'interlaken_main: interlaken low' 'beside: low' >"$tree/crates.txt"
 echo 'Handles allowed: none.' >"$tree/HANDLES"
@@ -187,7 +187,8 @@ holds 'a release of an older program' "$(PATH=$folder/bin:$PATH "$tree/tools/rel
 echo '# other' >>"$tree/crates/interlaken_main/out/interlaken_main"
 checked 'another program, and a changed source' 'release: 3 passed, 2 failed'
 
-# checks/run and the gate.
+# checks/run and the gate. The name of the file is cut in two here, since a check that has it is one that tries the program.
+begin='. "$(dirname "$0")"/program'.bash
 rm "$tree/checks/release.sh"
 check() { # NAME, and its lines
   local file=$tree/checks/$1.sh
@@ -202,19 +203,19 @@ run_checks() { # WHAT WANTED WORDS..
   holds "$what" "$? $(tail -n 1 <<<"$text")" "$wanted"
 }
 
-check good '. "$(dirname "$0")/program.bash"' 'holds program "$program" "$INTERLAKEN_PROGRAM"' 'ends'
+check good "$begin" 'holds program "$program" "$INTERLAKEN_PROGRAM"' 'ends'
 run_checks 'a check that passes' '0 checks: 1 passed, 0 failed, 0 skipped'
-check wanting '. "$(dirname "$0")/program.bash"' 'wants no-such-tool a-package'
+check wanting "$begin" 'wants no-such-tool a-package'
 run_checks 'a check that is skipped' '0 checks: 1 passed, 0 failed, 1 skipped'
 holds 'why it is skipped' "$(grep -c '^wanting: skipped, no no-such-tool (Debian package a-package)$' <<<"$text")" 1
 run_checks 'nothing but a skip' '1 checks: 0 passed, 0 failed, 1 skipped' wanting
-check bad 'echo in full' '. "$(dirname "$0")/program.bash"' 'holds one 1 2' ends
+check bad 'echo in full' "$begin" 'holds one 1 2' ends
 check silent
 check none 'echo none: 0 passed, 0 failed'
 check late 'echo late: 1 passed, 0 failed' 'exit 3'
 check odd 'echo 1 passed'
 check killed 'kill -9 $$ $PPID'
-check part '. "$(dirname "$0")/program.bash"' 'lacks no-such-tool another all-of-it' 'holds one 1 1' ends
+check part "$begin" 'lacks no-such-tool another all-of-it' 'holds one 1 1' ends
 run_checks 'checks that fail in each way' '1 checks: 2 passed, 6 failed, 1 skipped' --jobs 3
 holds 'what a check printed that failed' "$(grep -c '^in full$' <<<"$text")" 1
 holds 'a part that was not tried' "$(grep -c '^part: not tried, no no-such-tool (Debian package another): all-of-it$' <<<"$text")" 1
@@ -226,7 +227,7 @@ gate() { # WHAT WANTED
 }
 gate 'a gate' '0 checks: 2 passed, 0 failed, 1 skipped'
 holds 'what rt is asked' "$(tail -n 1 "$folder/calls")" 'ci jobs='
-check bad '. "$(dirname "$0")/program.bash"' 'holds program "$program" "$INTERLAKEN_BUILT"' 'holds one 1 2' ends
+check bad "$begin" 'holds program "$program" "$INTERLAKEN_BUILT"' 'holds one 1 2' ends
 gate 'a gate with a check that fails' '1 checks: 2 passed, 1 failed, 1 skipped'
 rm "$tree/checks/bad.sh"
 say low wrong
