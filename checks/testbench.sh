@@ -7,31 +7,10 @@ set -u
 . "$(dirname "$0")/program.bash"
 wants iverilog iverilog
 wants vvp iverilog
-program=$(readlink -f "$program")
 bench=$top/examples/testbench
 folder=$(mktemp -d)
 trap 'rm -rf "$folder"' EXIT
 cp "$top"/examples/{one,two}.pcap "$folder" && cd "$folder" || exit 1
-passed=0 failed=0
-
-end() { # as tally.py ends the other checks
-  echo "testbench: $passed passed, $failed failed"
-  [ "$failed" -eq 0 ] && [ "$passed" -gt 0 ]
-  exit
-}
-
-holds() { # WHAT FOUND WANTED
-  if [ "$2" = "$3" ]; then
-    passed=$((passed + 1))
-  else
-    failed=$((failed + 1))
-    printf '%s:\n  %s\nand not\n  %s\n' "$1" "$2" "$3"
-    if [ "$passed" -eq 0 ] && [ "$failed" -ge 20 ]; then
-      echo 'testbench: nothing passed so far, and the rest is not tried'
-      end
-    fi
-  fi
-}
 
 compile() { # BENCH OUTPUT PARAMETERS..
   local name=$1 output=$folder/$2 parameters=() parameter
@@ -160,10 +139,10 @@ done
 
 case $(verilator --version 2>/dev/null) in
   'Verilator '[5-9]* | 'Verilator '[1-9][0-9]*)
-    for name in check make; do
-      holds "lint of $name" "$(cd "$bench" && verilator --lint-only -Wall --timing -f "$name.f" --top-module "tb_$name" 2>&1)" ''
+    for kind in check make; do
+      holds "lint of $kind" "$(cd "$bench" && verilator --lint-only -Wall --timing -f "$kind.f" --top-module "tb_$kind" 2>&1)" ''
     done
     ;;
   *) echo 'testbench: not tried, no verilator of version 5 or later (Debian package verilator): the lint of both benches' ;;
 esac
-end
+ends
