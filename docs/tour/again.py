@@ -4,8 +4,8 @@ The paths are computed from the events file by the rules of both ends. The scrip
 printed and the words that it wrote are not those that come of it.
 """
 
-from drawing.files import must_agree
 from drawing.svg import COLOURS, Picture
+from reading.files import must_agree
 
 PLAN = "again.plan"
 ROOM, CONTROL = 1024, 2

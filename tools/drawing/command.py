@@ -5,13 +5,13 @@ import os
 import sys
 import tempfile
 
-from drawing.files import Folder, Refused
-from drawing.lane_bits import read_lanes
 from drawing.lanes import draw_lanes
-from drawing.plans import Plan, Schedule, Settings, are_settings
 from drawing.queues import draw_queues
 from drawing.stream import draw_stream
-from drawing.words import Stream, read_spans
+from reading.files import Folder, Refused
+from reading.lane_bits import read_lanes
+from reading.plans import Plan, Schedule, Settings, are_settings
+from reading.words import Stream, read_spans
 
 
 def options_of(words):

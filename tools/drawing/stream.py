@@ -2,7 +2,7 @@
 
 from drawing.axis import best_scale, folded, rows_of
 from drawing.svg import COLOURS, LINE, Labels, Picture, channel_colours, length_of, wrapped
-from drawing.words import meets
+from reading.words import meets
 
 LEFT, WIDTH, FOLD = 104, 900, 48
 ROOM = WIDTH - LEFT - 30

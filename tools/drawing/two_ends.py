@@ -5,8 +5,8 @@ The program tells packets, bytes and peaks alone. What is computed here is compa
 
 from collections import deque, namedtuple
 
-from drawing.files import Refused, must_agree
-from drawing.plans import Plan, Settings
+from reading.files import Refused, must_agree
+from reading.plans import Plan, Settings
 
 TURN_ENTRIES = 16
 

@@ -2,7 +2,7 @@
 
 from collections import Counter
 
-from drawing.files import Refused
+from reading.files import Refused
 
 CODE = 67
 # The least and the most of each number, and what it is where no row says it; None where a row has to.

@@ -1,4 +1,4 @@
-"""What the pictures read: rows, words files and captures, and what the program prints."""
+"""What the tools read: rows, words files and captures, and what the program prints."""
 
 import csv
 import io

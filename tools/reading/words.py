@@ -4,7 +4,7 @@ import re
 from bisect import bisect_right
 from collections import namedtuple
 
-from drawing.files import Refused
+from reading.files import Refused
 
 # A packet of a channel by its number there, from the slot of its SOP word to that of its end word, or None; and its bytes.
 Packet = namedtuple("Packet", "channel number first last data")

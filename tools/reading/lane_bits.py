@@ -3,9 +3,9 @@
 import re
 from collections import Counter
 
-from drawing.axis import merged
-from drawing.files import must_agree
-from drawing.plans import CODE
+from reading.intervals import merged
+from reading.files import must_agree
+from reading.plans import CODE
 
 SYNC = 0x78F678F678F678F6
 HEADERS, ILLEGAL, SEARCHED = 64, 16, 6
