@@ -35,6 +35,12 @@ def shown_name(name):
     return name if is_plain else repr(name)
 
 
+def own_program(tool):
+    """The program of the repository that a tool of this path stands in, where none is named."""
+    places = [os.path.join(os.path.dirname(os.path.dirname(path)), "interlaken") for path in (os.path.abspath(tool), os.path.realpath(tool))]
+    return os.environ.get("INTERLAKEN_PROGRAM") or next((place for place in places if os.path.exists(place)), places[0])
+
+
 class Folder:
     """A folder in which the program runs, and its files. Names are as the program takes them, from this folder on."""
 

@@ -154,6 +154,22 @@ class Flow:
                 yield row, None if follows else "no valid word with the reset bit stands before it"
 
 
+    def off_rows(self, entries):
+        """By channel the row that turned it off, for each channel that is off after all rows, by the calendar's entries."""
+        off, place = {}, 0
+        for row, why in self.effects():
+            if why:
+                continue
+            place = 0 if is_reset(row.word) else place
+            for bit, channel in enumerate(entries[place:place + 16]):
+                if row.word >> 55 - bit & 1:
+                    off.pop(channel, None)
+                else:
+                    off.setdefault(channel, row.row)
+            place += 16
+        return off
+
+
 class Local:
     """The rows of a local file, or none."""
 
