@@ -65,7 +65,7 @@ def dark_flips(schedule):
     """Flips of dark bits, which stay 0."""
     lines = []
     for row, key, numbers in schedule.rows:
-        if key == "flip" and any(first <= numbers[1] < end for first, end in schedule.darks[numbers[0]]):
+        if key == "flip" and schedule.is_dark(*numbers):
             lines.append(warning(schedule.name, row, "flip: bit %d of lane %d is dark, and stays 0" % (numbers[1], numbers[0])))
     return some(lines, "flips are of dark bits")
 
