@@ -33,7 +33,7 @@ def parent_reason(parent, folder):
     while not os.path.exists(above):
         above = os.path.dirname(above) or "."
     if not os.path.isdir(above):
-        return "%s is no folder" % shown_name(above)
+        return "%s is no folder" % shown_name(above if os.path.isabs(folder) else os.path.relpath(above))
     return "the folder %s is not there; `mkdir -p %s` makes it" % (shown_name(folder), folder)
 
 

@@ -6,8 +6,17 @@ from collections import namedtuple
 
 from reading.files import Refused
 
-# A packet of a channel by its number there, from the slot of its SOP word to that of its end word, or None; and its bytes.
-Packet = namedtuple("Packet", "channel number first last data")
+
+
+class Packet(namedtuple("Packet", "channel number first last data end")):
+    """A packet of a channel by its number there, from the slot of its SOP word to that of its end word, or None; its bytes; and its end
+    format."""
+
+    def is_good(self, longest):
+        """Whether a receiver delivers it where no span meets it."""
+        return self.last is not None and self.end & 8 != 0 and len(self.data) <= longest
+
+
 # A fault span between two slots, each None at an end of the stream; why; whether its groups are the sender's; and its two places as
 # the table has them, (group, index) or None.
 Span = namedtuple("Span", "after before why exact places")
@@ -71,7 +80,7 @@ class Stream:
         first, parts = begun
         data = b"".join(self.data[9 * at + 1:9 * at + 9] for begin, end in parts for at in range(begin, end))
         unused = 8 - (end_format & 7 or 8) if end_format & 8 else 0
-        return Packet(channel, number, first, last, data[:len(data) - unused])
+        return Packet(channel, number, first, last, data[:len(data) - unused], end_format)
 
     def runs(self, letters, least):
         """The runs of at least so many words of these letters."""
