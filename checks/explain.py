@@ -96,6 +96,7 @@ MISTAKES = [
     ({"m.duplex": "plan,two_ends.plan\ndelay,10\nmark,99\nslots,500\nback,9,one.pcap\nout,m\n"}, "duplex m.duplex", ["m.duplex:5: back: two_ends.plan does not list channel 9"]),
     ({"m.plan": "lanes,2\nmetaframe,32\nchannel,1\nout,x/y/z\n"}, "send m.plan", ["x/y/z.lane.0: the folder x/y is not there; `mkdir -p x/y` makes it"]),
     ({"m.plan": "lanes,2\nmetaframe,32\nchannel,1\nout,one.pcap/z\n"}, "send m.plan", ["one.pcap/z.lane.0: one.pcap is no folder"]),
+    ({"m.plan": "lanes,2\nmetaframe,32\nchannel,1\nout,full\n"}, "burst m.plan", ["full.words: it is /dev/full, which is no file of a disk"]),
     ({"m.plan": LINK}, "receive m.plan", ["m.lane.0: no such file; `interlaken link m.plan` writes it"]),
     ({"m.txt": "words\ndata 0001020304050607\ndata 00010203040506\n"}, "assemble m.txt", [
         "m.txt:3: 'data 00010203040506' is no line of a listing: 14 digits, and not 16; the lines after `words` are `data X`, `bad X`, `control X` (X: 16 digits of 0 to 9 and A to F), "
@@ -230,6 +231,7 @@ def check_causes(tally, causes):
 
 def check_mistakes(tally, folder):
     """That the tool passes on what the program prints, and says what each mistake is."""
+    os.symlink("/dev/full", folder.path("full.words"))
     for files, command, wanted in MISTAKES:
         for name, data in files.items():
             with open(folder.path(name), "wb") as file:
@@ -240,6 +242,9 @@ def check_mistakes(tally, folder):
         tally.expect("explain %s, text and status" % command, (done.stdout, done.returncode), (alone.stdout, alone.returncode))
         lines = done.stderr.decode().splitlines()
         tally.expect("explain %s" % command, lines[:1] if alone.returncode == 2 else lines, wanted)
+    with open("/dev/full", "w") as full:
+        statuses = [subprocess.run(words + ["burst", "one.pcap"], cwd=folder.folder, stdout=full, stderr=subprocess.DEVNULL).returncode for words in ([PROGRAM], [TOOL, "--program", PROGRAM])]
+    tally.expect("explain with a standard output that is full", statuses, [7, 7])
 
 
 def main():
@@ -250,8 +255,10 @@ def main():
         for name, text in FILES.items():
             with open(folder.path(name), "w", encoding="utf-8") as file:
                 file.write(text)
-        subprocess.run([PROGRAM, "oobwrite", "a.plan"], cwd=path, capture_output=True)
-        subprocess.run([PROGRAM, "burst", "a.plan"], cwd=path, capture_output=True)
+        for command in ("oobwrite", "burst"):
+            done = subprocess.run([PROGRAM, command, "a.plan"], cwd=path, capture_output=True)
+            if done.returncode or not (folder.has("a.oob") if command == "oobwrite" else folder.has("a.words")):
+                tally.give_up("%s a.plan" % command, "status %d, and no file to spoil" % done.returncode)
         causes = Counter()
         check_spoiled(tally, folder, causes)
         check_causes(tally, causes)

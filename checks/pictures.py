@@ -7,6 +7,7 @@ import subprocess
 import sys
 import tempfile
 import xml.etree.ElementTree as xml
+from functools import partial
 
 PROGRAM, TOP = os.path.abspath(sys.argv[1]), os.path.abspath(sys.argv[2])
 sys.path.insert(0, os.path.join(TOP, "tools"))
@@ -200,14 +201,12 @@ def main():
     results = Tally("pictures")
     with tempfile.TemporaryDirectory() as folder:
         shutil.copytree(os.path.join(TOP, "examples"), folder, dirs_exist_ok=True)
-        check_examples(results, folder)
-        check_spoiled(results, folder)
-        check_stale(results, folder)
-        for number in CASES:
-            check_case(results, folder, number)
-        check_wide_link(results, folder)
-        check_pictures(results, folder)
-        check_tour(results, folder)
+        steps = [check_examples, check_spoiled, check_stale] + [partial(check_case, number=number) for number in CASES] + [check_wide_link, check_pictures, check_tour]
+        for step in steps:
+            try:
+                step(results, folder)
+            except (OSError, AttributeError, KeyError, xml.ParseError) as error:
+                results.count("a file or a line that should be there", "%s: %s" % (type(error).__name__, error))
     return results.end()
 
 

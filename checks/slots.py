@@ -22,7 +22,7 @@ from tally import Tally
 PROGRAM, TOP = os.path.abspath(sys.argv[1]), os.path.abspath(sys.argv[2])
 sys.path.insert(0, os.path.join(TOP, "tools"))
 
-from reading.files import Folder
+from reading.files import Folder, Refused
 from reading.lane_bits import bits_of
 from reading.plans import CODE, Plan, Schedule
 
@@ -142,7 +142,11 @@ def main():
                 with open(folder.path(name), "wb") as file:
                     file.write(data)
         for name in EXAMPLES + tuple("random%d" % number for number in range(LINKS)):
-            missing, damage = Link(tally, folder, name).check()
+            try:
+                missing, damage = Link(tally, folder, name).check()
+            except Refused as refused:
+                tally.count(name, str(refused))
+                continue
             lost, struck = lost + missing, struck + damage
     tally.count("lost packets and damaged bits", "" if lost > 50 and struck > 100 else "too few: %d and %d" % (lost, struck))
     return tally.end()
