@@ -179,6 +179,8 @@ def refusal_of(folder, command, name):
     refused = Inputs(folder, command, name, True).refused
     if refused is None:
         return None
+    if refused.told is None:
+        return "status 1: store fault: %s" % refused.name
     return "plan refused: %s" % refused.told if refused.is_plan else "input refused: %s: %s" % (refused.name, refused.told)
 
 

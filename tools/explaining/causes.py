@@ -10,23 +10,26 @@ from reading.plans import EVENTS, PLAN, SCHEDULE, SETTINGS
 from reading.rows import KeyMissing, RowRefused
 
 CAPTURE, WORDS, PLAN_FILE, SETTINGS_FILE = "a capture", "a words file", "a plan", "a file of the settings of two ends"
+SEEN = 1 << 16  # bytes of a file by which its kind is told
 PACKED = {b"\x1f\x8b": "gunzip", b"\x28\xb5": "unzstd", b"\xfd7": "unxz", b"BZ": "bunzip2"}
 # What the program's words for a cause mean, where the inputs do not show it any more.
-MEANINGS = {"text": "a field is not UTF-8", "key": "an unknown key", "fields": "another number of fields", "number": "a number, a word or a state that is not spelled as one",
-            "range": "a number, a name or a number of rows out of range", "repeat": "a second row of what stands once", "clash": "the row contradicts another"}
-LINES = {"words": "`data X`, `bad X`, `control X` (X: 16 digits of 0 to 9 and A to F), `idle sop=..` or `burst sop=..`", "lane": "`sync I`, `state I S`, `code I HH X` or, last, `rest BITS`"}
+MEANINGS = {"text": "a field is not UTF-8", "key": "an unknown key", "fields": "another number of fields",
+            "number": "a number, a word or a state that is not spelled as one", "range": "a number, a name or a number of rows out of range",
+            "repeat": "a second row of what stands once", "clash": "the row contradicts another"}
+LINES = {"words": "`data X`, `bad X`, `control X` (X: 16 digits of 0 to 9 and A to F), `idle sop=..` or `burst sop=..`",
+         "lane": "`sync I`, `state I S`, `code I HH X` or, last, `rest BITS`"}
 
 
-def kind_of(data):
-    """What a file is by its bytes, or None."""
+def kind_of(data, size):
+    """What a file is by its first bytes and its size, or None."""
     if data[:4] in MAGICS or data[:4] == NG_MAGIC:
         return CAPTURE
     if data[:6] == b"words\n" or data[:5] == b"lane\n":
         return "a listing"
-    if data and len(data) % 9 == 0 and not data[::9].translate(None, b"\1\2\3"):
+    if data and size % 9 == 0 and not data[::9].translate(None, b"\1\2\3"):
         return WORDS
     kinds = ((PLAN_FILE, PLAN), (SETTINGS_FILE, SETTINGS), ("a schedule", SCHEDULE), ("events", EVENTS))
-    for row in rows_of(data[:1 << 16]):
+    for row in rows_of(data):
         of_key = [name for name, keys in kinds if row.fields[0] in keys]
         if len(of_key) == 1:
             return of_key[0]
@@ -50,8 +53,8 @@ def lines_of(folder, inputs):
     refused = inputs.refused
     if refused.told == "no file":
         return [absent(folder, inputs, refused)]
-    data = b"" if refused.told == "too large" else folder.content(refused.name)
-    found, wanted = kind_of(data), wanted_kind(inputs, refused)
+    data = folder.beginning(refused.name, SEEN)
+    found, wanted = kind_of(data, folder.size(refused.name)), wanted_kind(inputs, refused)
     lines = []
     if found and wanted and found != wanted:
         lines.append(other_kind(inputs, refused, found, wanted))
@@ -90,8 +93,9 @@ def other_kind(inputs, refused, found, wanted):
 def in_full(refused, data):
     """A refusal with what to do."""
     if refused.told == "pcapng":
-        base = refused.name[:-7] if refused.name.endswith(".pcapng") else refused.name + ".classic"
-        return "%s: a pcapng capture, which is not read; `editcap -F pcap %s %s` makes a classic one of it" % (shown_name(refused.name), shlex.quote(refused.name), shlex.quote(base + ".pcap"))
+        made = (refused.name[:-7] if refused.name.endswith(".pcapng") else refused.name + ".classic") + ".pcap"
+        convert = "editcap -F pcap %s %s" % (shlex.quote(refused.name), shlex.quote(made))
+        return "%s: a pcapng capture, which is not read; `%s` makes a classic one of it" % (shown_name(refused.name), convert)
     unpack = next((tool for magic, tool in PACKED.items() if data.startswith(magic)), None)
     if refused.told and refused.told.startswith("magic") and unpack:
         return "%s: a compressed file, which is not read; `%s %s` unpacks it" % (shown_name(refused.name), unpack, shlex.quote(refused.name))
@@ -105,8 +109,7 @@ def absent(folder, inputs, refused):
     """An absent file: which row names it, and where it may be."""
     told = "%s%s: no such file" % (where_named(refused), shown_name(refused.name))
     if not refused.is_plan and refused.named_by is None and inputs.plan:
-        maker = {"receive": "link", "join": "burst"}[inputs.command]
-        return told + "; `interlaken %s %s` writes it" % (maker, shlex.quote(inputs.name))
+        return told + "; `interlaken %s %s` writes it" % ({"join": "burst"}.get(inputs.command, "link"), shlex.quote(inputs.name))
     return told + "".join("; " + hint for hint in name_hints(folder, inputs, refused.name))
 
 
@@ -145,7 +148,8 @@ def lines_by_text(folder, inputs, text):
     row = re.match(r"(?:.*: )?row (\d+): (\w+)$", text.partition("refused: ")[2], re.DOTALL)
     if row:
         name = inputs.name if kind == "plan" else text.partition("refused: ")[2].rpartition(": row ")[0]
-        return ["%s: row %s (empty lines are not counted): %s; the file is not as it was" % (shown_name(name), row.group(1), MEANINGS.get(row.group(2), row.group(2)))]
+        meaning = MEANINGS.get(row.group(2), row.group(2))
+        return ["%s: row %s (empty lines are not counted): %s; the file is not as it was" % (shown_name(name), row.group(1), meaning)]
     return ["%s: %s; the file is not as it was" % (shown_name(name or inputs.name), why)]
 
 

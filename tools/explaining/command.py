@@ -82,8 +82,8 @@ def meaning(folder, words, status, text):
 def main(words):
     program, words = program_of(words)
     folder, inputs = Folder(program, os.getcwd()), None
-    if len(words) == 2 and usage.fault_of(words) is None:
-        # An output may have the name of an input, so they are read before the run.
+    if len(words) == 2 and usage.fault_of(words) is None and folder.has(words[1]):
+        # An output may have the name of an input, so they are read before the run. What comes through a pipe is left to the program.
         inputs = Inputs(folder, *words, False)
         tell(warnings.before(inputs) if not inputs.refused else [])
     status, text, lines = run(program, words)
