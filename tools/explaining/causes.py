@@ -137,20 +137,20 @@ def name_hints(folder, inputs, name):
 
 # ---- what only the program's text says
 
-def lines_by_text(folder, inputs, text):
+def lines_by_text(folder, command, file, text):
     """What a refusal means by the program's text alone, where the inputs that are there now do not have it."""
     found = re.match(r"(plan|input) refused: (?:(.*): )?(.*)$", text, re.DOTALL)
     if not found:
         return []
     kind, name, why = found.groups()
-    if inputs.command == "assemble":
-        return [listing_fault(folder, inputs.name, why)]
+    if command == "assemble" and folder.has(file):
+        return [listing_fault(folder, file, why)]
     row = re.match(r"(?:.*: )?row (\d+): (\w+)$", text.partition("refused: ")[2], re.DOTALL)
     if row:
-        name = inputs.name if kind == "plan" else text.partition("refused: ")[2].rpartition(": row ")[0]
+        name = file if kind == "plan" else text.partition("refused: ")[2].rpartition(": row ")[0]
         meaning = MEANINGS.get(row.group(2), row.group(2))
-        return ["%s: row %s (empty lines are not counted): %s; the file is not as it was" % (shown_name(name), row.group(1), meaning)]
-    return ["%s: %s; the file is not as it was" % (shown_name(name or inputs.name), why)]
+        return ["%s: row %s (empty lines are not counted): %s; the file is not there as it was" % (shown_name(name), row.group(1), meaning)]
+    return ["%s: %s; the file is not there as it was" % (shown_name(name or file), why)]
 
 
 def listing_fault(folder, name, why):

@@ -31,7 +31,7 @@ def run(program, words):
     found = shutil.which(program)
     if found is None:
         return NOT_BUILT, b"", ["explain: there is no program %s; INTERLAKEN_PROGRAM or %s names it" % (program, OPTION)]
-    done = subprocess.run([os.path.abspath(found)] + words, stdout=subprocess.PIPE)
+    done = subprocess.run([os.path.abspath(found)] + words, stdout=subprocess.PIPE, close_fds=False)
     if done.returncode < 0:
         return 128 - done.returncode, done.stdout, ["explain: the program was stopped by signal %d%s" % (-done.returncode, ": perhaps memory ran out" * (done.returncode == -9))]
     return done.returncode, done.stdout, []
@@ -53,13 +53,14 @@ def refusal_lines(folder, words, text):
     """The refusal in full, where the inputs have the one that the program printed."""
     if len(words) != 2:
         return ["explain: a file that `generate` wrote does not read back as it was written: somebody else changed it meanwhile"]
-    inputs = Inputs(folder, *words, True)
-    refused = inputs.refused
+    is_pipe = os.path.exists(folder.path(words[1])) and not folder.has(words[1])
+    inputs = None if is_pipe else Inputs(folder, *words, True)
+    refused = inputs and inputs.refused
     if refused and refused.told:
         said = "plan refused: %s" % refused.told if refused.is_plan else "input refused: %s: %s" % (refused.name, refused.told)
         if said == text:
             return causes.lines_of(folder, inputs)
-    return causes.lines_by_text(folder, inputs, text)
+    return causes.lines_by_text(folder, *words, text)
 
 
 def meaning(folder, words, status, text):
