@@ -5,11 +5,11 @@ import os
 import re
 import shlex
 
-from reading.files import MAGICS, NG_MAGIC, Refused, is_text, rows_of, shown_name
-from reading.plans import EVENTS, PLAN, SCHEDULE, SETTINGS
-from reading.rows import KeyMissing, RowRefused
+from reading.files import MAGICS, NG_MAGIC, Refused, rows_of, shown_name
+from reading.plans import EVENTS_KIND, PLAN_KIND, SCHEDULE_KIND, SETTINGS_KIND
+from reading.rows import KeyMissing, Kind, RowRefused
 
-CAPTURE, WORDS, PLAN_FILE, SETTINGS_FILE = "a capture", "a words file", "a plan", "a file of the settings of two ends"
+CAPTURE, WORDS, LISTING = "a capture", "a words file", "a listing"
 SEEN = 1 << 16  # bytes of a file by which its kind is told
 PACKED = {b"\x1f\x8b": "gunzip", b"\x28\xb5": "unzstd", b"\xfd7": "unxz", b"BZ": "bunzip2"}
 # What the program's words for a cause mean, where the inputs do not show it any more.
@@ -25,12 +25,11 @@ def kind_of(data, size):
     if data[:4] in MAGICS or data[:4] == NG_MAGIC:
         return CAPTURE
     if data[:6] == b"words\n" or data[:5] == b"lane\n":
-        return "a listing"
+        return LISTING
     if data and size % 9 == 0 and not data[::9].translate(None, b"\1\2\3"):
         return WORDS
-    kinds = ((PLAN_FILE, PLAN), (SETTINGS_FILE, SETTINGS), ("a schedule", SCHEDULE), ("events", EVENTS))
     for row in rows_of(data):
-        of_key = [name for name, keys in kinds if row.fields[0] in keys]
+        of_key = [kind.name for kind in Kind.known if row.fields[0] in kind.keys]
         if len(of_key) == 1:
             return of_key[0]
         if not of_key:
@@ -41,11 +40,12 @@ def kind_of(data, size):
 def wanted_kind(inputs, refused):
     """What the file of a refusal should be."""
     if refused.is_plan:
-        return SETTINGS_FILE if inputs.command == "duplex" else PLAN_FILE
+        return (SETTINGS_KIND if inputs.command == "duplex" else PLAN_KIND).name
     if refused.named_by is None:
         return {"burst": CAPTURE, "join": WORDS, "list": WORDS}.get(inputs.command)
     key = refused.named_by[1].fields[0]
-    return {"channel": CAPTURE, "back": CAPTURE, "plan": PLAN_FILE, "schedule": "a schedule", "events": "events"}.get(key, "a %s file" % key)
+    kinds = {"channel": CAPTURE, "back": CAPTURE, "plan": PLAN_KIND.name, "schedule": SCHEDULE_KIND.name, "events": EVENTS_KIND.name}
+    return kinds.get(key, "a %s file" % key)
 
 
 def lines_of(folder, inputs):
@@ -81,9 +81,9 @@ def where_named(refused):
 
 def other_kind(inputs, refused, found, wanted):
     told = "%s%s is %s, and %s is wanted here" % (where_named(refused), shown_name(refused.name), found, wanted)
-    if refused.named_by is None and not refused.is_plan and found == PLAN_FILE:
+    if refused.named_by is None and not refused.is_plan and found == PLAN_KIND.name:
         return told + ": `%s` takes FILE as a plan only where its name ends in .plan" % inputs.command
-    if refused.is_plan and found == SETTINGS_FILE:
+    if refused.is_plan and found == SETTINGS_KIND.name:
         return told + ": `interlaken duplex %s` takes it" % shlex.quote(refused.name)
     if refused.is_plan and found == CAPTURE and inputs.command in ("send", "link"):
         return told + ", whose rows `channel,c,FILE` name captures"

@@ -23,8 +23,8 @@ SETTINGS = {"plan": Text(NAME), "delay": Number(1, 4096), "mark": Number(1, 6553
             "back": NumberAndText(0, MOST_CHANNEL, NAME, "back,c,FILE", True), "out": Text(PREFIX)}
 SCHEDULE = {"skew": "skew,lane,bits", "flip": "flip,lane,bit", "dark": "dark,lane,first,count"}
 EVENTS = ("send", "rewind", "take", "lose", "repeat", "takeback", "loseback", "repeatback")
-PLAN_KIND, SETTINGS_KIND = Kind("a plan", PLAN), Kind("settings of two ends", SETTINGS)
-SCHEDULE_KIND, EVENTS_KIND = Kind("a schedule", SCHEDULE), Kind("events", EVENTS)
+PLAN_KIND, SETTINGS_KIND = Kind("a plan", PLAN), Kind("a settings file of two ends", SETTINGS)
+SCHEDULE_KIND, EVENTS_KIND = Kind("a schedule", SCHEDULE), Kind("an events file", EVENTS)
 
 
 class Plan(KeyedRows):
