@@ -63,7 +63,8 @@ KEYS = ("lanes", "metaframe", "skips", "deskew", "warmup", "burst_max", "burst_s
         "send", "take", "lose", "Lanes", "lane", "# x", "", "lanes ", "\ufefflanes")
 
 TOOL = os.path.join(TOP, "tools", "explain")
-# Mistakes: the files that are written, the words, and what the tool says of them; of a fault of usage its first line.
+# Mistakes: the files that are written, by their text or by the name of a file that is copied; the words; and what the tool says of
+# them, of a fault of usage its first line.
 LINK = "lanes,2\nmetaframe,32\nchannel,1,one.pcap\nchannel,2,two.pcap\nout,m\n"
 MISTAKES = [
     ({"m.plan": "lane,2\n" + LINK}, "link m.plan", ["m.plan:1: unknown key 'lane': `lanes`?"]),
@@ -112,6 +113,10 @@ MISTAKES = [
         "m.schedule:2: warning: dark: bits 21000 to 21999 go beyond the end of lane 1, which has bits 0 to 21439: it strikes 440 bits of 1000",
         "m.flow:1: warning: channel 2 is turned off here and not turned on again: 2 of its packets are left"]),
     ({}, "link damaged.plan", []),
+    ({}, "receive damaged.plan", []),
+    ({"x.lane.0": "damaged.lane.1", "x.lane.1": "damaged.lane.0", "x.plan": LINK.replace("out,m", "out,x")}, "receive x.plan", [
+        "x.lane.0: warning: it begins with the scrambler state of lane 1: are the files of lanes exchanged?",
+        "x.lane.1: warning: it begins with the scrambler state of lane 0: are the files of lanes exchanged?"]),
 ]
 
 
@@ -236,8 +241,9 @@ def check_mistakes(tally, folder):
     os.symlink("/dev/full", folder.path("full.words"))
     for files, command, wanted in MISTAKES:
         for name, data in files.items():
+            is_copy = isinstance(data, str) and folder.has(data)
             with open(folder.path(name), "wb") as file:
-                file.write(data if isinstance(data, bytes) else data.encode())
+                file.write(folder.content(data) if is_copy else data if isinstance(data, bytes) else data.encode())
         words = command.split(" ") if command else []
         alone = subprocess.run([PROGRAM] + words, cwd=folder.folder, capture_output=True)
         done = subprocess.run([TOOL, "--program", PROGRAM] + words, cwd=folder.folder, capture_output=True)

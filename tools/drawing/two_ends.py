@@ -35,7 +35,7 @@ class Link:
         self.bound = self.mark + self.turns * (longest + 1) + longest + 2 * self.delay + 2
 
     def size(self, left):
-        """The bytes of the next burst of a packet with so many left."""
+        """The bytes of the next burst of a packet that has this many left."""
         if self.burst_max < left < self.burst_max + self.burst_min:
             return self.burst_max - self.burst_min
         return min(left, self.burst_max)

@@ -4,7 +4,8 @@ import re
 from collections import Counter
 
 from reading.files import shown_name
-from reading.plans import CODE
+from reading.lane_bits import FIRST_STATE, bits_of, first_state
+from reading.plans import CODE, MOST_SKEW
 
 # Rows of one kind that have lines of their own; the others are counted.
 SHOWN = 5
@@ -81,7 +82,7 @@ def after(inputs, text):
         lines += beyond_lanes(inputs.plan, inputs.schedule, slots) if inputs.schedule else []
         lines += beyond_stream(inputs.flow, slots) + beyond_stream(inputs.local, slots)
     lines += held(inputs, text) + locks(inputs, text) + accidents(text)
-    return lines
+    return lines + (exchanged(inputs) if inputs.command == "receive" and inputs.plan else [])
 
 
 def beyond_lanes(plan, schedule, slots):
@@ -134,6 +135,19 @@ def locks(inputs, text):
     apart, room = least_spread([int(first) for _, _, first in reports], plan.period), CODE * plan.deskew
     told = "%s: warning: all lanes are locked, and do not align: their Sync words lie %d bits apart, and deskew,%d aligns %d"
     return [told % (plan.out, apart, plan.deskew, room)] if apart > room else []
+
+
+def exchanged(inputs):
+    """Lane files that begin with the scrambler state of another lane."""
+    plan, lines = inputs.plan, []
+    seen = (MOST_SKEW + 2 * plan.period) // 8
+    for lane in range(plan.lanes):
+        name = "%s.lane.%d" % (plan.out, lane)
+        state = first_state(bits_of(inputs.folder.beginning(name, seen))) if inputs.folder.has(name) else None
+        other = lane if state is None else FIRST_STATE - state
+        if other != lane and other < plan.lanes:
+            lines.append("%s: warning: it begins with the scrambler state of lane %d: are the files of lanes exchanged?" % (name, other))
+    return some(lines, "lanes begin with the state of another")
 
 
 def least_spread(places, period):

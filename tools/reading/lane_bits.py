@@ -7,7 +7,8 @@ from reading.intervals import merged
 from reading.files import must_agree
 from reading.plans import CODE
 
-SYNC = 0x78F678F678F678F6
+SYNC, STATE_MARK = 0x78F678F678F678F6, 0b001010
+FIRST_STATE = (1 << 58) - 1  # of lane 0; that of lane i is less by i
 HEADERS, ILLEGAL, SEARCHED = 64, 16, 6
 
 
@@ -25,6 +26,16 @@ def sync_words(bits):
             found.append(at)
             at = bits.find(pattern, at + 1)
     return sorted(found)
+
+
+def first_state(bits):
+    """The state that the Scrambler State word after the first Sync word carries, or None."""
+    for at in sync_words(bits)[:1]:
+        code = bits[at + CODE:at + 2 * CODE]
+        payload = int(code[3:] or "0", 2) ^ ((1 << 64) - 1 if code[:1] == "1" else 0)
+        if len(code) == CODE and code[1:3] == "10" and payload >> 58 == STATE_MARK:
+            return payload & FIRST_STATE
+    return None
 
 
 def first_lock(bits, syncs, metaframe):

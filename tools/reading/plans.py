@@ -12,7 +12,7 @@ from reading.rows import Fault, KeyedRows, Kind, Many, Number, NumberAndText, Te
 CODE = 67
 NAME, PREFIX = 255, 200
 PLAN_LIMIT, ROWS_LIMIT = 1 << 20, 1 << 24
-MOST_CHANNEL, MOST_SLOT, MOST_BIT, MOST_EVENTS = 65535, 16777215, 999999999999, 4194304
+MOST_CHANNEL, MOST_SLOT, MOST_SKEW, MOST_BIT, MOST_EVENTS = 65535, 16777215, 65535, 999999999999, 4194304
 PLAN = {"lanes": Number(1, 64), "metaframe": Number(32, 8192), "skips": Number(1, 4, default=1), "burst_max": Number(64, 4096, 64, 256),
         "burst_short": Number(32, 4096, 8, 64), "deskew": Number(1, 4095, default=7), "warmup": Number(4, 64, default=8),
         "max_packet": Number(1, 262144, default=262144), "link_type": Number(0, 65535, default=1),
@@ -107,7 +107,7 @@ class Schedule:
         form = SCHEDULE[key].split(",")
         must_have_fields(row, (len(form),), SCHEDULE[key])
         numbers = [number_in(row, place, "%s: %s" % (key, form[place])) for place in range(1, len(form))]
-        ranges = {"lane": (0, self.lanes - 1), "bits": (0, 65535), "count": (1, MOST_BIT)}
+        ranges = {"lane": (0, self.lanes - 1), "bits": (0, MOST_SKEW), "count": (1, MOST_BIT)}
         for place, number in enumerate(numbers, 1):
             must_be_within(number, *ranges.get(form[place], (0, MOST_BIT)), place, "%s: %s" % (key, form[place]))
         self.keep(row, key, numbers)

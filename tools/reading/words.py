@@ -82,7 +82,7 @@ class Stream:
         return Packet(channel, number, first, last, data[:len(data) - unused], end_format)
 
     def runs(self, letters, least):
-        """The runs of at least so many words of these letters."""
+        """The runs of at least this many words of these letters."""
         return [match.span() for match in re.finditer("[%s]{%d,}" % (letters, least), self.kinds)]
 
 
