@@ -3,11 +3,12 @@
 import re
 from collections import Counter
 
-from drawing.axis import merged
-from drawing.files import must_agree
-from drawing.plans import CODE
+from reading.intervals import merged
+from reading.files import must_agree
+from reading.plans import CODE
 
-SYNC = 0x78F678F678F678F6
+SYNC, STATE_MARK = 0x78F678F678F678F6, 0b001010
+FIRST_STATE = (1 << 58) - 1  # of lane 0; that of lane i is less by i
 HEADERS, ILLEGAL, SEARCHED = 64, 16, 6
 
 
@@ -25,6 +26,16 @@ def sync_words(bits):
             found.append(at)
             at = bits.find(pattern, at + 1)
     return sorted(found)
+
+
+def first_state(bits):
+    """The state that the Scrambler State word after the first Sync word carries, or None."""
+    for at in sync_words(bits)[:1]:
+        code = bits[at + CODE:at + 2 * CODE]
+        payload = int(code[3:] or "0", 2) ^ ((1 << 64) - 1 if code[:1] == "1" else 0)
+        if len(code) == CODE and code[1:3] == "10" and payload >> 58 == STATE_MARK:
+            return payload & FIRST_STATE
+    return None
 
 
 def first_lock(bits, syncs, metaframe):
@@ -125,14 +136,20 @@ class Lane:
         return sorted([(bit, bit + 1, "inverted") for bit in self.inverted] + [(a, b, "dark") for a, b in self.dark] + [(bit, bit + 1, "changed") for bit in self.other])
 
     def damaged_slots(self, plan):
-        """The slots of the stream whose words are damaged in this lane."""
-        found = set()
+        """The slots of the stream whose words are damaged in this lane, each with the first and the last of its damaged bits."""
+        found = {}
         for first, end, _ in self.damaged():
             for word in range((first - self.front) // CODE, (end - 1 - self.front) // CODE + 1):
-                found.add(word)
+                begin = self.front + CODE * word
+                part = max(first, begin), min(end, begin + CODE) - 1
+                least, most = found.get(word, part)
+                found[word] = min(least, part[0]), max(most, part[1])
         if self.changed is not None:
-            found &= {(bit - self.front) // CODE for bit in self.changed}
-        return {slot for slot in (plan.slot_of(self.number, CODE * word) for word in found) if slot is not None}
+            changed = {(bit - self.front) // CODE for bit in self.changed}
+            found = {word: bits for word, bits in found.items() if word in changed}
+        slots = {plan.slot_of(self.number, CODE * word): bits for word, bits in found.items()}
+        slots.pop(None, None)
+        return slots
 
 
 def read_lanes(folder, plan, schedule, sent=None, text=""):
