@@ -1,6 +1,7 @@
 #!/usr/bin/env bash
 # Runs the launcher in a small tree, with programs that print who they are and an rt that proves nothing: which program is run
-# where, what is built and when; and tools/release and the check of the release there.
+# where, what is built and when; and there tools/release, the check of the release, checks/run with checks that end in each way, and
+# the gate.
 set -u
 top=$(cd "$(dirname "${BASH_SOURCE[0]}")/.." && pwd)
 . "$top/checks/tally.bash"
@@ -9,10 +10,11 @@ wants python3 python3
 folder=$(mktemp -d)
 trap 'rm -rf "$folder"' EXIT
 tree=$folder/a\ tree
-mkdir -p "$tree"/{release,checks,tools} "$folder"/{bin,elsewhere} "$tree"/crates/{low,interlaken,interlaken_main,beside}/src
+mkdir -p "$tree"/{release,checks,tools,.ci} "$folder"/{bin,elsewhere} "$tree"/crates/{low,interlaken,interlaken_main,beside}/src
 cp "$top/interlaken" "$tree"
 cp -r "$top"/tools/{sources.bash,build,building,release} "$tree/tools/"
-cp "$top"/checks/{release.sh,tally.bash} "$tree/checks/"
+cp "$top"/checks/{run,release.sh,*.bash} "$tree/checks/"
+cp "$top/.ci/run" "$tree/.ci/"
 printf '%s\n' 'low:' 'interlaken: low' 'interlaken_main: interlaken low' 'beside: low' >"$tree/crates.txt"
 echo 'Handles allowed: none.' >"$tree/HANDLES"
 for crate in low interlaken interlaken_main beside; do
@@ -47,7 +49,7 @@ RT
 chmod +x "$folder/bin/rt"
 program_of release >"$tree/release/interlaken-x86_64-linux"
 program_of built >"$folder/built"
-chmod +x "$tree/release/interlaken-x86_64-linux"
+chmod +x "$tree/release/interlaken-x86_64-linux" "$folder/built"
 
 # Sets text, errors and status to what the launcher gives, with or without an rt that can be found. settings are put before it.
 launch() { # [with|without] WORDS..
@@ -184,4 +186,50 @@ checked 'a changed source' 'release: 4 passed, 1 failed'
 holds 'a release of an older program' "$(PATH=$folder/bin:$PATH "$tree/tools/release" 2>&1 | grep -c older)" 1
 echo '# other' >>"$tree/crates/interlaken_main/out/interlaken_main"
 checked 'another program, and a changed source' 'release: 3 passed, 2 failed'
+
+# checks/run and the gate. The name of the file is cut in two here, since a check that has it is one that tries the program.
+begin='. "$(dirname "$0")"/program'.bash
+rm "$tree/checks/release.sh"
+check() { # NAME, and its lines
+  local file=$tree/checks/$1.sh
+  shift
+  printf '%s\n' "$@" >"$file"
+}
+
+run_checks() { # WHAT WANTED WORDS..
+  local what=$1 wanted=$2
+  shift 2
+  text=$(env -i PATH=/usr/bin:/bin INTERLAKEN_PROGRAM="$folder/built" "$tree/checks/run" "$@" 2>&1)
+  holds "$what" "$? $(tail -n 1 <<<"$text")" "$wanted"
+}
+
+check good "$begin" 'holds program "$program" "$INTERLAKEN_PROGRAM"' 'ends'
+run_checks 'a check that passes' '0 checks: 1 passed, 0 failed, 0 skipped'
+check wanting "$begin" 'wants no-such-tool a-package'
+run_checks 'a check that is skipped' '0 checks: 1 passed, 0 failed, 1 skipped'
+holds 'why it is skipped' "$(grep -c '^wanting: skipped, no no-such-tool (Debian package a-package)$' <<<"$text")" 1
+run_checks 'nothing but a skip' '1 checks: 0 passed, 0 failed, 1 skipped' wanting
+check bad 'echo in full' "$begin" 'holds one 1 2' ends
+check silent
+check none 'echo none: 0 passed, 0 failed'
+check late 'echo late: 1 passed, 0 failed' 'exit 3'
+check odd 'echo 1 passed'
+check killed 'kill -9 $$ $PPID'
+check part "$begin" 'lacks no-such-tool another all-of-it' 'holds one 1 1' ends
+run_checks 'checks that fail in each way' '1 checks: 2 passed, 6 failed, 1 skipped' --jobs 3
+holds 'what a check printed that failed' "$(grep -c '^in full$' <<<"$text")" 1
+holds 'a part that was not tried' "$(grep -c '^part: not tried, no no-such-tool (Debian package another): all-of-it$' <<<"$text")" 1
+run_checks 'a check that is not there' '2 checks: there is no check absent' absent
+rm "$tree"/checks/{bad,silent,none,late,odd,killed}.sh
+gate() { # WHAT WANTED
+  text=$(cd / && PATH=$folder/bin:/usr/bin:/bin "$tree/.ci/run" 2>/dev/null)
+  holds "$1" "$? $(tail -n 1 <<<"$text")" "$2"
+}
+gate 'a gate' '0 checks: 2 passed, 0 failed, 1 skipped'
+holds 'what rt is asked' "$(tail -n 1 "$folder/calls")" 'ci jobs='
+check bad "$begin" 'holds program "$program" "$INTERLAKEN_BUILT"' 'holds one 1 2' ends
+gate 'a gate with a check that fails' '1 checks: 2 passed, 1 failed, 1 skipped'
+rm "$tree/checks/bad.sh"
+say low wrong
+gate 'a gate with a crate that is not proved' '1 checks: 2 passed, 0 failed, 1 skipped'
 ends
