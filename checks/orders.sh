@@ -3,7 +3,7 @@
 # same events, and they are as the row says.
 set -u
 . "$(dirname "$0")/program.bash"
-wants python3
+wants python3 python3
 orders=$top/crates/rx_orders/out/rx_orders
 # The gate leaves it built.
 if [ ! -x "$orders" ] || [ -n "$(find "$top/crates.txt" "$top"/crates/*/{src,specs,proofs} -newer "$orders" -print -quit 2>/dev/null)" ]; then
