@@ -29,9 +29,7 @@ class Link:
         self.turns = -(-len(self.entries) // TURN_ENTRIES)
         self.burst_max, self.burst_min, self.apart = plan.burst_max, plan.burst_min, plan.burst_short // 8
         self.first_burst = plan.warmup * plan.group
-        strange = [channel for channel in settings.back if channel not in plan.captures]
-        if strange:
-            raise Refused("%s: a capture of end b for channel %d, which is not listed" % (name, strange[0]))
+        settings.must_fit(plan)
         self.packets = {"a": {c: folder.packets(name) for c, name in plan.captures.items() if name}, "b": {c: folder.packets(name) for c, name in settings.back.items()}}
         longest = self.burst_max // 8
         self.bound = self.mark + self.turns * (longest + 1) + longest + 2 * self.delay + 2

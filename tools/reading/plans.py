@@ -1,80 +1,65 @@
-"""Plans, schedules and settings of two ends, as the program takes them."""
+"""Plans, settings of two ends, and the files of rows that a plan names: each as the program takes it, or refused for the same row and
+cause."""
 
-from collections import Counter
+from collections import Counter, namedtuple
 
-from reading.files import Refused
+from reading.control_words import is_reset, is_valid_alone
+from reading.files import rows_of
+from reading.rows import Fault, KeyedRows, Kind, Many, Number, NumberAndText, Text, must_be_within, must_have_fields, number_in, shown, take_rows
 
 CODE = 67
-# The least and the most of each number, and what it is where no row says it; None where a row has to.
-PLAN = {"lanes": (1, 64, None), "metaframe": (32, 8192, None), "skips": (1, 4, 1), "burst_max": (64, 4096, 256), "burst_short": (32, 4096, 64),
-        "burst_min": (0, 2048, 0), "deskew": (1, 4095, 7), "warmup": (4, 64, 8), "max_packet": (1, 262144, 262144), "link_type": (0, 65535, 1),
-        "wide": (0, 1, 0), "window": (1, 255, 64)}
-SETTINGS = {"delay": (1, 4096, None), "mark": (1, 65536, None), "slots": (1, 16777215, None), "drain": (1, 1024, 1)}
-SCHEDULE = {"skew": 2, "flip": 2, "dark": 3}
-MOST = 999999999999
+NAME, PREFIX = 255, 200
+PLAN_LIMIT, ROWS_LIMIT = 1 << 20, 1 << 24
+MOST_CHANNEL, MOST_SLOT, MOST_BIT, MOST_EVENTS = 65535, 16777215, 999999999999, 4194304
+PLAN = {"lanes": Number(1, 64), "metaframe": Number(32, 8192), "skips": Number(1, 4, default=1), "burst_max": Number(64, 4096, 64, 256),
+        "burst_short": Number(32, 4096, 8, 64), "deskew": Number(1, 4095, default=7), "warmup": Number(4, 64, default=8),
+        "max_packet": Number(1, 262144, default=262144), "link_type": Number(0, 65535, default=1),
+        "channel": NumberAndText(0, MOST_CHANNEL, NAME, "channel,c` or `channel,c,FILE", False), "entry": Number(0, MOST_CHANNEL),
+        "flow": Text(NAME), "local": Text(NAME), "schedule": Text(NAME), "out": Text(PREFIX), "wide": Number(0, 1, default=0),
+        "burst_min": Number(0, 2048, 32, 0), "oob": Text(NAME), "window": Number(1, 255, default=64), "events": Text(NAME)}
+SETTINGS = {"plan": Text(NAME), "delay": Number(1, 4096), "mark": Number(1, 65536), "slots": Number(1, MOST_SLOT), "drain": Number(1, 1024, default=1),
+            "back": NumberAndText(0, MOST_CHANNEL, NAME, "back,c,FILE", True), "out": Text(PREFIX)}
+SCHEDULE = {"skew": "skew,lane,bits", "flip": "flip,lane,bit", "dark": "dark,lane,first,count"}
+EVENTS = ("send", "rewind", "take", "lose", "repeat", "takeback", "loseback", "repeatback")
+PLAN_KIND, SETTINGS_KIND = Kind("a plan", PLAN), Kind("settings of two ends", SETTINGS)
+SCHEDULE_KIND, EVENTS_KIND = Kind("a schedule", SCHEDULE), Kind("events", EVENTS)
 
 
-def number(where, text, least, most):
-    if not (1 <= len(text) <= 15 and text.isascii() and text.isdigit()):
-        raise Refused("%s: %r is no number" % (where, text[:20]))
-    if not least <= int(text) <= most:
-        raise Refused("%s: %s is not in %d to %d" % (where, text, least, most))
-    return int(text)
-
-
-class Rows:
-    """The rows of a plan or of settings: numbers and texts by key, and the rows of the keys that may stand in many."""
-
-    def __init__(self, folder, name, numbers, texts, many, required):
-        self.name, self.values = name, {key: value for key, (_, _, value) in numbers.items()}
-        self.many = {key: [] for key in many}
-        for place, row in enumerate(folder.rows(name), 1):
-            self.take("%s: row %d" % (name, place), row, numbers, texts)
-        for key in required:
-            if self.values.get(key) is None and not self.many.get(key):
-                raise Refused("%s: missing %s" % (name, key))
-
-    def take(self, where, row, numbers, texts):
-        key = row[0]
-        if key in self.many:
-            self.many[key].append((where, row[1:]))
-        elif key not in numbers and key not in texts:
-            raise Refused("%s: unknown key %r" % (where, key[:20]))
-        elif len(row) != 2:
-            raise Refused("%s: %d fields" % (where, len(row)))
-        else:
-            self.values[key] = number(where, row[1], *numbers[key][:2]) if key in numbers else row[1]
-
-    def __getattr__(self, key):
-        """A number or a text by its key; None where an optional text has no row."""
-        return self.__dict__["values"].get(key)
-
-
-class Plan(Rows):
-    """A plan: `channels` are its channels' numbers in order, `entries` its calendar, `captures` the names by channel."""
+class Plan(KeyedRows):
+    """A plan: `channels` are its channels' numbers in order, `entries` its calendar, `captures` the names by channel in the order of
+    the rows, None where a row has no name."""
 
     def __init__(self, folder, name):
-        super().__init__(folder, name, PLAN, ("flow", "local", "schedule", "out", "oob", "events"), ("channel", "entry"), ("lanes", "metaframe", "channel", "out"))
-        most = 65535 if self.wide else 255
-        self.captures = {}
-        for where, fields in self.many["channel"]:
-            if len(fields) not in (1, 2):
-                raise Refused("%s: %d fields" % (where, 1 + len(fields)))
-            channel = number(where, fields[0], 0, most)
-            if channel in self.captures:
-                raise Refused("%s: channel %d again" % (where, channel))
-            self.captures[channel] = fields[1] if len(fields) == 2 else None
+        super().__init__(folder, name, PLAN_LIMIT, PLAN_KIND, PLAN, {"channel": Many(1024, True), "entry": Many(1024, False)})
+        self.need(("lanes", "metaframe", "channel", "out"))
+        self.captures = {channel: capture for _, channel, capture in self.many["channel"]}
+        for row, place, why in sorted(self.clashes(), key=lambda clash: clash[0].number):
+            self.clash(row, place, why)
         self.channels = sorted(self.captures)
-        self.entries = [self.entry(where, fields, most) for where, fields in self.many["entry"]] or self.channels
-        if self.metaframe <= 2 * self.deskew or self.burst_max < max(self.burst_short, 2 * self.burst_min):
-            raise Refused("%s: a clash of metaframe and deskew, or of burst_max and burst_short or burst_min" % name)
+        self.entries = [channel for _, channel, _ in self.many["entry"]] or self.channels
         self.period = CODE * self.metaframe
         self.group = self.lanes * (self.metaframe - 3 - self.skips)
 
-    def entry(self, where, fields, most):
-        if len(fields) != 1 or number(where, fields[0], 0, most) not in self.captures:
-            raise Refused("%s: an entry of a channel that is not listed" % where)
-        return int(fields[0])
+    def clashes(self):
+        """The rows that contradict others, with the place of the field and the reason."""
+        values = self.values
+        pairs = (("deskew", "metaframe", values["metaframe"] <= 2 * values["deskew"], "metaframe must be more than 2 * deskew"),
+                 ("burst_short", "burst_max", values["burst_max"] < values["burst_short"], "burst_short must be at most burst_max"),
+                 ("burst_min", "burst_max", values["burst_max"] < 2 * values["burst_min"], "burst_min must be at most half of burst_max"))
+        for key, other, does_clash, rule in pairs:
+            if key in self.places and does_clash:
+                yield self.places[key], 1, "%s: %d clashes with %s: %s" % (key, values[key], self.where(other), rule)
+        for row, channel, _ in self.many["entry"]:
+            if channel not in self.captures:
+                yield row, 1, "entry: channel %d is not listed: no row `channel,%d`" % (channel, channel)
+        for row, channel, _ in self.many["channel"]:
+            if channel > 255 and not values["wide"]:
+                yield row, 1, "channel: %d clashes with %s: channel %d needs wide,1" % (channel, self.where("wide"), channel)
+
+    def where(self, key):
+        """Where a number comes from."""
+        row = self.places.get(key)
+        return "%s,%d of line %d" % (key, self.values[key], row.line) if row else "the default %s,%d" % (key, self.values[key])
 
     def channel_of(self, word):
         """The channel of a burst word."""
@@ -87,44 +72,166 @@ class Plan(Rows):
             return None
         return bit // self.period * self.group + row * self.lanes + lane
 
+    def place_of(self, slot):
+        """The lane of a slot's word, its metaframe and the sent bit at which it begins; the other way of `slot_of`."""
+        metaframe, index = divmod(slot, self.group)
+        return index % self.lanes, metaframe, metaframe * self.period + CODE * (2 + self.skips + index // self.lanes)
+
+    def sent_bits(self, slots):
+        """The bits of each lane that carry this many slots, without a skew."""
+        return slots // self.group * self.period
+
 
 class Schedule:
-    """The skew of each lane, and by lane the inverted sent bits and the dark ones, (first, last + 1)."""
+    """The skew of each lane, and by lane the inverted sent bits and the dark ones, (first, last + 1). `rows` are all rows, as (row,
+    key, numbers)."""
 
     def __init__(self, folder, plan):
-        self.skew = [0] * plan.lanes
+        self.name, self.lanes, self.rows = plan.schedule, plan.lanes, []
+        self.skew, self.skew_rows = [0] * plan.lanes, {}
         self.flips, self.darks = ([[] for _ in range(plan.lanes)] for _ in range(2))
-        for place, row in enumerate(folder.rows(plan.schedule) if plan.schedule else [], 1):
-            self.take("%s: row %d" % (plan.schedule, place), row, plan.lanes)
+        if plan.schedule:
+            take_rows(folder, plan.schedule, ROWS_LIMIT, self.take)
         for lane in range(plan.lanes):
             # An even number of flips of one bit leaves it as it was.
             self.flips[lane] = sorted(bit for bit, count in Counter(self.flips[lane]).items() if count % 2)
 
-    def take(self, where, row, lanes):
-        if len(row) - 1 != SCHEDULE.get(row[0]):
-            raise Refused("%s: no row of a schedule" % where)
-        lane = number(where, row[1], 0, lanes - 1)
-        if row[0] == "skew":
-            self.skew[lane] = number(where, row[2], 0, 65535)
-        elif row[0] == "flip":
-            self.flips[lane].append(number(where, row[2], 0, MOST))
+    def take(self, row):
+        key = row.fields[0]
+        if key not in SCHEDULE:
+            raise Fault("key", 0, "unknown key %s%s" % (shown(key), SCHEDULE_KIND.hint(row)))
+        form = SCHEDULE[key].split(",")
+        must_have_fields(row, (len(form),), SCHEDULE[key])
+        numbers = [number_in(row, place, "%s: %s" % (key, form[place])) for place in range(1, len(form))]
+        ranges = {"lane": (0, self.lanes - 1), "bits": (0, 65535), "count": (1, MOST_BIT)}
+        for place, number in enumerate(numbers, 1):
+            must_be_within(number, *ranges.get(form[place], (0, MOST_BIT)), place, "%s: %s" % (key, form[place]))
+        self.keep(row, key, numbers)
+
+    def keep(self, row, key, numbers):
+        lane, first = numbers[:2]
+        if key == "skew":
+            if lane in self.skew_rows:
+                raise Fault("repeat", 1, "skew: a second row of lane %d, the first is in line %d" % (lane, self.skew_rows[lane].line))
+            self.skew[lane], self.skew_rows[lane] = first, row
+        elif key == "flip":
+            self.flips[lane].append(first)
         else:
-            first = number(where, row[2], 0, MOST)
-            self.darks[lane].append((first, first + number(where, row[3], 1, MOST)))
+            self.darks[lane].append((first, first + numbers[2]))
+        self.rows.append((row, key, numbers))
 
 
-class Settings(Rows):
+FlowRow = namedtuple("FlowRow", "row slot word")
+LocalRow = namedtuple("LocalRow", "row slot channel is_on")
+
+
+class Flow:
+    """The rows of a flow file, or none."""
+
+    def __init__(self, folder, plan):
+        self.name, self.rows = plan.flow, []
+        if plan.flow:
+            take_rows(folder, plan.flow, ROWS_LIMIT, self.take)
+
+    def take(self, row):
+        must_have_fields(row, (2,), "slot,word")
+        slot, digits = number_in(row, 0, "slot"), row.fields[1]
+        if len(digits) != 16 or not all(digit in "0123456789abcdefABCDEF" for digit in digits):
+            raise Fault("number", 1, "word: %s is no word of 16 hexadecimal digits" % shown(digits))
+        must_be_within(slot, 0, MOST_SLOT, 0, "slot")
+        must_not_go_back(slot, self.rows)
+        self.rows.append(FlowRow(row, slot, int(digits, 16)))
+
+    def effects(self):
+        """Each row with whether its calendar counts, and where it does not why: None, or a reason."""
+        follows = False
+        for row in self.rows:
+            if not is_valid_alone(row.word):
+                follows = False
+                yield row, "no control word with the CRC24 of this word alone"
+            else:
+                follows = follows or is_reset(row.word)
+                yield row, None if follows else "no valid word with the reset bit stands before it"
+
+
+    def off_rows(self, entries):
+        """By channel the row that turned it off, for each channel that is off after all rows, by the calendar's entries."""
+        off, place = {}, 0
+        for row, why in self.effects():
+            if why:
+                continue
+            place = 0 if is_reset(row.word) else place
+            for bit, channel in enumerate(entries[place:place + 16]):
+                if row.word >> 55 - bit & 1:
+                    off.pop(channel, None)
+                else:
+                    off.setdefault(channel, row.row)
+            place += 16
+        return off
+
+
+class Local:
+    """The rows of a local file, or none."""
+
+    def __init__(self, folder, plan):
+        self.name, self.rows, self.channels = plan.local, [], set(plan.channels)
+        if plan.local:
+            take_rows(folder, plan.local, ROWS_LIMIT, self.take)
+
+    def take(self, row):
+        must_have_fields(row, (3,), "slot,channel,on` or `slot,channel,off")
+        slot, channel, state = number_in(row, 0, "slot"), number_in(row, 1, "channel"), row.fields[2]
+        if state not in ("on", "off"):
+            raise Fault("number", 2, "state: %s is neither `on` nor `off`" % shown(state))
+        must_be_within(slot, 0, MOST_SLOT, 0, "slot")
+        must_be_within(channel, 0, MOST_CHANNEL, 1, "channel")
+        if channel not in self.channels:
+            raise Fault("clash", 1, "channel: the plan does not list channel %d" % channel)
+        must_not_go_back(slot, self.rows)
+        self.rows.append(LocalRow(row, slot, channel, state == "on"))
+
+
+def must_not_go_back(slot, before):
+    if before and slot < before[-1].slot:
+        raise Fault("clash", 0, "slot: %d is below slot %d of line %d" % (slot, before[-1].slot, before[-1].row.line))
+
+
+class Events:
+    """The rows of an events file as (row, name, count)."""
+
+    def __init__(self, folder, plan):
+        self.name, self.rows, self.count = plan.events, [], 0
+        if plan.events:
+            take_rows(folder, plan.events, ROWS_LIMIT, self.take)
+
+    def take(self, row):
+        name = row.fields[0]
+        if name not in EVENTS:
+            raise Fault("key", 0, "unknown event %s%s" % (shown(name), EVENTS_KIND.hint(row)))
+        must_have_fields(row, (2,), "%s,count" % name)
+        count = number_in(row, 1, name)
+        must_be_within(count, 1, MOST_EVENTS, 1, name)
+        if self.count + count > MOST_EVENTS:
+            raise Fault("range", 1, "%s: %d events, and with those before %d, which is above %d" % (name, count, self.count + count, MOST_EVENTS))
+        self.count += count
+        self.rows.append((row, name, count))
+
+
+class Settings(KeyedRows):
     """The settings of a run of two ends: `back` are the names of end b's captures by channel."""
 
     def __init__(self, folder, name):
-        super().__init__(folder, name, SETTINGS, ("plan", "out"), ("back",), ("plan", "delay", "mark", "slots", "out"))
-        self.back = {}
-        for where, fields in self.many["back"]:
-            if len(fields) != 2:
-                raise Refused("%s: %d fields" % (where, 1 + len(fields)))
-            self.back[number(where, fields[0], 0, 65535)] = fields[1]
+        super().__init__(folder, name, PLAN_LIMIT, SETTINGS_KIND, SETTINGS, {"back": Many(MOST_CHANNEL + 1, True)})
+        self.need(("plan", "delay", "mark", "slots", "out"))
+        self.back = {channel: capture for _, channel, capture in self.many["back"]}
+
+    def must_fit(self, plan):
+        """A clash where a `back` row has a channel that the plan does not list."""
+        for row, channel, _ in self.many["back"]:
+            if channel not in plan.captures:
+                self.clash(row, 1, "back: %s does not list channel %d" % (plan.name, channel))
 
 
 def are_settings(folder, name):
     """Whether a file has the settings of two ends, and is no plan."""
-    return any(row[0] in ("plan", "delay", "mark", "drain", "slots", "back") for row in folder.rows(name))
+    return any(row.fields[0] in SETTINGS and row.fields[0] not in PLAN for row in rows_of(folder.content(name)))
