@@ -2,6 +2,7 @@
 
 from collections import namedtuple
 
+from reading.control_words import is_control
 from reading.lane_bits import SYNC
 
 CONTROL = 2
@@ -52,7 +53,7 @@ def role_of_payload(header, word):
     """The role of a payload word by what it says."""
     if header != CONTROL:
         return "data"
-    if word >> 63 == 0 or 2 <= word >> 57 & 15 <= 7:
+    if not is_control(word):
         return "control"
     return "burst" if word >> 62 & 1 else "idle"
 

@@ -56,9 +56,8 @@ class StreamWaves:
 
     def time(self, slot, after=0):
         """Where a slot begins, or with 1 after it where it ends."""
-        row, lane = divmod(slot % self.plan.group, self.plan.lanes)
-        word = slot // self.plan.group * self.plan.metaframe + 2 + self.plan.skips + row
-        return self.front + CODE * word + CODE * (lane + after) // self.plan.lanes
+        lane, _, bit = self.plan.place_of(slot)
+        return self.front + bit + CODE * (lane + after) // self.plan.lanes
 
     def changes(self):
         values, span = NO_SLOT, None
