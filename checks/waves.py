@@ -2,6 +2,7 @@
 
 import csv
 import os
+import random
 import re
 import shutil
 import subprocess
@@ -26,7 +27,9 @@ HARD = (Shape("dark", 3, 32, 2), Shape("worn", 4, 64, 1))
 HARD_ROWS = {"dark": ["skew,0,0", "skew,1,66", "skew,2,400", "dark,0,20000,1500", "dark,1,30000,40000", "flip,2,12864", "flip,2,15010", "flip,2,25728"],
              "worn": ["skew,0,3"] + ["flip,0,%d" % (CODE * 64 * m + 20) for m in range(6, 10)] + ["flip,1,%d" % (CODE * (64 * m + 1) + 50) for m in range(7, 10)]
              + ["flip,2,%d" % (CODE * 64 * 3 + 40), "dark,3,%d,%d" % (CODE * 70, CODE * 20)]}
-HARD_ENDS = {"dark": [("lost_headers", 2)], "worn": [("lost_headers", 1), ("lost_state", 1), ("lost_sync", 1), ("unframed", 1)]}
+HARD_ENDS = {"dark": {"lost_headers": 2}, "worn": {"lost_headers": 1, "lost_state": 1, "lost_sync": 1, "unframed": 1}}
+# Links whose damage is drawn.
+DRAWN = 8
 
 
 def run(words, folder):
@@ -175,19 +178,49 @@ def time_in_group(shape, index):
 
 
 def check_linked(tally, folder, shape, skews):
-    """Lanes as they were received: what the program printed of them, and the words that came otherwise than sent."""
+    """Lanes as they were received: what the program printed of them, and the stream. Gives the waves."""
     name = shape.name
     text = printed(tally, folder, "link", name)
     printed(tally, folder, "burst", name)
     waves = made(tally, folder, name, "%s, linked" % name)
     lines = re.findall(r"^lane .*", text, re.MULTILINE)
     tally.expect("%s, lines of lanes" % name, [report_of(waves, lane) for lane in range(shape.lanes)], lines)
+    check_stream(tally, waves, shape, words_file(folder, name + ".words"), skews[0])
+    return waves
+
+
+def check_damaged(tally, folder):
+    """The example with one inverted bit: its spans, and the word that came otherwise than sent."""
+    shape, skews = EXAMPLES[0], [11, 200]
+    waves = check_linked(tally, folder, shape, skews)
     check_spans(tally, folder, waves, shape)
-    sent = words_file(folder, name + ".words")
-    check_stream(tally, waves, shape, sent, skews[0])
-    ends = Counter(lock for lane in range(shape.lanes) for _, lock in waves.changes("lane_%d.lock" % lane)) - Counter({"search": 99, "words": 99, "declared": 99})
-    tally.expect("%s, ends of locks" % name, sorted(ends.items()), HARD_ENDS.get(name, []))
-    return sorted(slot for slot, word in received_slots(waves, shape, skews) if word != sent[slot])
+    sent = words_file(folder, shape.name + ".words")
+    tally.expect("damaged, differing words", [slot for slot, word in received_slots(waves, shape, skews) if word != sent[slot]], [230])
+
+
+def check_losses(tally, folder):
+    """Links that lose locks in known ways, and others whose damage is drawn."""
+    for shape in HARD:
+        waves = check_schedule(tally, folder, shape, HARD_ROWS[shape.name])
+        check_spans(tally, folder, waves, shape)
+        tally.expect("%s, ends of locks" % shape.name, ends_of(waves, shape), Counter(HARD_ENDS[shape.name]))
+    found = Counter()
+    for seed in range(DRAWN):
+        shape = Shape("drawn%d" % seed, 3, 32 + 8 * seed, 1 + seed % 4)
+        found += ends_of(check_schedule(tally, folder, shape, drawn_rows(seed, shape)), shape)
+    tally.expect("drawn, locks end for these reasons", sorted(set(found) - {"lost_sync"}), ["lost_headers", "lost_state", "unframed"])
+
+
+def check_schedule(tally, folder, shape, rows):
+    write_plan(folder, shape, rows)
+    skews = {int(lane): int(bits) for key, lane, bits in (row.split(",", 2) for row in rows) if key == "skew"}
+    return check_linked(tally, folder, shape, [skews.get(lane, 0) for lane in range(shape.lanes)])
+
+
+def ends_of(waves, shape):
+    """How often the locks of all lanes ended for each reason."""
+    locks = Counter(lock for lane in range(shape.lanes) for _, lock in waves.changes("lane_%d.lock" % lane))
+    return Counter({lock: count for lock, count in locks.items() if lock not in ("search", "words", "declared")})
 
 
 def made(tally, folder, name, what):
@@ -208,10 +241,19 @@ def made(tally, folder, name, what):
     return waves
 
 
-def write_hard(folder, shape):
+def drawn_rows(seed, shape):
+    """A schedule with dark stretches of all lengths up to two metaframes, and so many inverted bits that locks are lost."""
+    draws = random.Random(seed)
+    bits, period = 18 * CODE * shape.metaframe, CODE * shape.metaframe
+    rows = ["skew,%d,%d" % (lane, draws.randrange(900)) for lane in range(shape.lanes)]
+    rows += ["dark,%d,%d,%d" % (draws.randrange(shape.lanes), draws.randrange(bits), int(2 * period ** draws.random())) for _ in range(6)]
+    return rows + ["flip,%d,%d" % (draws.randrange(shape.lanes), draws.randrange(bits)) for _ in range(400)]
+
+
+def write_plan(folder, shape, schedule):
     rows = ["lanes,%d" % shape.lanes, "metaframe,%d" % shape.metaframe, "skips,%d" % shape.skips, "warmup,16", "channel,1,one.pcap", "channel,2,two.pcap",
             "schedule,%s.schedule" % shape.name, "out,%s" % shape.name]
-    for name, lines in ((shape.name + ".plan", rows), (shape.name + ".schedule", HARD_ROWS[shape.name])):
+    for name, lines in ((shape.name + ".plan", rows), (shape.name + ".schedule", schedule)):
         with open(os.path.join(folder, name), "w", encoding="ascii") as file:
             file.write("\n".join(lines) + "\n")
 
@@ -240,11 +282,8 @@ def main():
         shutil.copytree(os.path.join(TOP, "examples"), folder, dirs_exist_ok=True)
         for shape in EXAMPLES:
             check_sent(tally, folder, shape)
-        tally.expect("damaged, differing words", check_linked(tally, folder, EXAMPLES[0], [11, 200]), [230])
-        for shape in HARD:
-            write_hard(folder, shape)
-            skews = [int(row.split(",")[2]) for row in HARD_ROWS[shape.name] if row.startswith("skew")]
-            check_linked(tally, folder, shape, skews + [0] * (shape.lanes - len(skews)))
+        check_damaged(tally, folder)
+        check_losses(tally, folder)
         check_refused(tally, folder)
     for reader in READERS:
         if not shutil.which(reader):

@@ -9,6 +9,7 @@ import sys
 import tempfile
 
 from campaigns.one_number import record_of
+from reading.files import Refused
 
 # The word before the settings and the numbers of one job.
 RUN = "--run"
@@ -24,8 +25,12 @@ def packed(settings):
 def run_job(words):
     """Runs the numbers of one job, and prints the record of each."""
     settings = json.loads(base64.urlsafe_b64decode(words[0]))
-    for number in words[1:]:
-        print(json.dumps(record_of(int(number), settings)), flush=True)
+    for number in map(int, words[1:]):
+        try:
+            record = record_of(number, settings)
+        except (Refused, OSError) as error:
+            record = {"number": number, "status": None, "seconds": 0, "last": str(error)}
+        print(json.dumps(record), flush=True)
 
 
 def run_all(tool, numbers, settings, options, take):

@@ -17,8 +17,10 @@ def why_failed(number, record):
     """What is wrong with a number: its kind and a text; or None where nothing is."""
     if record is None:
         return "no result", "no result: its job did not end"
+    if record["status"] is None:
+        return "no run", "no run: %s" % record["last"]
     if not is_done(record):
-        return "status", "status %s: %s" % (record["status"], record["last"])
+        return "status", "status %d: %s" % (record["status"], record["last"])
     if record["accidents"]:
         return "accidents", "accidents " + " ".join("%s=%d" % (kind, record["counts"].get("accident " + kind, 0)) for kind in ACCIDENTS)
     return None
@@ -28,7 +30,7 @@ def write_table(path, records):
     with open(path, "w", encoding="utf-8", newline="") as file:
         rows = csv.writer(file, lineterminator="\n")
         rows.writerow(COLUMNS)
-        rows.writerows([number] + [record.get(column, "") for column in COLUMNS[1:]] for number, record in records if record is not None)
+        rows.writerows([number] + [record.get(column) for column in COLUMNS[1:]] for number, record in records if record is not None)
 
 
 def counted(records, has_words):
