@@ -106,7 +106,7 @@ def check_generate(tally, folder):
     rows, found = table(folder, "runs/1-6.csv"), counts(folder, "runs/1-6.coverage.csv")
     tally.expect("runs, rows", rows, by_hand)
     lost = [int(row["missing"]) for row in rows if row["missing"] != "0"]
-    summary = "6 numbers, 0 not done, 0 with accidents, %d with missing packets (%d packets), %d bits struck" % (len(lost), sum(lost), sum(int(row["struck"]) for row in rows))
+    summary = "numbers=6 not_done=0 with_accidents=0 with_missing=%d missing=%d struck=%d" % (len(lost), sum(lost), sum(int(row["struck"]) for row in rows))
     tally.expect("runs, summary", lines[-2:], [summary, "never hit: " + ", ".join(item for item, count in found.items() if not count)])
     tally.expect("runs, spans counted", total(found, "span "), sum(int(row["spans"]) for row in rows))
     tally.expect("runs, accidents counted", total(found, "accident "), sum(int(row["accidents"]) for row in rows))
@@ -152,7 +152,7 @@ def check_failing(tally, folder, by_hand):
     failing = write_program(os.path.join(folder, "failing"), 'case "$2" in %s) echo "%s"; exit 5 ;; esac' % ("|".join(map(str, FAILING)), refusal))
     status, lines = campaign(folder, FIRST, LAST, "again", "--junit", "again.xml", program=failing)
     tally.expect("failing, status and numbers", (status, lines[:-2]), (1, ["number %d: status 5: %s" % (number, refusal) for number in FAILING]))
-    tally.expect("failing, summary", lines[-2].split(", ")[:2], ["6 numbers", "2 not done"])
+    tally.expect("failing, summary", lines[-2].split()[:2], ["numbers=6", "not_done=2"])
     tally.expect("failing, rows", [row for row in table(folder, "again/1-6.csv") if row["status"] == "0"], [row for row in by_hand if int(row["number"]) not in FAILING])
     failures = [(case.get("name"), part.get("type"), part.get("message"), part.text) for case in xml.parse(os.path.join(folder, "again.xml")).getroot() for part in case]
     tally.expect("failing, JUnit", failures, [("number %d" % number, "status", "status 5: " + refusal, refusal) for number in FAILING])
@@ -169,7 +169,7 @@ def check_failing(tally, folder, by_hand):
     odd = write_program(os.path.join(folder, "odd"), '"$0.real" "$@" | sed "s/^accidents .*/accidents locks=0 groups=2 stretches=1/"; exit 0')
     os.symlink(PROGRAM, odd + ".real")
     status, lines = campaign(folder, 1, 1, "odd_runs", program=odd)
-    tally.expect("accidents", (status, lines[0], lines[1].split(", ")[1:3]), (1, "number 1: accidents locks=0 groups=2 stretches=1", ["0 not done", "1 with accidents"]))
+    tally.expect("accidents", (status, lines[0], lines[1].split()[1:3]), (1, "number 1: accidents locks=0 groups=2 stretches=1", ["not_done=0", "with_accidents=1"]))
 
 
 def check_refused(tally, folder):

@@ -7,7 +7,7 @@ import shutil
 import subprocess
 import sys
 import tempfile
-from decimal import Decimal, InvalidOperation
+from decimal import Decimal
 
 from campaigns import reports
 from campaigns.one_number import copy_plan, printed, slots_of, words_counts
@@ -19,6 +19,7 @@ from reading.plans import Plan
 RATES = ("flips_per_million", "dark", "skew")
 # What the launcher ends with where it cannot build the program.
 NOT_BUILT = 70
+INTERRUPTED = 130
 MOST_NUMBER, MOST_SKEW, MOST_DARK = 2 ** 64 - 1, 65535, 1000
 
 
@@ -32,24 +33,22 @@ def whole(least, most):
 
 
 def rate(text):
-    """A rate, as the text of a decimal number."""
-    try:
-        value = Decimal(text)
-    except InvalidOperation:
-        value = None
-    if value is None or not 0 <= value < 1000000:
-        raise argparse.ArgumentTypeError("%r is no number from 0 to below 1000000" % text)
+    """A rate, as the text of a number with up to six digits after the point."""
+    if not re.fullmatch(r"[0-9]{1,6}(\.[0-9]{1,6})?", text):
+        raise argparse.ArgumentTypeError("%r is no number from 0 to below 1000000, with up to six digits after its point" % text)
     return text
 
 
 def jobs(text):
+    """A number of jobs as parallel takes it."""
     if not re.fullmatch(r"[+-]?\d+%?", text):
         raise argparse.ArgumentTypeError("%r is no number of jobs" % text)
     return text
 
 
 def options_of(words):
-    parser = argparse.ArgumentParser(prog="campaign", description="Runs the program for each number of a range with GNU parallel, and keeps what comes of each.", allow_abbrev=False)
+    told = "Runs the program for each number of a range with GNU parallel, and keeps what comes of each."
+    parser = argparse.ArgumentParser(prog="campaign", description=told, allow_abbrev=False)
     parser.add_argument("first", metavar="FIRST", type=whole(0, MOST_NUMBER))
     parser.add_argument("last", metavar="LAST", type=whole(0, MOST_NUMBER))
     parser.add_argument("folder", metavar="FOLDER", help="gets the tables; the same call goes on where it was cut off, and does again what was not done")
@@ -157,4 +156,5 @@ def main(words):
         print("campaign: %s" % str(error).replace("\n", " "), file=sys.stderr)
         return 1
     except KeyboardInterrupt:
-        return 130
+        print("campaign: interrupted: the same call goes on with what is not done", file=sys.stderr)
+        return INTERRUPTED

@@ -18,9 +18,12 @@ class Records:
             os.makedirs(folder, exist_ok=True)
             self.file = open(self.path, "a+", encoding="utf-8")
             self.file.seek(0)
-            lines = self.file.read().splitlines()
+            text = self.file.read()
         except OSError as error:
             raise Refused("%s: %s" % (error.filename or folder, error.strerror))
+        lines = text.splitlines()
+        if lines and not text.endswith("\n"):
+            self.file.write("\n")  # the last line was cut off
         if not lines:
             self.write(campaign)
         elif parsed(lines[0]) != campaign:

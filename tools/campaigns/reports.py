@@ -75,7 +75,8 @@ def summary(records, counts):
         lines.append("and %d more, which the table has" % (len(failures) - NAMED))
     done = [record for _, record in records if is_done(record)]
     lost = [record["missing"] for record in done if record["missing"]]
-    lines.append("%d numbers, %d not done, %d with accidents, %d with missing packets (%d packets), %d bits struck" % (
-        len(records), len(records) - len(done), sum(record["accidents"] > 0 for record in done), len(lost), sum(lost), sum(record["struck"] for record in done)))
+    totals = {"numbers": len(records), "not_done": len(records) - len(done), "with_accidents": sum(record["accidents"] > 0 for record in done),
+              "with_missing": len(lost), "missing": sum(lost), "struck": sum(record["struck"] for record in done)}
+    lines.append(" ".join("%s=%d" % total for total in totals.items()))
     lines.append("never hit: %s" % (", ".join(item for item, count in counts if not count) or "nothing"))
     return lines, not failures
