@@ -25,7 +25,9 @@ def reason(path, folder):
         return "it is a link to %s, which is not there" % shown_name(os.readlink(path))
     if os.path.exists(path) and not stat.S_ISREG(os.stat(path).st_mode):
         return "it is %s, which is no file of a disk" % shown_name(os.path.realpath(path))
-    return access_reason(path, parent, folder) or disk_reason(parent, folder)
+    if os.statvfs(parent).f_flag & os.ST_RDONLY:
+        return "the disk of the folder %s may only be read" % shown_name(folder or ".")
+    return access_reason(path, parent, folder) or disk_reason(parent)
 
 
 def parent_reason(parent, folder):
@@ -33,7 +35,7 @@ def parent_reason(parent, folder):
     while not os.path.exists(above):
         above = os.path.dirname(above) or "."
     if not os.path.isdir(above):
-        return "%s is no folder" % shown_name(above)
+        return "%s is no folder" % shown_name(above if os.path.isabs(folder) else os.path.relpath(above))
     return "the folder %s is not there; `mkdir -p %s` makes it" % (shown_name(folder), folder)
 
 
@@ -47,10 +49,8 @@ def access_reason(path, parent, folder):
     return None
 
 
-def disk_reason(parent, folder):
+def disk_reason(parent):
     disk = os.statvfs(parent)
-    if disk.f_flag & os.ST_RDONLY:
-        return "the disk of the folder %s may only be read" % shown_name(folder or ".")
     if disk.f_bavail * disk.f_frsize < LITTLE:
         return "the disk is full: %d bytes are free" % (disk.f_bavail * disk.f_frsize)
     if disk.f_files and disk.f_favail == 0:

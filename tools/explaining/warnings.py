@@ -65,7 +65,7 @@ def dark_flips(schedule):
     """Flips of dark bits, which stay 0."""
     lines = []
     for row, key, numbers in schedule.rows:
-        if key == "flip" and any(first <= numbers[1] < end for first, end in schedule.darks[numbers[0]]):
+        if key == "flip" and schedule.is_dark(*numbers):
             lines.append(warning(schedule.name, row, "flip: bit %d of lane %d is dark, and stays 0" % (numbers[1], numbers[0])))
     return some(lines, "flips are of dark bits")
 
@@ -123,7 +123,7 @@ def locks(inputs, text):
     plan, lines = inputs.plan, []
     for lane, first in reports:
         if first == "-":
-            lines.append("%s.lane.%d: warning: no lock: nowhere do four Sync words stand %d words apart (metaframe,%d)" % (plan.out, lane, plan.metaframe, plan.metaframe))
+            lines.append("%s.lane.%d: warning: no lock: four Sync words, %d words apart (metaframe,%d), were not found" % (plan.out, lane, plan.metaframe, plan.metaframe))
     if lines:
         return some(lines, "lanes have no lock") + ["%s: warning: a lane without a lock keeps all lanes from aligning: no packet can come" % plan.out]
     apart = least_spread([int(first) for _, first in reports], plan.period)

@@ -27,9 +27,9 @@ def crc24(data):
     return register ^ REGISTER
 
 
-def crc24_alone(word):
-    """The CRC24 that a control word has which covers no data."""
-    return crc24((word >> 24 << 24).to_bytes(8, "big"))
+def sealed_alone(word):
+    """A control word with the CRC24 that it has where it covers no data."""
+    return word >> 24 << 24 | crc24((word >> 24 << 24).to_bytes(8, "big"))
 
 
 def is_control(word):
@@ -43,4 +43,4 @@ def is_reset(word):
 
 def is_valid_alone(word):
     """Whether a flow row's word counts: a control word with the CRC24 of the word alone."""
-    return is_control(word) and word & REGISTER == crc24_alone(word)
+    return is_control(word) and word == sealed_alone(word)

@@ -125,14 +125,20 @@ class Lane:
         return sorted([(bit, bit + 1, "inverted") for bit in self.inverted] + [(a, b, "dark") for a, b in self.dark] + [(bit, bit + 1, "changed") for bit in self.other])
 
     def damaged_slots(self, plan):
-        """The slots of the stream whose words are damaged in this lane."""
-        found = set()
+        """The slots of the stream whose words are damaged in this lane, each with the first and the last of its damaged bits."""
+        found = {}
         for first, end, _ in self.damaged():
             for word in range((first - self.front) // CODE, (end - 1 - self.front) // CODE + 1):
-                found.add(word)
+                begin = self.front + CODE * word
+                part = max(first, begin), min(end, begin + CODE) - 1
+                least, most = found.get(word, part)
+                found[word] = min(least, part[0]), max(most, part[1])
         if self.changed is not None:
-            found &= {(bit - self.front) // CODE for bit in self.changed}
-        return {slot for slot in (plan.slot_of(self.number, CODE * word) for word in found) if slot is not None}
+            changed = {(bit - self.front) // CODE for bit in self.changed}
+            found = {word: bits for word, bits in found.items() if word in changed}
+        slots = {plan.slot_of(self.number, CODE * word): bits for word, bits in found.items()}
+        slots.pop(None, None)
+        return slots
 
 
 def read_lanes(folder, plan, schedule, sent=None, text=""):

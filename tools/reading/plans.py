@@ -3,7 +3,7 @@ cause."""
 
 from collections import Counter, namedtuple
 
-from reading.control_words import is_reset, is_valid_alone
+from reading.control_words import is_control, is_reset, is_valid_alone, sealed_alone
 from reading.files import rows_of
 from reading.rows import Fault, KeyedRows, Kind, Many, Number, NumberAndText, Text, must_be_within, must_have_fields, number_in, shown, take_rows
 
@@ -120,6 +120,10 @@ class Schedule:
             self.darks[lane].append((first, first + numbers[2]))
         self.rows.append((row, key, numbers))
 
+    def is_dark(self, lane, bit):
+        """Whether a sent bit is 0 whatever was sent."""
+        return any(first <= bit < end for first, end in self.darks[lane])
+
 
 FlowRow = namedtuple("FlowRow", "row slot word")
 LocalRow = namedtuple("LocalRow", "row slot channel is_on")
@@ -148,7 +152,8 @@ class Flow:
         for row in self.rows:
             if not is_valid_alone(row.word):
                 follows = False
-                yield row, "no control word with the CRC24 of this word alone"
+                right = "its CRC24 is wrong: %016X has the right one" % sealed_alone(row.word)
+                yield row, right if is_control(row.word) else "no control word: bit 63 is 0, or the end format one of 0010 to 0111"
             else:
                 follows = follows or is_reset(row.word)
                 yield row, None if follows else "no valid word with the reset bit stands before it"

@@ -4,6 +4,7 @@ A fault has the program's own word for its cause (`key`, `fields`, `number` ..),
 and the reason in full.
 """
 
+import difflib
 from collections import namedtuple
 
 from reading.files import Refused, is_text, rows_of, shown_name
@@ -189,7 +190,7 @@ class Kind:
         key = row.fields[0]
         bare = key.strip().lower()
         if bare in self.keys:
-            return ": write `%s`, without blanks, in small letters" % bare
+            return ": write `%s`, in small letters and without blanks" % bare
         if key.lstrip().startswith(("#", "//", ";", "%")):
             return ": there are no comments"
         if len(row.fields) == 1 and (";" in key or "\t" in key):
@@ -197,4 +198,5 @@ class Kind:
         other = next((kind.name for kind in Kind.known.values() if bare in kind.keys), None)
         if other:
             return ": it is a key of %s, and this is read as %s" % (other, self.name)
-        return "; the keys of %s are %s" % (self.name, ", ".join(self.keys))
+        near = difflib.get_close_matches(bare, self.keys, 1)
+        return ": `%s`?" % near[0] if near else "; the keys of %s are %s" % (self.name, ", ".join(self.keys))
