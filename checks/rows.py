@@ -18,7 +18,6 @@ Every other file has to be as it was, and nothing may come on standard error.
 
 import hashlib
 import os
-import subprocess
 import sys
 
 from captures import capture
@@ -50,19 +49,16 @@ class Row:
         return left_by(program, self.first, self.before) if self.first else Run(0, b"", b"", self.before)
 
     def differences(self, program):
-        try:
-            first_status, _, _, before = self.prepared(program)
-            status, text, error, files = left_by(program, self.words, before)
-        except subprocess.TimeoutExpired:
-            return ["it does not end in %d seconds" % SECONDS]
-        if first_status != 0:
-            return ["status %d of its first command" % first_status]
-        told = [] if status == self.status else ["status %d and not %d" % (status, self.status)]
+        first = self.prepared(program)
+        if first.status != 0:
+            return ["status %s of its first command" % first.status]
+        status, text, error, files = left_by(program, self.words, first.files)
+        told = [] if status == self.status else ["status %s and not %d" % (status, self.status)]
         if text != self.text:
             told.append("text %r and not %r" % (text[:400], self.text[:400]))
         if error:
             told.append("standard error %r" % error[:80])
-        return told + self.differing(before, files)
+        return told + self.differing(first.files, files)
 
     def differing(self, before, files):
         whole = {**before, **files_in(self.at("after"))}

@@ -28,9 +28,13 @@ def write_files(folder, files):
 
 
 def left_by(program, words, before, seconds=SECONDS, environment=None):
-    """The run of the program with these words in a folder with these files. It raises subprocess.TimeoutExpired where it is late."""
+    """The run of the program with these words in a folder with these files. One that does not end in time is stopped; its status is
+    a text that says so, and it left nothing."""
     with tempfile.TemporaryDirectory() as folder:
         write_files(folder, before)
-        surroundings = {**os.environ, **(environment or {})}
-        done = subprocess.run([program] + words, cwd=folder, stdin=subprocess.DEVNULL, capture_output=True, timeout=seconds, env=surroundings)
+        how = {"cwd": folder, "stdin": subprocess.DEVNULL, "capture_output": True, "env": {**os.environ, **(environment or {})}}
+        try:
+            done = subprocess.run([program] + words, timeout=seconds, **how)
+        except subprocess.TimeoutExpired:
+            return Run("none after %d seconds" % seconds, b"", b"", {})
         return Run(done.returncode, done.stdout, done.stderr, files_in(folder))

@@ -25,6 +25,13 @@ def shown(value):
 class Tally:
     def __init__(self, name):
         self.name, self.passed, self.failed = name, 0, 0
+        sys.excepthook = self.break_off
+
+    def break_off(self, *error):
+        """An exception ends the check; that is a failure like others."""
+        sys.__excepthook__(*error)
+        self.failed += 1
+        self.end()
 
     def count(self, what, wrong=""):
         """One thing was tried. Where it failed, `wrong` says why, and that is printed."""
@@ -45,9 +52,14 @@ class Tally:
         self.count(what, wrong)
         sys.exit(self.end())
 
+    def skip(self, tool, source):
+        """A tool is missing without which nothing can be tried: the check ends here. `source` says where the tool is from."""
+        print("%s: skipped, no %s (%s)" % (self.name, tool, source), flush=True)
+        sys.exit(77)
+
     def not_tried(self, tool, package, what):
         """A part cannot be tried on this machine."""
-        print("%s: not tried, no %s (Debian package %s): %s" % (self.name, tool, package, what))
+        print("%s: not tried, no %s (Debian package %s): %s" % (self.name, tool, package, what), flush=True)
 
     def end(self):
         """Prints the last line, and gives the exit status."""
