@@ -245,10 +245,10 @@ def check_struck(tally, folder, row, schedule):
 def check_held(tally, folder):
     """A plan whose channel 1 goes off in its first packet: it is held, and done all the same."""
     sys.path.insert(0, os.path.join(TOP, "tools"))
-    from reading.control_words import crc24_alone
-    off = 0x817FFF0000000000
+    from reading.control_words import sealed_alone
+    off = sealed_alone(0x817FFF0000000000)
     with open(os.path.join(folder, "off.flow"), "w", encoding="ascii") as file:
-        file.write("0,%016X\n230,%016X\n" % (0x81FFFF0000188177, off | crc24_alone(off)))
+        file.write("0,%016X\n230,%016X\n" % (0x81FFFF0000188177, off))
     plan = content(os.path.join(folder, "damaged.plan")).decode().replace("schedule,damaged.schedule", "flow,off.flow")
     with open(os.path.join(folder, "off.plan"), "w", encoding="ascii") as file:
         file.write(plan)

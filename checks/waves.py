@@ -11,6 +11,7 @@ import tempfile
 from bisect import bisect_right
 from collections import Counter, namedtuple
 
+from runs import content, write_files
 from tally import Tally
 
 PROGRAM, TOP = os.path.abspath(sys.argv[1]), os.path.abspath(sys.argv[2])
@@ -110,8 +111,7 @@ def report_of(waves, lane):
 
 
 def words_file(folder, name):
-    with open(os.path.join(folder, name), "rb") as file:
-        data = file.read()
+    data = content(os.path.join(folder, name))
     return [int.from_bytes(data[at + 1:at + 9], "big") for at in range(0, len(data), 9)]
 
 
@@ -261,19 +261,26 @@ def write_plan(folder, shape, schedule):
 def check_refused(tally, folder):
     """Calls and files that the tool does not take."""
     printed(tally, folder, "link", "damaged")
-    shutil.copy(os.path.join(folder, "two.words"), os.path.join(folder, "damaged.words"))
-    stale = "waves: damaged.words: 252 words, and the lanes have room for 392: it is the stream of other lanes\n"
-    tally.expect("words of another plan", outcome(run([TOOL, "damaged.plan"], folder)), (1, "", stale))
+    words = os.path.join(folder, "damaged.words")
+    data = bytearray(content(words))
+    data[9 * 301 - 1] ^= 1
+    write_files(folder, {"damaged.words": bytes(data)})
+    expect_refused(tally, folder, "words with another word", ["damaged.plan"], 1, "damaged.words: slot 300 is another word than lane 0 has")
+    shutil.copy(os.path.join(folder, "two.words"), words)
+    expect_refused(tally, folder, "words of another plan", ["damaged.plan"], 1, "damaged.words: its 252 slots fill 8576 bits of a lane, and damaged.lane.0 has 1878 bytes")
     os.remove(os.path.join(folder, "damaged.lane.1"))
-    missing = "waves: damaged.lane.1 is missing: `interlaken link damaged.plan` makes it\n"
-    tally.expect("a lane that is missing", outcome(run([TOOL, "damaged.plan"], folder)), (1, "", missing))
-    tally.expect("no plan", outcome(run([TOOL, "absent.plan"], folder))[:2], (1, ""))
-    tally.expect("no words", run([TOOL], folder).returncode, 2)
-    tally.expect("an unknown option", run([TOOL, "damaged.plan", "--from", "7"], folder).returncode, 2)
+    expect_refused(tally, folder, "a lane that is missing", ["damaged.plan"], 1, "damaged.lane.1 is missing: `interlaken link damaged.plan` makes it")
+    expect_refused(tally, folder, "no plan", ["absent.plan"], 1, "absent.plan: No such file")
+    expect_refused(tally, folder, "a folder that is not there", ["two.plan", "--to", "no/two.vcd"], 1, "no/two.vcd: No such file")
+    expect_refused(tally, folder, "no words", [], 2, "")
+    expect_refused(tally, folder, "an unknown option", ["damaged.plan", "--from", "7"], 2, "")
 
 
-def outcome(done):
-    return done.returncode, done.stdout, done.stderr
+def expect_refused(tally, folder, what, words, status, told):
+    done = run([TOOL] + words, folder)
+    beginning = "waves: " + told if status == 1 else "usage: waves"
+    tally.expect(what, (done.returncode, done.stdout, done.stderr[:len(beginning)]), (status, "", beginning))
+    tally.expect(what + ", no file", [name for name in os.listdir(folder) if name.endswith(".part")], [])
 
 
 def main():

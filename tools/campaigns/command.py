@@ -77,14 +77,17 @@ def must_have(tool, package):
         raise Refused("%s is not there (Debian package %s)" % (tool, package))
 
 
-def found_program(name):
-    """The program's whole path. It is run once without words, so that a launcher that builds it first does so, and says so, here."""
+def found_program(name, is_here):
+    """The program's whole path. A launcher builds it first where it has to, and says so, and tells where it is; where the runs are on
+    other machines too it is the launcher that is run."""
     found = shutil.which(name)
     if found is None:
         raise Refused("there is no program %s; INTERLAKEN_PROGRAM or --program names it" % name)
-    if subprocess.run([found], stdin=subprocess.DEVNULL, stdout=subprocess.DEVNULL).returncode == NOT_BUILT:
+    done = subprocess.run([found], stdin=subprocess.DEVNULL, stdout=subprocess.PIPE, env={**os.environ, "INTERLAKEN_WHICH": "1"})
+    if done.returncode == NOT_BUILT:
         raise Refused("the program was not built")
-    return os.path.abspath(found)
+    told = os.fsdecode(done.stdout).strip()
+    return told if is_here and os.path.isabs(told) and os.access(told, os.X_OK) else os.path.abspath(found)
 
 
 def settings_of(options, program):
@@ -124,7 +127,7 @@ def run_campaign(tool, options):
     records = Records(options.folder, options.first, options.last, campaign_of(options))
     numbers = records.left()
     if numbers:
-        settings = settings_of(options, found_program(options.program or own_program(tool)))
+        settings = settings_of(options, found_program(options.program or own_program(tool), not options.sshlogin))
         passed_on = ["--jobs", options.jobs] * bool(options.jobs) + ["--sshlogin", options.sshlogin] * bool(options.sshlogin)
         run_all(os.path.realpath(tool), numbers, settings, passed_on, lambda line: records.add(line) or print(line, file=sys.stderr))
     return report(options, records)

@@ -4,6 +4,7 @@ import argparse
 import os
 import sys
 
+from drawing.agreement import must_fill_lanes
 from reading.files import Folder, Refused
 from reading.lane_bits import read_lanes
 from reading.plans import Plan, Schedule
@@ -19,44 +20,51 @@ def options_of(words):
     return parser.parse_args(words)
 
 
-def lane_waves(folder, plan, name):
-    """The waves of the lanes, and the first sent bit of lane 0."""
+def lanes_of(folder, plan, name):
+    """The lanes of a plan; the first that is missing is an error."""
     for lane in range(plan.lanes):
         if not folder.has("%s.lane.%d" % (plan.out, lane)):
             raise Refused("%s.lane.%d is missing: `interlaken link %s` makes it" % (plan.out, lane, name))
-    lanes, _ = read_lanes(folder, plan, Schedule(folder, plan))
-    return [LaneWaves(lane, plan) for lane in lanes], lanes[0].front
+    return read_lanes(folder, plan, Schedule(folder, plan))[0]
 
 
-def stream_waves(folder, plan, front, bits):
-    """The waves of the stream, where its words are there; its spans, where their table is there too."""
+def stream_of(folder, plan, lanes):
+    """The stream of a plan and its spans, where its words file and their table are there."""
     words, table = plan.out + ".words", plan.out + ".spans.csv"
     if not folder.has(words):
-        return None
+        return None, []
     stream = Stream(folder, words, plan)
-    room = (bits - front) // plan.period * plan.group
-    if stream.count != room:
-        raise Refused("%s: %d words, and the lanes have room for %d: it is the stream of other lanes" % (words, stream.count, room))
-    spans = read_spans(folder, table, plan, front, stream.count) if folder.has(table) else []
-    return StreamWaves(stream, spans, plan, front)
+    must_fill_lanes(stream, words, plan, [len(lane.bits) // 8 for lane in lanes], [lane.front for lane in lanes])
+    return stream, read_spans(folder, table, plan, lanes[0].front, stream.count) if folder.has(table) else []
 
 
 def write_waves(folder, name, path):
     """Writes the file, and gives what is in it."""
     plan = Plan(folder, name)
-    lanes, front = lane_waves(folder, plan, name)
-    stream = stream_waves(folder, plan, front, len(lanes[0].lane.bits))
+    lanes = lanes_of(folder, plan, name)
+    stream, spans = stream_of(folder, plan, lanes)
+    waves = [LaneWaves(lane, plan, stream) for lane in lanes]
+    scopes = [StreamWaves(stream, spans, plan, lanes[0].front).scope] if stream else []
     path = path or plan.out + ".vcd"
-    scopes = ([stream.scope] if stream else []) + [lane.scope for lane in lanes]
-    try:
-        with open(folder.path(path), "w", encoding="ascii") as file:
-            write_vcd(file, "link", scopes, max(len(lane.lane.bits) for lane in lanes))
-    except OSError as error:
-        raise Refused("%s: %s" % (path, error.strerror or error))
-    counts = {"lanes": len(lanes), "locks": sum(lane.locks for lane in lanes), "words": sum(lane.words for lane in lanes)}
+    write_file(folder, path, scopes + [wave.scope for wave in waves], max(len(lane.bits) for lane in lanes))
+    counts = {"lanes": len(lanes), "locks": sum(wave.locks for wave in waves), "words": sum(wave.words for wave in waves)}
     if stream:
-        counts.update(slots=stream.stream.count, spans=len(stream.spans))
+        counts.update(slots=stream.count, spans=len(spans))
     return "%s %s" % (path, " ".join("%s=%d" % count for count in counts.items()))
+
+
+def write_file(folder, name, scopes, end):
+    """Writes the file beside its place, so that none stands there that is not whole."""
+    part = folder.path(name + ".part")
+    try:
+        with open(part, "w", encoding="ascii") as file:
+            write_vcd(file, "link", scopes, end)
+        os.replace(part, folder.path(name))
+    except OSError as error:
+        raise Refused("%s: %s" % (name, error.strerror or error))
+    finally:
+        if os.path.exists(part):
+            os.remove(part)
 
 
 def main(words):

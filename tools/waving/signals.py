@@ -3,6 +3,8 @@
 from heapq import merge
 from operator import itemgetter
 
+from drawing.agreement import HINT
+from reading.files import Refused
 from reading.plans import CODE
 from waving.lane_words import words_of
 from waving.vcd import Scope, Signal
@@ -17,11 +19,13 @@ KINDS = {"i": "idle", "e": "idle", "b": "burst", "d": "data", "x": "bad"}
 
 
 class LaneWaves:
-    """The signals of a lane; `words` and `locks` count what was read when the changes have been taken."""
+    """The signals of a lane; `words` and `locks` count what was read when the changes have been taken. The stream, where there is one,
+    has to be that of the lane."""
 
-    def __init__(self, lane, plan):
-        self.lane, self.plan = lane, plan
+    def __init__(self, lane, plan, stream):
+        self.lane, self.plan, self.stream = lane, plan, stream
         self.words = self.locks = 0
+        self.received = []
         self.scope = Scope("lane_%d" % lane.number, LANE, self.changes())
 
     def changes(self):
@@ -36,7 +40,21 @@ class LaneWaves:
             self.words += 1
             self.locks += word.lock == "declared" and not was_declared
             was_declared = word.lock == "declared"
+            if self.stream and word.framed:
+                self.compare(word.bit - self.lane.front, word.framed)
         yield end, SEARCH
+
+    def compare(self, bit, framed):
+        """Compares the payload words of a metaframe, from their sent bits on, with the stream where its Diagnostic word is right."""
+        if framed.place == 0:
+            self.received = []
+        slot = self.plan.slot_of(self.lane.number, bit)
+        if slot is not None and bit == self.plan.place_of(slot)[2]:
+            self.received.append((slot, framed.word))
+        if framed.role == "diagnostic" and not framed.wrong:
+            wrong = next((slot for slot, word in self.received if word != self.stream.word(slot)), None)
+            if wrong is not None:
+                raise Refused("%s.words: slot %d is another word than lane %d has, whose Diagnostic word after it is right: %s" % (self.plan.out, wrong, self.lane.number, HINT))
 
 
 def values_of(word):
