@@ -89,8 +89,8 @@ MISTAKES = [
         "o.pcapng: a pcapng capture, which is not read; `editcap -F pcap o.pcapng o.pcap` makes a classic one of it (named in m.plan:3)"]),
     ({"d.txt": LINK}, "burst d.txt", ["d.txt is a plan, and a capture is wanted here: `burst` takes FILE as a plan only where its name ends in .plan"]),
     ({}, "link one.pcap", ["one.pcap is a capture, and a plan is wanted here, whose rows `channel,c,FILE` name captures"]),
-    ({}, "link two_ends.duplex", ["two_ends.duplex is a file of the settings of two ends, and a plan is wanted here: `interlaken duplex two_ends.duplex` takes it",
-                                  "two_ends.duplex:1: unknown key 'plan': it is a key of settings of two ends, and this is read as a plan"]),
+    ({}, "link two_ends.duplex", ["two_ends.duplex is a settings file of two ends, and a plan is wanted here: `interlaken duplex two_ends.duplex` takes it",
+                                  "two_ends.duplex:1: unknown key 'plan': it is a key of a settings file of two ends, and this is read as a plan"]),
     ({"m.duplex": "plan,two_ends.plan\ndelay,10\nmark,99999\nslots,500\nout,m\n"}, "duplex m.duplex", ["m.duplex:3: mark: 99999 is not in 1 to 65536"]),
     ({"m.duplex": "plan,two_end.plan\ndelay,10\nmark,99\nslots,500\nout,m\n"}, "duplex m.duplex", ["m.duplex:1: plan: two_end.plan: no such file; two_ends.plan is there"]),
     ({"m.duplex": "plan,two_ends.plan\ndelay,10\nmark,99\nslots,500\nback,9,one.pcap\nout,m\n"}, "duplex m.duplex", ["m.duplex:5: back: two_ends.plan does not list channel 9"]),
@@ -179,6 +179,8 @@ def refusal_of(folder, command, name):
     refused = Inputs(folder, command, name, True).refused
     if refused is None:
         return None
+    if refused.told is None:
+        return "status 1: store fault: %s" % refused.name
     return "plan refused: %s" % refused.told if refused.is_plan else "input refused: %s: %s" % (refused.name, refused.told)
 
 

@@ -40,10 +40,11 @@ SPOILED = [
     ("damaged.plan", lambda data: data + b"lane,1\n", "damaged.plan", "damaged.plan:8: unknown key 'lane': `lanes`?"),
     ("two_ends.a.2.pcap", lambda data: data[:24], "two_ends.duplex", "two_ends.a.2.pcap: computed "),
 ]
-# Plans of one `out`: what they send is another each time, of as many slots in the second, and with other bytes alone in the third.
+# Plans of one `out`: what they send is another each time, of as many slots in the third, and in other bursts alone in the fourth.
 STALE_FILES = {"first.plan": "lanes,2\nmetaframe,32\nwarmup,4\nchannel,1,one.pcap\nchannel,2,two.pcap\nschedule,damaged.schedule\nout,stale\n",
                "longer.plan": "lanes,2\nmetaframe,32\nwarmup,4\nchannel,1,one.pcap\nchannel,2,three.pcap\nschedule,damaged.schedule\nout,stale\n",
-               "turned.plan": "lanes,2\nmetaframe,32\nwarmup,4\nchannel,1,two.pcap\nchannel,2,one.pcap\nschedule,damaged.schedule\nout,stale\n"}
+               "turned.plan": "lanes,2\nmetaframe,32\nwarmup,4\nchannel,1,two.pcap\nchannel,2,one.pcap\nschedule,damaged.schedule\nout,stale\n",
+               "apart.plan": "lanes,2\nmetaframe,32\nwarmup,4\nburst_short,72\nchannel,1,one.pcap\nchannel,2,two.pcap\nschedule,damaged.schedule\nout,stale\n"}
 # The plan that is there, the files that are of another, the options, and what the tool says.
 STALE = [
     ("first.plan", {}, [], ""),
@@ -55,6 +56,7 @@ STALE = [
     ("longer.plan", {"stale.words": "first.plan"}, ["--only", "stream"], "stale.spans.csv: row 4: slot "),
     ("longer.plan", {"stale.spans.csv": "first.plan"}, [], "stale.words: "),
     ("longer.plan", {"printed": "first.plan"}, ["--text", "printed"], "stale.words: 504 slots, and the run printed 392"),
+    ("first.plan", {"stale.words": "apart.plan"}, [], "stale.words: slot 300 is a control word, and in stale.lane.0 it is none: it is the stream of another run"),
     ("first.plan", {"stale.lane.0": "longer.plan"}, [], "stale.words: its 392 slots fill 15008 bits of a lane, and stale.lane.0 has "),
 ]
 

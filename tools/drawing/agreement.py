@@ -49,6 +49,28 @@ def must_be(name, what, found, printed):
         raise Refused("%s: %d %s, and the run printed %d: %s" % (name, found, what, printed, HINT))
 
 
+def must_be_in_lanes(stream, name, plan, lanes, spans):
+    """An error where a word outside of the spans is control or data, and its code in the lanes is not. Where a span is named by a
+    group that was not sent, or a lane has other bits than its skew in front, nothing is known of the places."""
+    if not all(span.exact for span in spans):
+        return
+    kinds = stream.kinds.translate(str.maketrans("bied", "1110"))
+    is_trusted = [True] * stream.count
+    for span in spans:
+        begin, end = 0 if span.after is None else span.after + 1, stream.count if span.before is None else span.before
+        is_trusted[begin:end] = [False] * (end - begin)
+    for index in range(plan.group):
+        number, _, bit = plan.place_of(index)
+        lane, sent = lanes[number], kinds[index::plan.group]
+        headers = lane.bits[lane.front + bit + 1::plan.period][:len(sent)]
+        if headers == sent or lane.note:
+            continue
+        for slot, found, wanted in zip(range(index, stream.count, plan.group), headers, sent):
+            if found != wanted and is_trusted[slot] and wanted in "01":
+                told = "slot %d is a %s word, and in %s.lane.%d it is none" % (slot, "control" if wanted == "1" else "data", plan.out, number)
+                raise Refused("%s: %s: %s" % (name, told, HINT))
+
+
 def must_fill_lanes(stream, name, plan, sizes, skews):
     """An error where lanes of these bytes do not carry as many slots as a stream has, with their skews or as they were sent."""
     bits = plan.sent_bits(stream.count)

@@ -5,7 +5,7 @@ import os
 import sys
 import tempfile
 
-from drawing.agreement import must_be_of_run, must_fill_lanes
+from drawing.agreement import must_be_in_lanes, must_be_of_run, must_fill_lanes
 from drawing.lanes import draw_lanes
 from drawing.queues import draw_queues
 from drawing.stream import draw_stream
@@ -131,7 +131,9 @@ def draw_plan(work):
         came = {channel: folder.packets("%s.%d.pcap" % (plan.out, channel)) for channel in plan.channels}
         must_be_of_run(stream, plan.out + ".words", plan, spans, came, work.text)
         if work.wants("lanes"):
-            must_fill_lanes(stream, plan.out + ".words", plan, [folder.size("%s.lane.%d" % (plan.out, lane)) for lane in range(plan.lanes)], schedule.skew)
+            sizes = [folder.size("%s.lane.%d" % (plan.out, lane)) for lane in range(plan.lanes)]
+            must_fill_lanes(stream, plan.out + ".words", plan, sizes, schedule.skew)
+            must_be_in_lanes(stream, plan.out + ".words", plan, lanes, spans)
         damaged = {slot: places for slot, places in damaged.items() if slot < stream.count}
         work.save(lambda path: draw_stream(stream, plan, spans, damaged, came, path), plan.out, "stream")
 

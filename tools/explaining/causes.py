@@ -5,29 +5,31 @@ import os
 import re
 import shlex
 
-from reading.files import MAGICS, NG_MAGIC, Refused, is_text, rows_of, shown_name
-from reading.plans import EVENTS, PLAN, SCHEDULE, SETTINGS
-from reading.rows import KeyMissing, RowRefused
+from reading.files import MAGICS, NG_MAGIC, Refused, rows_of, shown_name
+from reading.plans import EVENTS_KIND, PLAN_KIND, SCHEDULE_KIND, SETTINGS_KIND
+from reading.rows import KeyMissing, Kind, RowRefused
 
-CAPTURE, WORDS, PLAN_FILE, SETTINGS_FILE = "a capture", "a words file", "a plan", "a file of the settings of two ends"
+CAPTURE, WORDS, LISTING = "a capture", "a words file", "a listing"
+SEEN = 1 << 16  # bytes of a file by which its kind is told
 PACKED = {b"\x1f\x8b": "gunzip", b"\x28\xb5": "unzstd", b"\xfd7": "unxz", b"BZ": "bunzip2"}
 # What the program's words for a cause mean, where the inputs do not show it any more.
-MEANINGS = {"text": "a field is not UTF-8", "key": "an unknown key", "fields": "another number of fields", "number": "a number, a word or a state that is not spelled as one",
-            "range": "a number, a name or a number of rows out of range", "repeat": "a second row of what stands once", "clash": "the row contradicts another"}
-LINES = {"words": "`data X`, `bad X`, `control X` (X: 16 digits of 0 to 9 and A to F), `idle sop=..` or `burst sop=..`", "lane": "`sync I`, `state I S`, `code I HH X` or, last, `rest BITS`"}
+MEANINGS = {"text": "a field is not UTF-8", "key": "an unknown key", "fields": "another number of fields",
+            "number": "a number, a word or a state that is not spelled as one", "range": "a number, a name or a number of rows out of range",
+            "repeat": "a second row of what stands once", "clash": "the row contradicts another"}
+LINES = {"words": "`data X`, `bad X`, `control X` (X: 16 digits of 0 to 9 and A to F), `idle sop=..` or `burst sop=..`",
+         "lane": "`sync I`, `state I S`, `code I HH X` or, last, `rest BITS`"}
 
 
-def kind_of(data):
-    """What a file is by its bytes, or None."""
+def kind_of(data, size):
+    """What a file is by its first bytes and its size, or None."""
     if data[:4] in MAGICS or data[:4] == NG_MAGIC:
         return CAPTURE
     if data[:6] == b"words\n" or data[:5] == b"lane\n":
-        return "a listing"
-    if data and len(data) % 9 == 0 and not data[::9].translate(None, b"\1\2\3"):
+        return LISTING
+    if data and size % 9 == 0 and not data[::9].translate(None, b"\1\2\3"):
         return WORDS
-    kinds = ((PLAN_FILE, PLAN), (SETTINGS_FILE, SETTINGS), ("a schedule", SCHEDULE), ("events", EVENTS))
-    for row in rows_of(data[:1 << 16]):
-        of_key = [name for name, keys in kinds if row.fields[0] in keys]
+    for row in rows_of(data):
+        of_key = [kind.name for kind in Kind.known if row.fields[0] in kind.keys]
         if len(of_key) == 1:
             return of_key[0]
         if not of_key:
@@ -38,11 +40,12 @@ def kind_of(data):
 def wanted_kind(inputs, refused):
     """What the file of a refusal should be."""
     if refused.is_plan:
-        return SETTINGS_FILE if inputs.command == "duplex" else PLAN_FILE
+        return (SETTINGS_KIND if inputs.command == "duplex" else PLAN_KIND).name
     if refused.named_by is None:
         return {"burst": CAPTURE, "join": WORDS, "list": WORDS}.get(inputs.command)
     key = refused.named_by[1].fields[0]
-    return {"channel": CAPTURE, "back": CAPTURE, "plan": PLAN_FILE, "schedule": "a schedule", "events": "events"}.get(key, "a %s file" % key)
+    kinds = {"channel": CAPTURE, "back": CAPTURE, "plan": PLAN_KIND.name, "schedule": SCHEDULE_KIND.name, "events": EVENTS_KIND.name}
+    return kinds.get(key, "a %s file" % key)
 
 
 def lines_of(folder, inputs):
@@ -50,8 +53,8 @@ def lines_of(folder, inputs):
     refused = inputs.refused
     if refused.told == "no file":
         return [absent(folder, inputs, refused)]
-    data = b"" if refused.told == "too large" else folder.content(refused.name)
-    found, wanted = kind_of(data), wanted_kind(inputs, refused)
+    data = folder.beginning(refused.name, SEEN)
+    found, wanted = kind_of(data, folder.size(refused.name)), wanted_kind(inputs, refused)
     lines = []
     if found and wanted and found != wanted:
         lines.append(other_kind(inputs, refused, found, wanted))
@@ -78,9 +81,9 @@ def where_named(refused):
 
 def other_kind(inputs, refused, found, wanted):
     told = "%s%s is %s, and %s is wanted here" % (where_named(refused), shown_name(refused.name), found, wanted)
-    if refused.named_by is None and not refused.is_plan and found == PLAN_FILE:
+    if refused.named_by is None and not refused.is_plan and found == PLAN_KIND.name:
         return told + ": `%s` takes FILE as a plan only where its name ends in .plan" % inputs.command
-    if refused.is_plan and found == SETTINGS_FILE:
+    if refused.is_plan and found == SETTINGS_KIND.name:
         return told + ": `interlaken duplex %s` takes it" % shlex.quote(refused.name)
     if refused.is_plan and found == CAPTURE and inputs.command in ("send", "link"):
         return told + ", whose rows `channel,c,FILE` name captures"
@@ -90,8 +93,9 @@ def other_kind(inputs, refused, found, wanted):
 def in_full(refused, data):
     """A refusal with what to do."""
     if refused.told == "pcapng":
-        base = refused.name[:-7] if refused.name.endswith(".pcapng") else refused.name + ".classic"
-        return "%s: a pcapng capture, which is not read; `editcap -F pcap %s %s` makes a classic one of it" % (shown_name(refused.name), shlex.quote(refused.name), shlex.quote(base + ".pcap"))
+        made = (refused.name[:-7] if refused.name.endswith(".pcapng") else refused.name + ".classic") + ".pcap"
+        convert = "editcap -F pcap %s %s" % (shlex.quote(refused.name), shlex.quote(made))
+        return "%s: a pcapng capture, which is not read; `%s` makes a classic one of it" % (shown_name(refused.name), convert)
     unpack = next((tool for magic, tool in PACKED.items() if data.startswith(magic)), None)
     if refused.told and refused.told.startswith("magic") and unpack:
         return "%s: a compressed file, which is not read; `%s %s` unpacks it" % (shown_name(refused.name), unpack, shlex.quote(refused.name))
@@ -105,8 +109,7 @@ def absent(folder, inputs, refused):
     """An absent file: which row names it, and where it may be."""
     told = "%s%s: no such file" % (where_named(refused), shown_name(refused.name))
     if not refused.is_plan and refused.named_by is None and inputs.plan:
-        maker = {"receive": "link", "join": "burst"}[inputs.command]
-        return told + "; `interlaken %s %s` writes it" % (maker, shlex.quote(inputs.name))
+        return told + "; `interlaken %s %s` writes it" % ({"join": "burst"}.get(inputs.command, "link"), shlex.quote(inputs.name))
     return told + "".join("; " + hint for hint in name_hints(folder, inputs, refused.name))
 
 
@@ -134,19 +137,20 @@ def name_hints(folder, inputs, name):
 
 # ---- what only the program's text says
 
-def lines_by_text(folder, inputs, text):
+def lines_by_text(folder, command, file, text):
     """What a refusal means by the program's text alone, where the inputs that are there now do not have it."""
     found = re.match(r"(plan|input) refused: (?:(.*): )?(.*)$", text, re.DOTALL)
     if not found:
         return []
     kind, name, why = found.groups()
-    if inputs.command == "assemble":
-        return [listing_fault(folder, inputs.name, why)]
+    if command == "assemble" and folder.has(file):
+        return [listing_fault(folder, file, why)]
     row = re.match(r"(?:.*: )?row (\d+): (\w+)$", text.partition("refused: ")[2], re.DOTALL)
     if row:
-        name = inputs.name if kind == "plan" else text.partition("refused: ")[2].rpartition(": row ")[0]
-        return ["%s: row %s (empty lines are not counted): %s; the file is not as it was" % (shown_name(name), row.group(1), MEANINGS.get(row.group(2), row.group(2)))]
-    return ["%s: %s; the file is not as it was" % (shown_name(name or inputs.name), why)]
+        name = file if kind == "plan" else text.partition("refused: ")[2].rpartition(": row ")[0]
+        meaning = MEANINGS.get(row.group(2), row.group(2))
+        return ["%s: row %s (empty lines are not counted): %s; the file is not there as it was" % (shown_name(name), row.group(1), meaning)]
+    return ["%s: %s; the file is not there as it was" % (shown_name(name or file), why)]
 
 
 def listing_fault(folder, name, why):

@@ -15,6 +15,8 @@ def line_of(folder, name):
 
 def reason(path, folder):
     parent = os.path.dirname(path) or "."
+    if "\0" in path:
+        return "the name has a zero byte, which no file may have"
     if os.path.isdir(path):
         return "it is a folder, and a file is wanted"
     if not os.path.isdir(parent):
@@ -55,4 +57,5 @@ def disk_reason(parent):
         return "the disk is full: %d bytes are free" % (disk.f_bavail * disk.f_frsize)
     if disk.f_files and disk.f_favail == 0:
         return "the disk has no room for another file"
-    return "nothing is wrong with its name and folder now, and %d MB are free: perhaps the disk was full during the run, a limit of size was met, or the disk failed" % (disk.f_bavail * disk.f_frsize >> 20)
+    free = disk.f_bavail * disk.f_frsize >> 20
+    return "nothing is wrong with its name and folder now, and %d MB are free: perhaps the disk was full during the run, a limit of size was met, or the disk failed" % free

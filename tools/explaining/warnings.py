@@ -30,7 +30,8 @@ def before(inputs):
 
 
 def flow_words(flow):
-    return some([warning(flow.name, row.row, "word: %s changes nothing: %s" % (row.row.fields[1], why)) for row, why in flow.effects() if why], "flow rows change nothing")
+    lines = [warning(flow.name, row.row, "word: %s changes nothing: %s" % (row.row.fields[1], why)) for row, why in flow.effects() if why]
+    return some(lines, "flow rows change nothing")
 
 
 def wide_skews(plan, schedule):
@@ -39,9 +40,9 @@ def wide_skews(plan, schedule):
     apart, room = skew[most] - skew[least], CODE * plan.deskew
     if apart <= room:
         return []
-    row = schedule.skew_rows[most]
-    return [warning(schedule.name, row, "skew: lanes %d and %d lie %d bits apart, more than deskew,%d aligns, %d bits (%d words of %d): the lanes will not align" % (
-        least, most, apart, plan.deskew, room, plan.deskew, CODE))]
+    told = "skew: lanes %d and %d lie %d bits apart, more than deskew,%d aligns, %d bits (%d words of %d)" % (least, most, apart, plan.deskew, room, plan.deskew, CODE)
+    comes = "the lanes will not align" if least_spread(skew, plan.period) > room else "Sync words will be taken together that do not belong together"
+    return [warning(schedule.name, schedule.skew_rows[most], "%s: %s" % (told, comes))]
 
 
 def even_flips(schedule):
@@ -52,12 +53,11 @@ def even_flips(schedule):
         place = tuple(numbers)
         if key != "flip" or count[place] % 2:
             continue
-        if place in first:
-            lines.append(warning(schedule.name, row, "flip: bit %d of lane %d is named %d times, first in line %d, and stays as it was" % (place[1], place[0], count[place], first[place].line)))
-            del first[place]
-            count[place] = 1
-        else:
-            first[place] = row
+        before = first.setdefault(place, row)
+        if before is not row:
+            told = "flip: bit %d of lane %d is named %d times, first in line %d, and stays as it was"
+            lines.append(warning(schedule.name, row, told % (place[1], place[0], count[place], before.line)))
+            count[place] = 1  # told once
     return some(lines, "bits are named an even number of times")
 
 
@@ -88,22 +88,25 @@ def beyond_lanes(plan, schedule, slots):
     """Rows of a schedule that name bits after a lane's last."""
     bits, lines = plan.sent_bits(slots), []
     for row, key, numbers in schedule.rows:
-        if key == "flip" and numbers[1] >= bits:
-            lines.append(warning(schedule.name, row, "flip: bit %d is after the end of lane %d, which has bits 0 to %d: it strikes nothing" % (numbers[1], numbers[0], bits - 1)))
-        if key == "dark" and numbers[1] + numbers[2] > bits:
-            struck = max(0, bits - numbers[1])
-            told = "it strikes nothing" if struck == 0 else "it strikes %d bits of %d" % (struck, numbers[2])
-            lines.append(warning(schedule.name, row, "dark: bits %d to %d go beyond the end of lane %d, which has bits 0 to %d: %s" % (numbers[1], numbers[1] + numbers[2] - 1, numbers[0], bits - 1, told)))
+        lane, first = numbers[:2]
+        end = first + (numbers[2] if key == "dark" else 1)
+        if key == "skew" or end <= bits:
+            continue
+        what = "bits %d to %d go beyond" % (first, end - 1) if key == "dark" else "bit %d is after" % first
+        struck = "it strikes nothing" if first >= bits else "it strikes %d bits of %d" % (bits - first, end - first)
+        lines.append(warning(schedule.name, row, "%s: %s the end of lane %d, which has bits 0 to %d: %s" % (key, what, lane, bits - 1, struck)))
     return some(lines, "rows are beyond the ends of lanes")
 
 
 def beyond_stream(file, slots):
     """Rows of a flow or local file at slots that the stream does not have."""
-    rows = file.rows if file else []
-    return some([warning(file.name, row.row, "slot: %d is after the last slot of the stream, %d: the row changes nothing" % (row.slot, slots - 1)) for row in rows if row.slot >= slots], "rows are after the last slot")
+    told = "slot: %d is after the last slot of the stream, %d: the row changes nothing"
+    rows = [row for row in file.rows if row.slot >= slots] if file else []
+    return some([warning(file.name, row.row, told % (row.slot, slots - 1)) for row in rows], "rows are after the last slot")
 
 
 def held(inputs, text):
+    """Channels that the flow file leaves off, so that packets are left."""
     found = re.search(r"^held channel=(\d+)$", text, re.MULTILINE)
     if not found or not inputs.flow:
         return []
@@ -111,25 +114,26 @@ def held(inputs, text):
     lines = []
     for channel, left in re.findall(r"^sent channel=(\d+) .*left=(\d+)$", text, re.MULTILINE):
         if int(left) and int(channel) in off:
-            lines.append(warning(inputs.flow.name, off[int(channel)], "channel %s is turned off here and not turned on again: %s of its packets are left" % (channel, left)))
+            told = "channel %s is turned off here and not turned on again: %s of its packets are left" % (channel, left)
+            lines.append(warning(inputs.flow.name, off[int(channel)], told))
     return some(lines, "channels are off at the end")
 
 
 def locks(inputs, text):
     """Lanes that declared no lock, and locks that lie too far apart for a group."""
-    reports = [(int(lane), first) for lane, first in re.findall(r"^lane (\d+) .*first=(\S+)", text, re.MULTILINE)]
+    reports = re.findall(r"^lane (\d+) locks=(\d+) first=(\S+)", text, re.MULTILINE)
     if not reports or not inputs.plan:
         return []
-    plan, lines = inputs.plan, []
-    for lane, first in reports:
-        if first == "-":
-            lines.append("%s.lane.%d: warning: no lock: four Sync words, %d words apart (metaframe,%d), were not found" % (plan.out, lane, plan.metaframe, plan.metaframe))
+    plan = inputs.plan
+    told = "%s.lane.%s: warning: no lock: four Sync words, %d words apart (metaframe,%d), were not found"
+    lines = [told % (plan.out, lane, plan.metaframe, plan.metaframe) for lane, count, _ in reports if count == "0"]
     if lines:
         return some(lines, "lanes have no lock") + ["%s: warning: a lane without a lock keeps all lanes from aligning: no packet can come" % plan.out]
-    apart = least_spread([int(first) for _, first in reports], plan.period)
-    if apart > CODE * plan.deskew:
-        return ["%s: warning: all lanes are locked, and do not align: their Sync words lie %d bits apart, and deskew,%d aligns %d" % (plan.out, apart, plan.deskew, CODE * plan.deskew)]
-    return []
+    if any(count != "1" for _, count, _ in reports):
+        return []  # a later lock may align
+    apart, room = least_spread([int(first) for _, _, first in reports], plan.period), CODE * plan.deskew
+    told = "%s: warning: all lanes are locked, and do not align: their Sync words lie %d bits apart, and deskew,%d aligns %d"
+    return [told % (plan.out, apart, plan.deskew, room)] if apart > room else []
 
 
 def least_spread(places, period):
@@ -140,6 +144,7 @@ def least_spread(places, period):
 
 
 def accidents(text):
+    """What the receiver took for the sender's and was not, which `link` counts."""
     found = re.search(r"^accidents locks=(\d+) groups=(\d+) stretches=(\d+)$", text, re.MULTILINE)
     if not found or set(found.groups()) == {"0"}:
         return []

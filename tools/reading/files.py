@@ -64,6 +64,11 @@ class Folder:
     def has(self, name):
         return os.path.isfile(self.path(name))
 
+    def beginning(self, name, most):
+        """The first bytes of a file."""
+        with open(self.path(name), "rb") as file:
+            return file.read(most)
+
     def size(self, name):
         return os.path.getsize(self.path(name))
 

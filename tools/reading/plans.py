@@ -1,10 +1,12 @@
 """Plans, settings of two ends, and the files of rows that a plan names: each as the program takes it, or refused for the same row and
 cause."""
 
+from bisect import bisect_right
 from collections import Counter, namedtuple
 
 from reading.control_words import is_control, is_reset, is_valid_alone, sealed_alone
 from reading.files import rows_of
+from reading.intervals import merged
 from reading.rows import Fault, KeyedRows, Kind, Many, Number, NumberAndText, Text, must_be_within, must_have_fields, number_in, shown, take_rows
 
 CODE = 67
@@ -21,8 +23,8 @@ SETTINGS = {"plan": Text(NAME), "delay": Number(1, 4096), "mark": Number(1, 6553
             "back": NumberAndText(0, MOST_CHANNEL, NAME, "back,c,FILE", True), "out": Text(PREFIX)}
 SCHEDULE = {"skew": "skew,lane,bits", "flip": "flip,lane,bit", "dark": "dark,lane,first,count"}
 EVENTS = ("send", "rewind", "take", "lose", "repeat", "takeback", "loseback", "repeatback")
-PLAN_KIND, SETTINGS_KIND = Kind("a plan", PLAN), Kind("settings of two ends", SETTINGS)
-SCHEDULE_KIND, EVENTS_KIND = Kind("a schedule", SCHEDULE), Kind("events", EVENTS)
+PLAN_KIND, SETTINGS_KIND = Kind("a plan", PLAN), Kind("a settings file of two ends", SETTINGS)
+SCHEDULE_KIND, EVENTS_KIND = Kind("a schedule", SCHEDULE), Kind("an events file", EVENTS)
 
 
 class Plan(KeyedRows):
@@ -92,6 +94,8 @@ class Schedule:
         self.flips, self.darks = ([[] for _ in range(plan.lanes)] for _ in range(2))
         if plan.schedule:
             take_rows(folder, plan.schedule, ROWS_LIMIT, self.take)
+        self.joined = [merged(darks) for darks in self.darks]
+        self.dark_begins = [[begin for begin, _ in darks] for darks in self.joined]
         for lane in range(plan.lanes):
             # An even number of flips of one bit leaves it as it was.
             self.flips[lane] = sorted(bit for bit, count in Counter(self.flips[lane]).items() if count % 2)
@@ -122,7 +126,8 @@ class Schedule:
 
     def is_dark(self, lane, bit):
         """Whether a sent bit is 0 whatever was sent."""
-        return any(first <= bit < end for first, end in self.darks[lane])
+        place = bisect_right(self.dark_begins[lane], bit) - 1
+        return place >= 0 and bit < self.joined[lane][place][1]
 
 
 FlowRow = namedtuple("FlowRow", "row slot word")

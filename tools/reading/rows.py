@@ -179,11 +179,11 @@ class KeyedRows:
 class Kind:
     """A kind of file of rows: its name in messages, and the keys of its rows."""
 
-    known = {}
+    known = []
 
     def __init__(self, name, keys):
         self.name, self.keys = name, tuple(keys)
-        Kind.known[name] = self
+        Kind.known.append(self)
 
     def hint(self, row):
         """What is said of an unknown key: a key that is like it, or what the row may be meant as."""
@@ -195,7 +195,7 @@ class Kind:
             return ": there are no comments"
         if len(row.fields) == 1 and (";" in key or "\t" in key):
             return ": fields are separated by commas"
-        other = next((kind.name for kind in Kind.known.values() if bare in kind.keys), None)
+        other = next((kind.name for kind in Kind.known if bare in kind.keys), None)
         if other:
             return ": it is a key of %s, and this is read as %s" % (other, self.name)
         near = difflib.get_close_matches(bare, self.keys, 1)

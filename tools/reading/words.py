@@ -7,7 +7,6 @@ from collections import namedtuple
 from reading.files import Refused
 
 
-
 class Packet(namedtuple("Packet", "channel number first last data end")):
     """A packet of a channel by its number there, from the slot of its SOP word to that of its end word, or None; its bytes; and its end
     format."""
