@@ -163,7 +163,7 @@ def check_failing(tally, folder, by_hand):
     tally.expect("done again, rows", table(folder, "again/1-6.csv"), by_hand)
     silent = write_program(os.path.join(folder, "silent"), "exit 0")
     tally.expect("a program that prints nothing", campaign(folder, 1, 1, "silent_runs", program=silent)[:1], (1,))
-    late = write_program(os.path.join(folder, "late"), '[ "$1" != generate ] || sleep 60')
+    late = write_program(os.path.join(folder, "late"), '[ "$1" != generate ] || exec sleep 60')
     tally.expect("a program that is late", (lambda status, lines: (status, lines[0]))(*campaign(folder, 1, 1, "late_runs", "--timeout", 1, program=late)),
                  (1, "number 1: status 124: no end after 1 seconds"))
     odd = write_program(os.path.join(folder, "odd"), '"$0.real" "$@" | sed "s/^accidents .*/accidents locks=0 groups=2 stretches=1/"; exit 0')

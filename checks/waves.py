@@ -178,7 +178,7 @@ def time_in_group(shape, index):
 
 
 def check_linked(tally, folder, shape, skews):
-    """Lanes as they were received: what the program printed of them, and the stream. Gives the waves."""
+    """Lanes as they were received: what the program printed of them, and the stream. Returns the waves."""
     name = shape.name
     text = printed(tally, folder, "link", name)
     printed(tally, folder, "burst", name)

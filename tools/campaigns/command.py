@@ -78,8 +78,8 @@ def must_have(tool, package):
 
 
 def found_program(name, is_here):
-    """The program's whole path. A launcher builds it first where it has to, and says so, and tells where it is; where the runs are on
-    other machines too it is the launcher that is run."""
+    """The path of the program. A launcher builds it first where it has to, and prints where it is; but other machines run their own
+    launcher, since what was built here is not there."""
     found = shutil.which(name)
     if found is None:
         raise Refused("there is no program %s; INTERLAKEN_PROGRAM or --program names it" % name)
@@ -110,7 +110,7 @@ def first_look(program, options):
 
 
 def campaign_of(options):
-    """What tells a campaign from others: its results may not be mixed with theirs."""
+    """What is the same in all calls of a campaign: the results of two are not mixed."""
     if not options.plan:
         return {"campaign": "generate", "coverage": options.coverage}
     folder = Folder(None, os.getcwd())
@@ -120,7 +120,7 @@ def campaign_of(options):
 
 
 def run_campaign(tool, options):
-    """Does what is not done, and reports all; gives whether all numbers are done and had no accident."""
+    """Runs what is not done, and reports all numbers; returns whether all are done and had no accident."""
     must_have("parallel", "parallel")
     if options.sshlogin:
         must_have("ssh", "openssh-client")

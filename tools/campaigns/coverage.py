@@ -1,7 +1,7 @@
 """What a run hit: an item for each thing that can be, with how often it was."""
 
 import re
-from bisect import bisect_right
+from bisect import bisect_left, bisect_right
 from collections import Counter
 from itertools import groupby
 
@@ -55,13 +55,21 @@ def stream_counts(stream, plan, flow):
         if packet.last is not None:
             end = stream.word(packet.last) >> 57 & 15
             counts["eop %d" % (end & 7 or 8) if end & 8 else "eop error"] += 1
-    counts[OFF] = sum(is_open(stream, channel, slot) for slot, channel in turned_off(flow, plan.entries))
+    counts[OFF] = off_in_packets(stream.packets, turned_off(flow, plan.entries))
     return counts
 
 
-def is_open(stream, channel, slot):
-    """Whether a packet of a channel has begun before a slot and ends at it or after it."""
-    return any(packet.channel == channel and packet.first < slot and (packet.last is None or slot <= packet.last) for packet in stream.packets)
+def off_in_packets(packets, changes):
+    """How many of the changes (slot, channel) are after a packet's first word and not after its end word."""
+    by_channel = {}
+    for packet in packets:
+        by_channel.setdefault(packet.channel, []).append(packet)
+    count = 0
+    for slot, channel in changes:
+        of_channel = by_channel.get(channel, [])
+        place = bisect_left(of_channel, slot, key=lambda packet: packet.first) - 1
+        count += place >= 0 and (of_channel[place].last is None or slot <= of_channel[place].last)
+    return count
 
 
 def turned_off(flow, entries):

@@ -56,7 +56,7 @@ def copy_plan(source, name, target):
 
 
 def draw_schedule(folder, number, settings):
-    """Gives the plan of a folder the schedule that is drawn by a number."""
+    """Adds the schedule that is drawn by a number to the plan of a folder."""
     name = CASE + ".schedule"
     rows = drawn_rows(number, Plan(Folder(None, folder), CASE + ".plan"), settings["bits"], settings["rates"])
     write_rows(os.path.join(folder, name), rows)

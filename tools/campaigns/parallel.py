@@ -34,7 +34,7 @@ def run_job(words):
 
 
 def run_all(tool, numbers, settings, options, take):
-    """Has parallel run the numbers, and gives each line that a job prints to a call."""
+    """Has parallel run the numbers, and calls `take` with each line that a job prints."""
     each = max(1, min(MOST_NUMBERS, len(numbers) // (4 * (os.cpu_count() or 1))))
     command = " ".join([shlex.quote(tool), RUN, packed(settings), "{}"])
     with tempfile.NamedTemporaryFile("w", prefix="campaign.", encoding="ascii") as file:

@@ -40,7 +40,7 @@ class Records:
             self.by_number[record["number"]] = record
 
     def add(self, line):
-        """Keeps a record that a run printed, and gives whether it was one."""
+        """Keeps a record that a job printed, and returns whether the line is one."""
         record = parsed(line)
         if record is None:
             return False

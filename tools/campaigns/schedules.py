@@ -1,4 +1,4 @@
-"""Schedules that are drawn by a number: the same number, rates and lanes give the same schedule on every machine."""
+"""Schedules that are drawn by a number: the same for the same number, rates and lanes, on every machine."""
 
 import random
 from bisect import bisect_right

@@ -39,7 +39,7 @@ def stream_of(folder, plan, lanes):
 
 
 def write_waves(folder, name, path):
-    """Writes the file, and gives what is in it."""
+    """Writes the file, and returns the line that says what is in it."""
     plan = Plan(folder, name)
     lanes = lanes_of(folder, plan, name)
     stream, spans = stream_of(folder, plan, lanes)

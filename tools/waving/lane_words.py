@@ -47,7 +47,7 @@ def word_locks(bits):
 
 
 def words_of_lock(bits, phase, lost, declared, plan):
-    """The words of a word lock from its phase on. Gives the bit from which the next search goes on, or None after the last word."""
+    """The words of a word lock from its phase on. Returns the bit from which the next search goes on, or None after the last word."""
     if lost is not None and declared is not None and lost <= declared:
         declared = None
     given_up = phase + CODE * (SEARCHED * plan.metaframe - 1) if declared is None else None

@@ -49,7 +49,7 @@ class LaneWaves:
         if framed.place == 0:
             self.received = []
         slot = self.plan.slot_of(self.lane.number, bit)
-        if slot is not None and bit == self.plan.place_of(slot)[2]:
+        if slot is not None and 0 <= slot < self.stream.count and bit == self.plan.place_of(slot)[2]:
             self.received.append((slot, framed.word))
         if framed.role == "diagnostic" and not framed.wrong:
             wrong = next((slot for slot, word in self.received if word != self.stream.word(slot)), None)

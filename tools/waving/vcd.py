@@ -7,8 +7,8 @@ from operator import itemgetter
 
 # A signal by its kind (`wire`, `integer`, `real` or `string`), its bits, and its name.
 Signal = namedtuple("Signal", "kind bits name")
-# Signals with one name before theirs. `changes` gives (time, values) in order of time, a value for each signal: a number, a text, or
-# None where the signal has none.
+# Signals with one name before theirs. `changes` yields (time, values) in order of time, a value for each signal: a number, a text,
+# or None where the signal has none.
 Scope = namedtuple("Scope", "name signals changes")
 FIRST, LAST = ord("!"), ord("~")
 time_of = itemgetter(0)
@@ -22,7 +22,7 @@ def identifier(number):
 
 
 def value_text(signal, short, value):
-    """A line that gives a signal a value."""
+    """The line that sets a signal to a value."""
     if signal.kind == "string":
         return "s%s %s\n" % (value, short)
     if signal.kind == "real":
