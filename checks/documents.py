@@ -19,8 +19,8 @@ from tally import Tally
 PROGRAM, TOP = os.path.abspath(sys.argv[1]), os.path.abspath(sys.argv[2])
 # The pages, with the folder of the first command of each.
 PAGES = {"README.md": "", "docs/TOUR.md": "examples", "tools/README.md": "", "examples/testbench/README.md": "examples/testbench"}
-# What the pages call that a machine may lack, with the Debian package of each.
-TOOLS = {"iverilog": "iverilog", "vvp": "iverilog", "verilator": "verilator"}
+# What the pages call that a machine may lack: the tool and its Debian package, by the command that needs it.
+TOOLS = {"iverilog": ("iverilog", "iverilog"), "vvp": ("vvp", "iverilog"), "verilator": ("verilator", "verilator"), "../tools/campaign": ("parallel", "parallel")}
 TELLS_STATUS = "echo $?"
 # A command has to end by then.
 SECONDS = 60
@@ -44,9 +44,10 @@ def commands(number, lines):
 
 
 def missing_tool(lines):
-    """The first tool that the commands of a block call and that is not there."""
+    """The first tool that the commands of a block need and that is not there, with its package; or nothing."""
     called = (line[2:].split()[0] for line in lines if line.startswith("$ "))
-    return next((tool for tool in called if tool in TOOLS and not shutil.which(tool)), None)
+    needed = (TOOLS[command] for command in called if command in TOOLS)
+    return next((needs for needs in needed if not shutil.which(needs[0])), None)
 
 
 def make_folder(top, page):
@@ -108,9 +109,9 @@ def check_page(tally, page):
     with tempfile.TemporaryDirectory(prefix="documents.") as top:
         shell = Shell(make_folder(top, page))
         for number, lines in found:
-            tool = missing_tool(lines)
-            if tool:
-                tally.not_tried(tool, TOOLS[tool], "%s, line %d and below" % (page, number))
+            missing = missing_tool(lines)
+            if missing:
+                tally.not_tried(*missing, "%s, line %d and below" % (page, number))
             else:
                 check_block(tally, shell, page, number, lines)
 

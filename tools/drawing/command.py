@@ -5,7 +5,7 @@ import os
 import sys
 import tempfile
 
-from drawing.agreement import must_be_in_lanes, must_be_of_run, must_fill_lanes
+from reading.agreement import must_be_in_lanes, must_be_of_run, must_fill_lanes
 from drawing.lanes import draw_lanes
 from drawing.queues import draw_queues
 from drawing.stream import draw_stream

@@ -1,35 +1,11 @@
 """Control words: their fields and their CRC24."""
 
-POLYNOMIAL = 0x328B63
-REGISTER = (1 << 24) - 1
-
-
-def crc_table():
-    """What eight bits do to the register, by its upper byte."""
-    table = []
-    for byte in range(256):
-        register = byte << 16
-        for _ in range(8):
-            register = register << 1 ^ (POLYNOMIAL if register >> 23 else 0)
-            register &= REGISTER
-        table.append(register)
-    return table
-
-
-TABLE = crc_table()
-
-
-def crc24(data):
-    """The CRC24 of bytes."""
-    register = REGISTER
-    for byte in data:
-        register = register << 8 & REGISTER ^ TABLE[register >> 16 ^ byte]
-    return register ^ REGISTER
+from reading.checksums import CRC24
 
 
 def sealed_alone(word):
     """A control word with the CRC24 that it has where it covers no data."""
-    return word >> 24 << 24 | crc24((word >> 24 << 24).to_bytes(8, "big"))
+    return word >> 24 << 24 | CRC24.of((word >> 24 << 24).to_bytes(8, "big"))
 
 
 def is_control(word):

@@ -4,7 +4,7 @@ import argparse
 import os
 import sys
 
-from drawing.agreement import must_fill_lanes
+from reading.agreement import must_fill_lanes
 from reading.files import Folder, Refused
 from reading.lane_bits import read_lanes
 from reading.plans import Plan, Schedule

@@ -3,10 +3,10 @@
 from heapq import merge
 from operator import itemgetter
 
-from drawing.agreement import HINT
+from reading.agreement import HINT
 from reading.files import Refused
+from reading.lane_words import words_of
 from reading.plans import CODE
-from waving.lane_words import words_of
 from waving.vcd import Scope, Signal
 
 NONE = "-"

@@ -2,9 +2,11 @@
 
 from collections import namedtuple
 
-from reading.lane_bits import HEADERS, SEARCHED, declaring, headers_lost
+from reading.metaframes import WORD, Metaframes
 from reading.plans import CODE
-from waving.metaframes import WORD, Metaframes
+
+# A word lock takes 64 words with legal headers; the 16th illegal one of a block loses it, and so do six metaframes without a lock.
+HEADERS, ILLEGAL, SEARCHED = 64, 16, 6
 
 # A word from a bit of the lane on. `lock` is `words` in a word lock and `declared` from the declaring Sync word on, but at the word
 # that ends either it says why: `lost_headers`, `lost_sync`, `lost_state`, `unframed`. `disparity` is that of the words of the lock
@@ -74,3 +76,21 @@ def reason(bit, lost, given_up, framed):
     if bit == given_up:
         return "unframed"
     return "lost_" + framed.why if framed and framed.why else None
+
+
+def headers_lost(legal, phase):
+    """The bit of the word, of those from a phase on, at which a block of 64 has its 16th illegal header; None where there is none."""
+    headers = legal[phase + 1:len(legal) - CODE + 2:CODE]
+    for block in range(0, len(headers), HEADERS):
+        wrong = [place for place in range(block, min(block + HEADERS, len(headers))) if headers[place] == "0"]
+        if len(wrong) >= ILLEGAL:
+            return phase + CODE * wrong[ILLEGAL - 1]
+    return None
+
+
+def declaring(syncs, phase, metaframe):
+    """The bit of the fourth of four Sync words a metaframe apart, of the words from a phase on, before the search is given up."""
+    period, there = CODE * metaframe, set(syncs)
+    last = phase + CODE * SEARCHED * metaframe
+    return next((at + 3 * period for at in syncs if at >= phase and (at - phase) % CODE == 0 and at + 3 * period < last
+                 and all(at + n * period in there for n in (1, 2, 3))), None)

@@ -2,41 +2,26 @@
 
 from collections import namedtuple
 
+from reading.checksums import CRC32
 from reading.control_words import is_control
-from reading.lane_bits import SYNC
 
+SYNC = 0x78F678F678F678F6
 CONTROL = 2
 WORD = (1 << 64) - 1
 STATE_BITS = 58
 STATE = (1 << STATE_BITS) - 1
 STATE_MARK, DIAGNOSTIC_MARK = 0b001010, 0b011001
 WRONG_SYNCS, WRONG_STATES = 4, 3
-POLYNOMIAL, REGISTER = 0x1EDC6F41, (1 << 32) - 1
+HALF = (1 << 32) - 1
 
 # A word by its role: the place in its metaframe, the descrambled payload or None where its header is bad, whether it is a framing
 # word that is wrong, and why the lock is lost at it, or None.
 Framed = namedtuple("Framed", "role place word wrong why")
 
 
-def crc_table():
-    """What eight bits do to the register of a CRC32, by its upper byte."""
-    table = []
-    for byte in range(256):
-        register = byte << 24
-        for _ in range(8):
-            register = (register << 1 ^ (POLYNOMIAL if register >> 31 else 0)) & REGISTER
-        table.append(register)
-    return table
-
-
-TABLE = crc_table()
-
-
 def crc_after(register, word):
     """The register of a CRC32 after the 64 bits of a word."""
-    for byte in word.to_bytes(8, "big"):
-        register = register << 8 & REGISTER ^ TABLE[register >> 24 ^ byte]
-    return register
+    return CRC32.after(register, word.to_bytes(8, "big"))
 
 
 def key_after(state):
@@ -44,7 +29,7 @@ def key_after(state):
     key = 0
     for _ in range(2):
         # Key bit n is the exclusive or of those 39 and 58 steps back, so 32 of them are known at once.
-        bits = (state >> STATE_BITS - 32 ^ state >> 39 - 32) & REGISTER
+        bits = (state >> STATE_BITS - 32 ^ state >> 39 - 32) & HALF
         key, state = key << 32 | bits, (state << 32 | bits) & STATE
     return key, state
 
@@ -64,7 +49,7 @@ class Metaframes:
     def __init__(self, plan):
         self.length, self.skips = plan.metaframe, plan.skips
         self.place, self.is_first = 0, True
-        self.state, self.crc, self.has_bad = 0, REGISTER, False
+        self.state, self.crc, self.has_bad = 0, CRC32.ones, False
         self.wrong_syncs = self.wrong_states = 0
 
     def take(self, header, payload):
@@ -87,7 +72,7 @@ class Metaframes:
     def sync(self, header, payload, is_bad):
         wrong = header != CONTROL or payload != SYNC
         self.wrong_syncs = self.wrong_syncs + 1 if wrong else 0
-        self.crc, self.has_bad = crc_after(REGISTER, 0 if is_bad else payload), is_bad
+        self.crc, self.has_bad = crc_after(CRC32.ones, 0 if is_bad else payload), is_bad
         return Framed("sync", 0, None if is_bad else payload, wrong, "sync" if self.wrong_syncs == WRONG_SYNCS else None)
 
     def scrambler_state(self, header, payload, is_bad):
@@ -103,5 +88,5 @@ class Metaframes:
 
     def diagnostic(self, header, word):
         right = header == CONTROL and word >> STATE_BITS == DIAGNOSTIC_MARK and not self.has_bad
-        right = right and word & REGISTER == crc_after(self.crc, word & ~REGISTER) ^ REGISTER
+        right = right and word & HALF == crc_after(self.crc, word & ~HALF) ^ HALF
         return Framed("diagnostic", self.length - 1, word, not right, None)
