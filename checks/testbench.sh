@@ -18,10 +18,10 @@ agrees() { # WHAT FOUND WANTED
 }
 
 compile() { # BENCH OUTPUT PARAMETERS..
-  local of=$1 output=$folder/$2 parameters=() parameter
+  local kind=$1 output=$folder/$2 parameters=() parameter
   shift 2
-  for parameter; do parameters+=(-P "tb_$of.$parameter"); done
-  (cd "$bench" && iverilog -g2012 -f "$of.f" -s "tb_$of" "${parameters[@]}" -o "$output") || echo "$of $*: not compiled"
+  for parameter; do parameters+=(-P "tb_$kind.$parameter"); done
+  (cd "$bench" && iverilog -g2012 -f "$kind.f" -s "tb_$kind" "${parameters[@]}" -o "$output") || echo "$kind $*: not compiled"
 }
 
 # Every plan here has one lane, a metaframe of 32 words, one Skip word and a warm-up of 9 groups where its rows say nothing else.
@@ -147,9 +147,9 @@ done
 
 case $(verilator --version 2>/dev/null) in
   'Verilator '[5-9]* | 'Verilator '[1-9][0-9]*)
-    for of in check make; do
-      complaints=$(cd "$bench" && verilator --lint-only -Wall --timing -f "$of.f" --top-module "tb_$of" 2>&1)
-      holds "lint of $of" "$? $complaints" '0 '
+    for kind in check make; do
+      complaints=$(cd "$bench" && verilator --lint-only -Wall --timing -f "$kind.f" --top-module "tb_$kind" 2>&1)
+      holds "lint of $kind" "$? $complaints" '0 '
     done
     ;;
   *) echo "$name: not tried, no verilator of version 5 or later (Debian package verilator): the lint of both benches" ;;
