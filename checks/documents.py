@@ -24,6 +24,8 @@ TOOLS = {"iverilog": ("iverilog", "iverilog"), "vvp": ("vvp", "iverilog"), "veri
 TELLS_STATUS = "echo $?"
 # A command has to end by then.
 SECONDS = 60
+# The commands of a page stand one on another, so its rest is not tried after this many failures.
+FAILURES = 2
 
 
 def blocks(page):
@@ -107,8 +109,11 @@ def check_page(tally, page):
         tally.count(page, "it has no command")
         return
     with tempfile.TemporaryDirectory(prefix="documents.") as top:
-        shell = Shell(make_folder(top, page))
+        shell, failed = Shell(make_folder(top, page)), tally.failed
         for number, lines in found:
+            if tally.failed - failed >= FAILURES:
+                print("%s, line %d and below: left out after these failures" % (page, number))
+                break
             missing = missing_tool(lines)
             if missing:
                 tally.not_tried(*missing, "%s, line %d and below" % (page, number))
