@@ -42,31 +42,23 @@ class Lock(NamedTuple):
         return self.words[(bit - self.declared) // CODE_BITS]
 
 
-def legal_positions(bits: str) -> list[bool]:
-    """For each position at which a code has room whether the header of the code there is legal."""
-    return [bits[at + 1] != bits[at + 2] for at in range(len(bits) - CODE_BITS + 1)]
+def is_word_lock(bits: str, at: int) -> bool:
+    """Whether 64 words from this position on, a code apart, have legal headers."""
+    return all(bits[code + 1] != bits[code + 2] for code in range(at, at + BLOCK * CODE_BITS, CODE_BITS))
 
 
-def word_locks(bits: str) -> list[int]:
-    """The positions from which 64 words, a code apart, have legal headers."""
-    legal = legal_positions(bits)
-    run = [0] * (len(legal) + CODE_BITS)
-    for at in reversed(range(len(legal))):
-        run[at] = run[at + CODE_BITS] + 1 if legal[at] else 0
-    return [at for at in range(len(legal)) if run[at] >= BLOCK]
+def word_lock(bits: str, begin: int) -> int | None:
+    """The least word lock from a bit on."""
+    return next((at for at in range(begin, len(bits) - BLOCK * CODE_BITS + 1) if is_word_lock(bits, at)), None)
 
 
 def searches(bits: str, link: Link) -> list[Lock]:
-    """What each search of a lane came to, in order. The first begins at bit 0, and it finds the least word lock from its beginning on. The next
-    begins after the losing word, or one bit later than that where framing was given up."""
+    """What each search of a lane that found a word lock came to, in order. The first begins at bit 0. The next begins after the losing word, and where
+    framing was given up one bit after the six metaframes."""
     found, begin = [], 0
-    for first in word_locks(bits):
-        if first < begin:
-            continue
+    while (first := word_lock(bits, begin)) is not None:
         lock, after = follow(bits, first, link)
         found.append(lock)
-        if lock.cause is None:
-            break
         begin = after + (lock.cause is Cause.UNFRAMED)
     return found
 

@@ -57,9 +57,10 @@ class OpenStream:
         self.shape = source.shape
         self.words: list[Word] = []
         self.incoming, self.outgoing = Incoming(source.entries), Outgoing(source.entries)
-        self.chunks: dict[int, deque[Chunk]] = {channel: deque() for channel in source.channels}
+        # The chunks that are left of each channel that has some.
+        self.chunks: dict[int, deque[Chunk]] = {}
         for channel, packet in source.packets:
-            self.chunks[channel].extend(cut(packet, self.shape))
+            self.chunks.setdefault(channel, deque()).extend(cut(packet, self.shape))
         # The key of a channel: at the start by its number, which comes before every row and every burst word.
         self.keys = {channel: (-1, 0, channel, 0) for channel in source.channels}
         self.flow_rows, self.control_words = 0, 0
@@ -78,13 +79,13 @@ class OpenStream:
         for row in local:
             self.outgoing.take(row)
 
-    def has_bytes(self) -> list[int]:
+    def left(self) -> list[int]:
         """The listed channels that have bytes left."""
-        return [channel for channel, chunks in self.chunks.items() if chunks]
+        return list(self.chunks)
 
     def ready(self) -> list[int]:
         """A channel is ready where it is listed, is on, and has bytes left."""
-        return [channel for channel in self.has_bytes() if self.incoming.is_on(channel)]
+        return [channel for channel in self.chunks if self.incoming.is_on(channel)]
 
     def in_burst(self) -> bool:
         """Whether the next slot holds a data word."""
@@ -113,6 +114,8 @@ class OpenStream:
     def burst_word(self, channel: int) -> int:
         """A burst word has its channel's number, and SOP exactly where its chunk is the first of its packet."""
         chunk = self.chunks[channel].popleft()
+        if not self.chunks[channel]:
+            del self.chunks[channel]
         end = fields.end_of_bytes(len(chunk.data)) if chunk.last else NO_END
         number = self.control(True, chunk.first, channel, end)
         self.coming.extend(data_words(chunk.data))
@@ -147,7 +150,7 @@ def payload_stream(source: Source) -> Stream:
         slot = len(stream.words)
         stream.take_rows(rows_at(flow, slot), rows_at(local, slot))
         if finish is None and slot >= source.shape.warmup * group and not stream.in_burst() and not stream.ready():
-            left = stream.has_bytes()
+            left = stream.left()
             finish = slot if not left or not flow else None
         stream.put_next()
     return Stream(stream.words, finish, left)

@@ -1,0 +1,556 @@
+"""Random cases for the comparison of program and model: files and words of the command line, right ones and malformed ones, drawn from a seed.
+
+Each kind draws on purpose what is rare: each cause of a refusal, each reason of a drop, each way to lose a lock, accidents, streams that are held.
+"""
+
+from random import Random
+from typing import Callable, NamedTuple, Sequence
+
+import fields
+import lanes
+import listing
+import oob
+import random_inputs as drawn
+import words_file
+from fields import BAD, CONTROL, DATA, Word
+from files import Refusal
+from link import CODE_BITS, Link
+from random_inputs import Drawn
+from stream import payload_stream
+
+
+class Case(NamedTuple):
+    """The words of the command line, the files that lie there, and whether a plan among them is wide."""
+    words: list[str]
+    files: dict[str, bytes]
+    wide: bool = False
+
+
+# ---- streams
+
+def capture_case(r: Random) -> Case:
+    """`burst` of a capture without a plan."""
+    of = drawn.packets(r, 12)
+    data = drawn.spoiled_capture(r, of) if r.randrange(3) == 0 else drawn.capture(r, of)
+    return Case(["burst", "a.pcap"], {"a.pcap": data} if r.randrange(20) else {})
+
+
+def plan_case(command: str) -> Callable[[Random], Case]:
+    """A command that makes a stream of a plan."""
+    def make(r: Random) -> Case:
+        d = Drawn(r)
+        if r.randrange(2):
+            d.add_flow()
+        if r.randrange(3) == 0:
+            d.add_local()
+        if r.randrange(4) == 0:
+            d.rows += [["schedule", "none"], ["window", 3]]
+        return Case([command, "p.plan"], d.spoil() if r.randrange(3) == 0 else d.all_files(), d.wide)
+    return make
+
+
+def link_case(r: Random) -> Case:
+    """`link` of a plan with a schedule."""
+    d = Drawn(r, longest=r.choice([None, 500]))
+    if r.randrange(3) == 0:
+        d.add_flow()
+    if r.randrange(4) == 0:
+        d.add_local()
+    if r.randrange(12):
+        d.add_rows("schedule", "s.csv", drawn.schedule_rows(r, d.plan, lane_length(d)))
+    return Case(["link", "p.plan"], d.spoil() if r.randrange(5) == 0 else d.all_files(), d.wide)
+
+
+def lane_length(d: Drawn) -> int:
+    """The bits of a sent lane."""
+    return len(payload_stream(d.source()).words) // d.plan.link.group * d.plan.link.period
+
+
+def channels_case(r: Random) -> Case:
+    """`burst` or `link` of a thousand wide channels, or of as many narrow ones as there are."""
+    wide = r.randrange(2) == 1
+    numbers = r.sample(range(65_536), r.randint(1_000, 1_024)) if wide else r.sample(range(256), 256)
+    files = {"%d.pcap" % n: drawn.capture(r, [drawn.packet(r, r.choice([1, 9, 65])) for _ in range(n)]) for n in range(3)}
+    names = ["", "", "", ",0.pcap", ",1.pcap", ",2.pcap"]
+    rows = ["lanes,%d" % r.randint(1, 4), "metaframe,%d" % r.randint(32, 64), "warmup,4", "out,o", "schedule,s.csv"] + ["wide,1"] * wide
+    rows += ["channel,%d%s" % (n, r.choice(names)) for n in numbers]
+    rows += ["entry,%d" % r.choice(numbers) for _ in range(r.choice([0, 0, 1_024, 1_025]))]
+    files["p.plan"] = "".join(row + "\n" for row in rows).encode()
+    files["s.csv"] = b"flip,0,%d\n" % r.randrange(40_000)
+    return Case([r.choice(["burst", "link"]), "p.plan"], files, wide)
+
+
+def generate_case(r: Random) -> Case:
+    """`generate`, with prefixes that need quotes, over files that are replaced."""
+    prefix = r.choice(["g", "g", "a,b", 'a"b', "\u00e9 \u2603", "g.plan", "p" * 180])
+    number = r.choice([r.randrange(1_000), r.getrandbits(64), 2 ** 64 - 1])
+    return Case(["generate", r.choice(["", "0"]) + str(number) if number < 2 ** 60 else str(number), prefix], {prefix[:100] + ".plan": b"old"})
+
+
+# ---- words of the command line
+
+def words_case(r: Random) -> Case:
+    """Words that are accepted or not, names at their limits, outputs in a folder that is not there, a file in the way of one."""
+    d = Drawn(r)
+    out = r.choice(["o", "no/o", "o" * 200, "p", "\u00fc,", "-o"])
+    d.rows = [row for row in d.rows if row[0] != "out"] + [["out", out if out.isalnum() or "/" in out or out == "-o" else '"%s"' % out]]
+    files = d.all_files()
+    name = r.choice(["p.plan", "p.plan", "p.plan", "q.plan", "-", "-p.plan", "", "n" * 255, "n" * 256, "\u00e9" * 128, "no/p.plan", ".plan", "c0.pcap", "p"])
+    command = r.choice(["burst", "join", "send", "receive", "link", "duplex", "oobwrite", "oobread", "resend", "list", "assemble", "Burst", "", "help", "link "])
+    words = r.choice([[command, name], [command, name], [command, name], [command, name, name], [command], [name, command], []])
+    if r.randrange(5) == 0:
+        number = r.choice(["0", "1" * 20, "18446744073709551616", "9" * 20, "0" * 21, "", "x1", "-1", " 1", "1.", "\u0661"])
+        words = ["generate", number, r.choice(["no/g", "", "-g", "g" * 181, "g"])]
+        words = r.choice([words, words, words[:2], words + ["x"]]) if not are_good(words) else ["generate", number, "no/g"]
+    return Case(words, files, d.wide)
+
+
+def are_good(words: Sequence[str]) -> bool:
+    """Whether a whole case would be generated, which takes long."""
+    return words[2] == "g"
+
+
+# ---- received words
+
+def mutated_words(r: Random, words: Sequence[Word]) -> list[Word]:
+    """A stream with a few words that break rules, or pass them: fields of control words are changed and sealed anew, words change their kind, are lost,
+    repeated, moved or damaged."""
+    found = list(words)
+    for _ in range(r.choice([0, 1, 2, 4, 9])):
+        if found:
+            r.choice(MUTATIONS)(r, found, r.randrange(len(found)))
+    return found
+
+
+def change_fields(r: Random, words: list[Word], at: int) -> None:
+    """The next control word gets other fields, and its right CRC24."""
+    at = next((place for place in range(at, len(words)) if words[place].kind == CONTROL), None)
+    if at is None:
+        return
+    low, high = r.choice([(57, 61), (57, 58), (60, 61), (61, 62), (62, 63), (32, 40), (24, 32), (62, 64), (57, 64)])
+    number = words[at].number
+    for bit in range(low, high):
+        number ^= r.randrange(2) << bit
+    words[at] = Word(CONTROL, number if r.randrange(5) else number | 1 << 57 & ~(0b111 << 58))
+    seal(words, at)
+
+
+def seal(words: list[Word], at: int) -> None:
+    """Gives a control word the CRC24 of the data words before it and itself."""
+    data = []
+    while at - len(data) > 0 and words[at - len(data) - 1].kind == DATA:
+        data.insert(0, words[at - len(data) - 1].number)
+    words[at] = Word(words[at].kind, fields.sealed(data, words[at].number))
+
+
+def change_end(r: Random, words: list[Word], at: int) -> None:
+    """A packet ends with an error, at another byte, not at all, or by an end format that is none."""
+    at = next((place for place in range(at, len(words)) if words[place].kind == CONTROL and fields.end_format(words[place].number)), None)
+    if at is not None:
+        words[at] = Word(CONTROL, words[at].number & ~(0b1111 << 57) | r.choice([0, 1, 1, 1, 2, 7, 8, 9, 12]) << 57)
+        seal(words, at)
+
+
+def invert_bit(r: Random, words: list[Word], at: int) -> None:
+    """One bit of a word is inverted."""
+    words[at] = Word(words[at].kind, words[at].number ^ 1 << r.randrange(64))
+
+
+def change_kind(r: Random, words: list[Word], at: int) -> None:
+    """A word becomes one of another kind."""
+    words[at] = Word(r.choice([DATA, CONTROL, BAD, BAD]), words[at].number)
+
+
+def lose(r: Random, words: list[Word], at: int) -> None:
+    """Words are lost, or the end is."""
+    del words[at:at + r.choice([1, 1, 3, 33, 10_000])]
+
+
+def repeat(r: Random, words: list[Word], at: int) -> None:
+    """Words stand twice."""
+    words[at:at] = words[at:at + r.choice([1, 9, 40])]
+
+
+def put_control(r: Random, words: list[Word], at: int) -> None:
+    """A sealed control word of any fields stands between others."""
+    end = r.choice([0, 0, 1, 8, 9, r.randrange(16)])
+    number = fields.control_number(r.randrange(2), r.randrange(2), end, r.randrange(2), 0xFFFF, r.choice([0, 1, 2, 9]), r.choice([0, 0, 1]))
+    words.insert(at, Word(CONTROL, number))
+    seal(words, at)
+
+
+MUTATIONS = (change_fields, change_fields, change_end, change_end, invert_bit, change_kind, lose, repeat, put_control)
+
+
+def far_end(r: Random, d: Drawn) -> list[list]:
+    """The rows of a receiver's plan: those of the sender, with other channels, a shorter longest packet or the other form of numbers."""
+    rows = [row for row in d.rows if row[0] not in ("flow", "local", "max_packet", "entry")]
+    listed = [row for row in rows if row[0] == "channel"]
+    if len(listed) > 1 and r.randrange(3) == 0:
+        rows.remove(r.choice(listed))
+    if r.randrange(8) == 0 and all(row[1] < 256 for row in listed):
+        rows = [row for row in rows if row[0] != "wide"] + [["wide", r.randrange(2)]]
+    return rows + ([["max_packet", r.choice([8, 60, 100, 256])]] if r.randrange(3) == 0 else [])
+
+
+def join_case(r: Random) -> Case:
+    """`join` of a stream's words, mutated or not, by its plan, another plan or none; and of files that are none."""
+    d = Drawn(r)
+    words = mutated_words(r, payload_stream(d.source()).words)
+    if r.randrange(10) == 0:
+        words = [Word(r.choice([1, 1, 2, 2, 2, 3]), random_number(r)) for _ in range(r.choice([0, 1, 30]))]
+    data = words_file.file_of_words(words)
+    if r.randrange(6) == 0:
+        at = 9 * r.randrange(len(data) // 9 + 1)
+        data = r.choice([data[:at] + bytes([r.choice([0, 4, 255])]) + data[at + 1:], data[:r.randrange(len(data) + 1)]])
+    if r.randrange(3) == 0:
+        return Case(["join", "a.words"], {"a.words": data} if r.randrange(20) else {})
+    files = {"p.plan": drawn.spelled(r, far_end(r, d)), "o.words": data}
+    if r.randrange(10) == 0:
+        files = r.choice([{"p.plan": files["p.plan"]}, {"o.words": data}, {**files, "p.plan": drawn.spoiled_plan(r, d.rows)}])
+    return Case(["join", "p.plan"], files, d.wide)
+
+
+def random_number(r: Random) -> int:
+    """A random number, or that of a control word with its own CRC24."""
+    number = 1 << 63 | r.getrandbits(2) << 61 | r.choice([0, 0, 1, 8, 12]) << 57 | r.getrandbits(1) << 32
+    return r.choice([r.getrandbits(64), fields.sealed([], number), fields.sealed([], number)])
+
+
+# ---- received lanes
+
+def receive_case(r: Random) -> Case:
+    """`receive` of the lanes of a stream whose words are mutated and whose bits are damaged, cut, moved, swapped or noise."""
+    d = Drawn(r)
+    words = mutated_words(r, payload_stream(d.source()).words)
+    # A sender has no Bad words; damaged headers make them.
+    words = [word for word in words if word.kind != BAD]
+    words = words[:len(words) - len(words) % d.plan.link.group]
+    bits = [lanes.lane_bits(words, d.plan.link, lane) for lane in range(d.plan.link.lanes)]
+    if r.randrange(2):
+        bits = struck(r, d, bits)
+    for _ in range(r.choice([0, 0, 1, 2])):
+        r.choice(SPOILS)(r, bits, r.randrange(len(bits)))
+    return Case(["receive", "p.plan"], receive_files(r, d, bits), d.wide)
+
+
+def receive_files(r: Random, d: Drawn, bits: Sequence[str]) -> dict[str, bytes]:
+    """A plan and its lanes; sometimes a lane is not there."""
+    files = {"o.lane.%d" % lane: lanes.file_of_bits(part) for lane, part in enumerate(bits)}
+    if r.randrange(20) == 0:
+        del files[r.choice(sorted(files))]
+    rows = far_end(r, d)
+    return {**files, "p.plan": drawn.spoiled_plan(r, rows) if r.randrange(20) == 0 else drawn.spelled(r, rows)}
+
+
+def struck(r: Random, d: Drawn, bits: Sequence[str]) -> list[str]:
+    """Lanes that are damaged as by a schedule."""
+    rows = drawn.schedule_rows(r, d.plan, max(len(bits[0]), CODE_BITS))
+    found = []
+    for lane, part in enumerate(bits):
+        own = [row for row in rows if row[1] == lane]
+        skew = next((row[2] for row in own if row[0] == "skew"), 0)
+        flips = tuple(row[2] for row in own if row[0] == "flip")
+        found.append(lanes.received(part, lanes.Damage(skew, flips, tuple(lanes.Dark(*row[2:]) for row in own if row[0] == "dark"))))
+    return found
+
+
+def cut_front(r: Random, bits: list[str], lane: int) -> None:
+    """The first bits are gone."""
+    bits[lane] = bits[lane][r.randrange(len(bits[lane]) + 1):]
+
+
+def cut_end(r: Random, bits: list[str], lane: int) -> None:
+    """The last bits are gone."""
+    bits[lane] = bits[lane][:r.randrange(len(bits[lane]) + 1)]
+
+
+def swap(r: Random, bits: list[str], lane: int) -> None:
+    """Two lanes stand in each other's place, or one stands twice."""
+    other = r.randrange(len(bits))
+    bits[lane], bits[other] = bits[other], r.choice([bits[lane], bits[other]])
+
+
+def noise(r: Random, bits: list[str], lane: int) -> None:
+    """Random bits stand in front, between or in place of others."""
+    at, count = r.randrange(len(bits[lane]) + 1), r.choice([1, 5, 66, 67, 700, 5_000])
+    bits[lane] = bits[lane][:at] + format(r.getrandbits(count), "0%db" % count) + bits[lane][at + r.choice([0, count]):]
+
+
+def slip(r: Random, bits: list[str], lane: int) -> None:
+    """Bits in the middle are gone."""
+    at = r.randrange(len(bits[lane]) + 1)
+    bits[lane] = bits[lane][:at] + bits[lane][at + r.choice([1, 3, 66, 67, 67 * 32]):]
+
+
+def twice(r: Random, bits: list[str], lane: int) -> None:
+    """All lanes come twice, one after the other."""
+    gap = r.choice(["", "1", "0" * 67, "01" * 600])
+    bits[:] = [part + gap + part for part in bits]
+
+
+SPOILS = (cut_front, cut_end, swap, noise, slip, twice)
+
+
+def regular_case(r: Random) -> Case:
+    """`receive` of lanes that repeat themselves: all alike, alternating, one code or one metaframe again and again, framing of another length."""
+    d = Drawn(r)
+    bits = [regular_bits(r, d.plan.link, lane) for lane in range(d.plan.link.lanes)]
+    if r.randrange(2):
+        bits = [bits[0]] * len(bits)
+    if r.randrange(3) == 0:
+        noise(r, bits, r.randrange(len(bits)))
+    return Case(["receive", "p.plan"], receive_files(r, d, bits), d.wide)
+
+
+def regular_bits(r: Random, link: Link, lane: int) -> str:
+    """The bits of one lane, some ten metaframes of them."""
+    count = r.choice([4, 7, 10, 14]) * link.period
+    idle = Word(CONTROL, fields.sealed([], fields.control_number(False, False, 0, True, 0xFFFF, 0, 0)))
+    other = link._replace(metaframe=r.choice([link.metaframe, link.metaframe + 1, 2 * link.metaframe, link.metaframe - 1 if link.metaframe > 32 else 64]))
+    sent = lanes.lane_bits([idle] * (other.group * r.choice([6, 13])), other, lane)
+    metaframe = [lanes.code(Word(CONTROL, number), r.random() < 0.5) for number in repeated_metaframe(r, link)]
+    pattern = r.choice([
+        "0", "1", "01", "0110", lanes.code(Word(CONTROL, lanes.SYNC), False), lanes.code(Word(DATA, r.getrandbits(64)), True),
+        sent[:link.period], sent, sent, sent[:link.period * 5] + "0" * r.choice([1, 67, 2_000]), "".join(metaframe), "".join(metaframe), "".join(metaframe),
+    ])
+    return (pattern * (count // len(pattern) + 1))[:count]
+
+
+def repeated_metaframe(r: Random, link: Link) -> list[int]:
+    """A Sync, a state word or another word, and idles or Syncs, which the key does not follow."""
+    second = r.choice([lanes.state_number(r.getrandbits(58)), lanes.SYNC, lanes.state_number(0)])
+    return [lanes.SYNC, second] + [r.choice([lanes.SKIP, lanes.SKIP, lanes.SYNC])] * (link.metaframe - 2)
+
+
+# ---- what no receiver can see
+
+def mimic_case(r: Random) -> Case:
+    """`link` with a schedule that makes other words of those that were sent: words that pass, framing where none is, lanes a metaframe apart."""
+    d = Drawn(r)
+    stream = payload_stream(d.source()).words
+    link = d.plan.link
+    rows: list[list] = []
+    for _ in range(r.choice([1, 1, 2])):
+        rows += r.choice([forged_words, forged_words, forged_words, forged_lock, forged_lock, apart])(r, stream, link)
+    skews = {row[1]: row for row in rows if row[0] == "skew"}
+    d.add_rows("schedule", "s.csv", [row for row in rows if row[0] != "skew"] + list(skews.values()))
+    return Case(["link", "p.plan"], d.all_files(), d.wide)
+
+
+def flips_between(lane: int, at: int, sent: str, wanted: str) -> list[list]:
+    """The rows that make wanted bits of the sent ones that stand at a bit of a lane."""
+    return [["flip", lane, at + place] for place, (a, b) in enumerate(zip(sent, wanted)) if a != b]
+
+
+def forged_words(r: Random, stream: Sequence[Word], link: Link) -> list[list]:
+    """Words in place of others, as mutated words of the same number: the payload of a lane's bits changes where that of the word does."""
+    rows = []
+    wanted = list(stream)
+    for _ in range(r.choice([1, 1, 3])):
+        at = r.randrange(len(stream) // 2, len(stream))
+        r.choice([change_fields, change_end, forged_data])(r, wanted, at)
+    for slot, (old, new) in enumerate(zip(stream, wanted)):
+        lane, number = slot % link.lanes, slot // link.lanes
+        at = CODE_BITS * (number // link.rows * link.metaframe + 2 + link.skips + number % link.rows)
+        rows += flips_between(lane, at, lanes.code(old, False), lanes.code(new, False))
+    return rows
+
+
+def forged_data(r: Random, words: list[Word], at: int) -> None:
+    """A data word is another, and the control word after it has the CRC24 of that."""
+    at = next((place for place in range(at, len(words)) if words[place].kind == DATA), None)
+    if at is not None:
+        words[at] = Word(DATA, words[at].number ^ r.choice([1, 1 << 63, r.getrandbits(64)]))
+        seal(words, next(place for place in range(at, len(words)) if words[place].kind == CONTROL))
+
+
+def forged_lock(r: Random, stream: Sequence[Word], link: Link) -> list[list]:
+    """Syncs a metaframe apart at another position than the sender's, with state words after them or not, where the sender's own are damaged or not."""
+    lane = r.randrange(link.lanes)
+    bits = lanes.lane_bits(stream, link, lane)
+    position, count = r.randrange(3, link.metaframe - 1), r.choice([4, 4, 5, 6])
+    first = r.choice([0, 0, 1])
+    rows, state = [], r.getrandbits(58)
+    for turn in range(first, min(first + count, len(bits) // link.period)):
+        at = link.period * turn + CODE_BITS * position
+        wanted = lanes.code(Word(CONTROL, lanes.SYNC), r.random() < 0.5) + lanes.code(Word(CONTROL, lanes.state_number(state)), False)
+        rows += flips_between(lane, at, bits[at:at + 2 * CODE_BITS], wanted[:r.choice([2, 2, 2, 1]) * CODE_BITS])
+        if turn >= first + 3:
+            for _ in range(link.metaframe - 2):
+                _, state = lanes.next_key(state)
+    return rows + [["flip", lane, link.period * turn + 30] for turn in range(r.choice([0, 1, 9]))]
+
+
+def apart(r: Random, stream: Sequence[Word], link: Link) -> list[list]:
+    """Some lanes come whole metaframes later than others."""
+    return [["skew", lane, r.choice([0, 1, 1, 2]) * link.period + r.randrange(60)] for lane in range(link.lanes)]
+
+
+# ---- listings
+
+def list_case(r: Random) -> Case:
+    """`list` of words files and lanes, of random or sent words, damaged and cut ones."""
+    if r.randrange(2):
+        data = words_file.file_of_words([Word(r.choice([1, 1, 2, 2, 3]), r.choice([random_number(r), r.getrandbits(64)])) for _ in range(r.choice([0, 1, 2, 12, 60]))])
+        at = 9 * r.randrange(len(data) // 9 + 1)
+        data = r.choice([data, data, data[:r.randrange(len(data) + 1)], data[:at] + bytes([r.choice([0, 4, 255])]) + data[at + 1:]])
+        return Case(["list", "x.words"], {"x.words": data} if r.randrange(20) else {})
+    return Case(["list", r.choice(["x.lane.0", "words", "x.words.0"])], {name: random_lane(r) for name in ("x.lane.0", "words", "x.words.0")})
+
+
+def random_lane(r: Random) -> bytes:
+    """A lane file of framing words and others, cut or damaged, with any number of bits at its end."""
+    def code() -> str:
+        payload = r.choice([r.getrandbits(64), lanes.SYNC, lanes.state_number(r.getrandbits(58)), lanes.SYNC ^ lanes.ONES_64])
+        return listing.code_bits(r.choice("01"), r.choice(["01", "10", "10", "10", "00", "11"]), payload)
+    bits = "".join(code() for _ in range(r.choice([0, 1, 8, 40]))) + format(r.getrandbits(66), "066b")[:r.choice([0, 3, 66])]
+    return lanes.file_of_bits(bits[r.choice([0, 0, r.randrange(len(bits) + 1)]):])
+
+
+SPELLINGS = (
+    ("sync 0", "code 0 10 78F678F678F678F6"), ("sync 1", "code 1 10 78F678F678F678F6"), ("state 0 0", "state 0 4"), ("state 1 ", "state 1 0"),
+    ("code 0 10", "code 0 01"), ("code 1 ", "code 2 "), ("eop=8", "eop=0"), ("eop=none", "eop=error"), ("eop=error", "eop=9"), ("channel=", "channel=0"),
+    ("channel=", "channel=25"), ("multi=", "multi=25"), ("sop=1", "sop=2"), ("data ", "control "), ("control ", "data "), ("bad ", "control "),
+    ("words", "lane"), ("lane", "words"), ("idle", "burst"), ("burst", "data"), ("flow=", "flow=0"), ("\n", "\r\n"), ("rest ", "rest 0"),
+    ("rest ", "rest 1\nrest "), (" ", "  "), ("A", "a"),
+)
+
+
+def mutated_text(r: Random, text: str) -> str:
+    """A listing with one place that is told in another way, or with bytes that are lost, put in or moved."""
+    at = r.randrange(len(text) + 1)
+    change = r.randrange(6)
+    if change < 2:
+        old, new = r.choice([pair for pair in SPELLINGS if pair[0] in text] or [("", "")])
+        return text.replace(old, new, r.choice([1, 1, 1_000]))
+    if change == 2:
+        return text[:at] + r.choice(["0", " ", "\n", "\r", "rest 1\n", "sync 0\n", "data 0000000000000000\n", "\u00e9", "words\n"]) + text[at:]
+    if change == 3:
+        return text[:at] + text[at + r.choice([1, 2, 28]):]
+    if change == 4:
+        return text[:at]
+    lines = text.splitlines(True)
+    lines.insert(r.randrange(len(lines) + 1), lines.pop(r.randrange(len(lines))) if lines else "")
+    return "".join(lines)
+
+
+def assemble_case(r: Random) -> Case:
+    """`assemble` of listings, right and mutated ones."""
+    while True:
+        made = list_case(r)
+        name = made.words[1]
+        try:
+            text = listing.text_of(listing.listing(name, made.files.get(name, b""))).decode()
+        except Refusal:
+            continue
+        for _ in range(r.choice([0, 1, 1, 1, 2])):
+            text = mutated_text(r, text)
+        return Case(["assemble", "x.txt"], {"x.txt": text.encode()} if r.randrange(30) else {})
+
+
+# ---- two ends
+
+def duplex_case(r: Random) -> Case:
+    """`duplex`, with settings, plan and captures of both ends, one of them sometimes spoiled."""
+    d = Drawn(r)
+    d.rows += r.choice([[], [["flow", "none"], ["schedule", "none"]]])
+    rows = [["plan", "p.plan"], ["delay", r.choice([1, 2, 10, 60, 400, 4_096])], ["mark", r.choice([1, 2, 8, 16, 40, 65_536])],
+            ["slots", r.choice([1, 100, 600, 900, 1_500])], ["out", "d"]]
+    rows += [["drain", r.choice([1, 2, 3, 4, 9, 1_024])]] if r.randrange(4) else []
+    back = r.sample(d.plan.channels, r.randint(0, len(d.plan.channels)))
+    files = {"b%d.pcap" % channel: drawn.capture(r, drawn.packets(r)) for channel in back}
+    rows += [["back", channel, "b%d.pcap" % channel] for channel in back]
+    if r.randrange(12) == 0:
+        rows.append(["back", r.choice([4, 65_535]), "b.pcap"])
+    r.shuffle(rows)
+    plan = d.spoil() if r.randrange(8) == 0 else d.all_files()
+    files = {**plan, **files, "s.duplex": drawn.spoiled(r, rows) if r.randrange(4) == 0 else drawn.spelled(r, rows)}
+    if r.randrange(12) == 0:
+        name = r.choice(sorted(files))
+        files[name] = r.choice([b"", drawn.spoiled_capture(r, drawn.packets(r))])
+    return Case(["duplex", "s.duplex"], files, d.wide)
+
+
+# ---- out-of-band status
+
+def calendar_of(r: Random, d: Drawn) -> None:
+    """A calendar of one or several blocks."""
+    d.rows = [row for row in d.rows if row[0] != "entry"]
+    d.rows += [["entry", r.choice(d.plan.channels)] for _ in range(r.choice([0, 1, 15, 16, 17, 63, 64, 65, 128, 150]))]
+    d.plan = drawn.plan_of(drawn.spelled(Random(0), d.rows))
+
+
+def oobwrite_case(r: Random) -> Case:
+    """`oobwrite` of a calendar and local rows."""
+    d = Drawn(r)
+    calendar_of(r, d)
+    if r.randrange(5):
+        d.add_local(r.choice([20, 700]))
+    return Case(["oobwrite", "p.plan"], d.spoil() if r.randrange(4) == 0 else d.all_files(), d.wide)
+
+
+def oobread_case(r: Random) -> Case:
+    """`oobread` of samples that `oobwrite` makes, with bits inverted, lost and put in, and of noise."""
+    d = Drawn(r)
+    calendar_of(r, d)
+    samples = bytearray(oob.written(d.plan.entries, drawn.local_rows(r, d.plan.channels, 700)))
+    for _ in range(r.choice([0, 0, 1, 2, 5])):
+        at = r.randrange(len(samples) + 1)
+        samples[at:at + r.choice([0, 1, 1, 2, 30])] = bytes(r.randrange(8) for _ in range(r.choice([0, 1, 1, 2])))
+    if r.randrange(8) == 0:
+        samples = bytearray(r.randrange(8) for _ in range(r.choice([0, 1, 300])))
+    if r.randrange(12) == 0:
+        samples.insert(r.randrange(len(samples) + 1), r.choice([8, 9, 255]))
+    d.rows += [["oob", "s.oob"]] if r.randrange(16) else []
+    d.files["s.oob"] = bytes(samples)
+    found = d.all_files()
+    if r.randrange(10) == 0:
+        found = r.choice([{**found, "p.plan": drawn.spoiled_plan(r, d.rows)}, {"p.plan": found["p.plan"]}])
+    return Case(["oobread", "p.plan"], found, d.wide)
+
+
+# ---- what is sent again
+
+def event_rows(r: Random) -> list[list]:
+    """Events that bring some pieces over, with losses and repetitions, few or many at once."""
+    names = ["send", "take", "takeback"] * 3 + ["rewind", "lose", "repeat", "loseback", "repeatback"]
+    if r.randrange(3) == 0:
+        most = r.choice([60, 300, 1_100])
+        return [[r.choice(names), r.randint(1, most)] for _ in range(r.choice([3, 12, 30]))]
+    return [[name, r.choice([1, 1, 2, 7, 40])] for name in r.choices(names, k=r.choice([1, 20, 60]))]
+
+
+def resend_case(r: Random) -> Case:
+    """`resend` of a plan, a wide one at times, and events."""
+    d = Drawn(r, may_be_wide=r.randrange(6) == 0)
+    if r.randrange(4) == 0:
+        d.add_flow()
+    if r.randrange(4) == 0:
+        d.add_local()
+    if r.randrange(2):
+        d.rows.append(["window", r.choice([1, 2, 8, 64, 255])])
+    rows = event_rows(r)
+    if r.randrange(16):
+        d.add_rows("events", "e.csv", rows)
+    found = d.spoil() if r.randrange(5) == 0 else d.all_files()
+    if "e.csv" in found and r.randrange(8) == 0:
+        found["e.csv"] = drawn.spelled(r, rows + [["send", 4_194_304 - r.choice([0, 1, sum(row[1] for row in rows)])]]) if r.randrange(3) == 0 else drawn.spoiled(r, rows)
+    return Case(["resend", "p.plan"], found, d.wide)
+
+
+# ---- kinds
+
+KINDS: dict[str, Callable[[Random], Case]] = {
+    "capture": capture_case, "burst": plan_case("burst"), "join": join_case, "send": plan_case("send"), "receive": receive_case, "regular": regular_case,
+    "link": link_case, "mimic": mimic_case, "channels": channels_case, "words": words_case, "generate": generate_case, "list": list_case,
+    "assemble": assemble_case, "duplex": duplex_case, "oobwrite": oobwrite_case, "oobread": oobread_case, "resend": resend_case,
+}
+# Kinds that have large cases, and kinds that have wide plans.
+LARGE = ("generate", "channels")
+WIDE = ("burst", "join", "send", "receive", "regular", "link", "mimic", "channels", "words", "duplex", "oobwrite", "oobread", "resend")
+
+
+def make(kind: str, seed: int) -> Case:
+    """The case of a kind and a seed."""
+    return KINDS[kind](Random("%s %d" % (kind, seed)))
