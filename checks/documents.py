@@ -2,22 +2,31 @@
 
 A block between two lines of three backquotes has commands after '$ ', and below each the lines that it prints, both streams in
 one. The commands of a page run one after another in one copy of examples/, beside which the program and the tools stand. Where
-no line stands below a command, the page says in words what it prints, and that it ends is all that is looked for.
+no line stands below a command, the page says in words what it prints. A command has to end in time, and with status 0 unless
+the next one is `echo $?`, below which the page has the status.
 """
 
 import os
+import re
 import shutil
+import signal
 import subprocess
 import sys
 import tempfile
 
+from tally import Tally
+
 PROGRAM, TOP = os.path.abspath(sys.argv[1]), os.path.abspath(sys.argv[2])
 PAGES = ("README.md", "docs/TOUR.md", "tools/README.md")
+TELLS_STATUS = "echo $?"
+# A command has to end by then.
+SECONDS = 60
 
 
 def blocks(page):
     """The blocks of a page that begin with a command: their lines, and the number of the first."""
-    lines = open(os.path.join(TOP, page), encoding="utf-8").read().split("\n")
+    with open(os.path.join(TOP, page), encoding="utf-8") as file:
+        lines = file.read().split("\n")
     fences = [number for number, line in enumerate(lines) if line.startswith("```")]
     for first, last in zip(fences[::2], fences[1::2]):
         if lines[first + 1].startswith("$ "):
@@ -32,44 +41,68 @@ def commands(page):
             yield number + place, lines[place][2:], lines[place + 1:after]
 
 
-def folder_for(page):
-    """A folder with the examples, the program and the tools, as the page has them; and the folder of its first command."""
-    top = tempfile.mkdtemp(prefix="documents.")
+def make_folder(top, found):
+    """Puts the examples, the program and the tools into a folder, as the page has them; the folder of its first command."""
     shutil.copytree(os.path.join(TOP, "examples"), os.path.join(top, "examples"))
     os.symlink(PROGRAM, os.path.join(top, "interlaken"))
     os.symlink(os.path.join(TOP, "tools"), os.path.join(top, "tools"))
-    starts_at_top = any(command == "cd examples" for _, command, _ in commands(page))
-    return top, top if starts_at_top else os.path.join(top, "examples")
+    starts_at_top = any(command == "cd examples" for _, command, _ in found)
+    return top if starts_at_top else os.path.join(top, "examples")
 
 
-def run(command, folder):
-    """What a command prints, and the folder in which it leaves the shell."""
-    end = "\nprintf '\\n%s' \"$PWD\""
-    done = subprocess.run(["bash", "-c", command + end], cwd=folder, stdout=subprocess.PIPE, stderr=subprocess.STDOUT, encoding="utf-8")
-    text, _, place = done.stdout.rpartition("\n")
-    return text, place
+class Shell:
+    """Runs one command after another, each where the one before left it, and with its status."""
+
+    def __init__(self, folder):
+        self.folder, self.status = folder, 0
+
+    def run(self, command):
+        """What the command prints; None where it does not end in time."""
+        script = "(exit %d)\n%s\nprintf '\\n%%d %%s' $? \"$PWD\"" % (self.status, command)
+        how = {"stdin": subprocess.DEVNULL, "stdout": subprocess.PIPE, "stderr": subprocess.STDOUT, "encoding": "utf-8", "errors": "replace"}
+        shell = subprocess.Popen(["bash", "-c", script], cwd=self.folder, start_new_session=True, **how)
+        try:
+            printed = shell.communicate(timeout=SECONDS)[0]
+        except subprocess.TimeoutExpired:
+            os.killpg(shell.pid, signal.SIGKILL)
+            shell.communicate()
+            return None
+        text, _, end = printed.rpartition("\n")
+        told = re.fullmatch(r"(\d+) (/.*)", end)
+        if not told:  # the command ended the shell
+            self.status = shell.returncode
+            return printed
+        self.status, self.folder = int(told[1]), told[2]
+        return text
 
 
-def page_results(page):
-    top, folder = folder_for(page)
-    passed = failed = 0
-    try:
-        for number, command, wanted in commands(page):
-            text, folder = run(command, folder)
-            right = not wanted or text.rstrip("\n").split("\n") == wanted
-            passed, failed = passed + right, failed + (not right)
-            if not right:
-                print("%s, line %d: %s\nprints\n%sand not\n%s\n" % (page, number, command, text, "\n".join(wanted)))
-    finally:
-        shutil.rmtree(top)
-    return passed, failed
+def fault_of(text, wanted, status):
+    """What is wrong with what a command printed and with its status, or nothing."""
+    if text is None:
+        return "it does not end in %d seconds" % SECONDS
+    if wanted and text.rstrip("\n").split("\n") != wanted:
+        return "it prints\n%sand not\n%s\n" % (text, "\n".join(wanted))
+    return "status %d, which the page does not say\n%s" % (status, text) if status else ""
+
+
+def check_page(tally, page):
+    found = list(commands(page))
+    if not found:
+        tally.count(page, "it has no command")
+        return
+    with tempfile.TemporaryDirectory(prefix="documents.") as top:
+        shell = Shell(make_folder(top, found))
+        for (number, command, wanted), after in zip(found, found[1:] + [None]):
+            text = shell.run(command)
+            is_told = after is not None and after[1] == TELLS_STATUS and after[2]
+            tally.count("%s, line %d: %s" % (page, number, command), fault_of(text, wanted, 0 if is_told else shell.status))
 
 
 def main():
-    results = [page_results(page) for page in PAGES]
-    passed, failed = (sum(column) for column in zip(*results))
-    print("%d passed, %d failed" % (passed, failed))
-    return 1 if failed else 0
+    tally = Tally("documents")
+    for page in PAGES:
+        check_page(tally, page)
+    return tally.end()
 
 
 sys.exit(main())

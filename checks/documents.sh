@@ -3,5 +3,5 @@
 # it prints with the lines that stand below it.
 set -u
 . "$(dirname "$0")/program.bash"
-wants python3
+wants python3 python3
 exec python3 -B "$top/checks/documents.py" "$program" "$top"

@@ -7,6 +7,8 @@ import glob
 import os
 import sys
 
+from tally import Tally
+
 
 def fault_of(edit, crate):
     """Why the edit cannot be made, or None."""
@@ -34,20 +36,15 @@ def fault_of(edit, crate):
 
 
 def main(top):
-    passed = failed = 0
+    tally = Tally("edits")
     for edit in sorted(glob.glob(os.path.join(top, "checks", "edits", "*", "*.edit"))):
         crate = os.path.basename(os.path.dirname(edit))
         name = os.path.basename(edit)
         fault = fault_of(edit, os.path.join(top, "crates", crate))
         if fault is None and os.path.exists(os.path.join(top, "crates", crate, "must-fail", name)):
             fault = "the gate has one of that name"
-        if fault is None:
-            passed += 1
-        else:
-            failed += 1
-            print("edits: %s/%s: %s" % (crate, name, fault))
-    print("edits: %d passed, %d failed" % (passed, failed))
-    return 1 if failed else 0
+        tally.count("%s/%s" % (crate, name), fault)
+    return tally.end()
 
 
 if __name__ == "__main__":

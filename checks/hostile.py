@@ -1,32 +1,32 @@
 """Runs the commands that read what another end made on a table of files that none would make, and compares with what is written down.
 
-    python3 hostile.py PROGRAM [--write MODEL_FOLDER] [CASE..]
+    python3 hostile.py PROGRAM [--write MODEL] [CASE..]
 
 `join` and `receive` get words files and lanes, `oobwrite` local rows, `oobread` samples, `resend` events, and `duplex` two ends. What
 each case has to come to stands in hostile.txt: a line '== CASE -- WORDS', 'status N', the text, and a line 'NAME LENGTH SHA-256' for
 each file that is created. Of a text of more than 40 lines the line 'text LENGTH SHA-256' stands there, and of more than 40 files
-the line 'files LENGTH SHA-256' of their lines. --write makes that file anew, by an independent model. Nothing may come on standard
-error, every other file has to be as it was, and the run has to end in time. Cases of commands that the program does not know are
-skipped.
+the line 'files LENGTH SHA-256' of their lines. --write makes that file anew by an independent model, MODEL, which is called as the
+program is. Nothing may come on standard error, every other file has to be as it was, and the run has to end in time. A case that
+stands only here or only there fails.
 """
 
 import hashlib
 import os
 import random
-import subprocess
 import sys
 
 from captures import capture
-from modeled import left_by_model
-from rows import SECONDS, knows, left_by
+from runs import Run, left_by
+from tally import Tally
 
 WANTED = os.path.join(os.path.dirname(os.path.abspath(__file__)), "hostile.txt")
-STAGE = 20
 METAFRAME = 32
 # The most bytes of a plan, of a file of rows, and of samples, the most events, and the most slots of two ends.
 PLAN, ROWS, SAMPLES, EVENTS, SLOTS = 1048576, 16777216, 4194304, 4194304, 16777215
 # A model is asked for this many slots in place of the most, since by then both ends send idles alone.
 SETTLED = 20000
+# A run of a model has to end by then.
+MODEL_SECONDS = 3600
 # More lines of a text, or of files, are kept by their checksum.
 LINES = 40
 ONE = b"lanes,1\nmetaframe,32\nwarmup,4\nchannel,1,a.pcap\nchannel,2,b.pcap\nout,o\n"
@@ -184,11 +184,11 @@ def on_rows():
     return found
 
 
-def on_samples(run):
+def on_samples(made):
     """The cases of samples: of calendars with one entry, two, and as many as give a second block, and the most."""
     r = random.Random(3)
     rows = b"0,0,off\n100,0,on\n2500,0,off\n"
-    one, two, blocks, most = (run(["oobwrite", "p.plan"], {"p.plan": status_plan(n), "o.local": rows})[3]["o.oob"] for n in (1, 2, 65, 1024))
+    one, two, blocks, most = (made(["oobwrite", "p.plan"], {"p.plan": status_plan(n), "o.local": rows}, "o.oob")[0] for n in (1, 2, 65, 1024))
     with_bits = lambda data, bits: bytes(sample ^ bits for sample in data)
     cases = {
         "none": (1, b""), "one": (1, b"\7"), "zeros": (1, bytes(1000)), "sevens": (1, b"\7" * 1000), "fives and fours": (1, b"\4\5" * 500), "sixes and sevens": (1, b"\6\7" * 500),
@@ -257,21 +257,22 @@ def on_ends():
     return {"ends: %s" % name: (["duplex", "d"], {"d": data, "p.plan": plan, **files}) for name, (data, plan) in cases.items()}
 
 
-def table(run, knows_command):
-    """All cases of the commands that are known: their words, and the files before. What is damaged is what `run` makes."""
-    one = run(["send", "p.plan"], {"p.plan": ONE, **CAPTURES})[3]
-    four = run(["send", "p.plan"], {"p.plan": FOUR, **CAPTURES})[3]
-    words = run(["burst", "p.plan"], {"p.plan": ONE, **CAPTURES})[3]["o.words"]
-    found = {**on_one_lane(one["o.lane.0"]), **on_four_lanes([four["o.lane.%d" % lane] for lane in range(4)]), **on_words(words)}
-    if knows_command("oobwrite"):
-        found.update(on_rows())
-    if knows_command("oobwrite") and knows_command("oobread"):
-        found.update(on_samples(run))
-    if knows_command("resend"):
-        found.update(on_events())
-    if knows_command("duplex"):
-        found.update(on_ends())
-    return found
+def table(made):
+    """All cases: their words, and the files before. What is damaged is what `made` gives: the files that a command leaves."""
+    one, = made(["send", "p.plan"], {"p.plan": ONE, **CAPTURES}, "o.lane.0")
+    four = made(["send", "p.plan"], {"p.plan": FOUR, **CAPTURES}, *("o.lane.%d" % lane for lane in range(4)))
+    words, = made(["burst", "p.plan"], {"p.plan": ONE, **CAPTURES}, "o.words")
+    return {**on_one_lane(one), **on_four_lanes(four), **on_words(words), **on_rows(), **on_samples(made), **on_events(), **on_ends()}
+
+
+def maker(run, tally):
+    """Gives files that a command leaves in a run that nothing damages; where it does not the check ends."""
+    def made(words, before, *names):
+        ended = run(words, before)
+        if ended.status != 0 or any(name not in ended.files for name in names):
+            tally.give_up(" ".join(words), "status %s, and not the files %s" % (ended.status, ", ".join(names)))
+        return [ended.files[name] for name in names]
+    return made
 
 
 def shortened(kind, lines):
@@ -281,60 +282,53 @@ def shortened(kind, lines):
 
 
 def told(name, words, before, ended):
-    """What stands in hostile.txt of a case that ended so; None where it left another file changed, or complained."""
+    """What stands in hostile.txt of a case that ended so; where it left another file changed, or complained, a line more."""
     status, text, error, files = ended
-    if error or any(files.get(name) != data for name, data in before.items()):
-        return None
-    lines = ["== %s -- %s" % (name, " ".join(words)), "status %d" % status] + shortened("text", text.decode().splitlines())
+    lines = ["== %s -- %s" % (name, " ".join(words)), "status %s" % status] + shortened("text", text.decode(errors="replace").splitlines())
     created = sorted(set(files) - set(before))
     lines += shortened("files", ["%s %d %s" % (name, len(files[name]), hashlib.sha256(files[name]).hexdigest()) for name in created])
+    lines += ["standard error %r" % error[:80]] if error else []
+    lines += ["not as it was: %s" % name for name, data in before.items() if files.get(name) != data]
     return "".join(line + "\n" for line in lines)
 
 
-def by_model(folder):
-    """A run of the model in this folder."""
-    sys.path.insert(0, folder)
-    reference = __import__("reference")
-
+def by_model(model):
+    """A run of a model."""
     def run(words, before):
         fewer = {name: data.replace(b"slots,%d\n" % SLOTS, b"slots,%d\n" % SETTLED) for name, data in before.items()}
-        status, text, error, files = left_by_model(reference, words, fewer, STAGE)
-        text = text if fewer == before else text.replace(b"slots %d\n" % SETTLED, b"slots %d\n" % SLOTS)
-        return status, text, error, {**files, **before}
+        ended = left_by(model, words, fewer, MODEL_SECONDS)
+        text = ended.text if fewer == before else ended.text.replace(b"slots %d\n" % SETTLED, b"slots %d\n" % SLOTS)
+        return Run(ended.status, text, ended.error, {**ended.files, **before})
     return run
 
 
-def write(folder):
-    run = by_model(folder)
-    with open(WANTED, "w") as file:
-        for name, (words, before) in table(run, lambda command: True).items():
+def write(model):
+    run = by_model(model)
+    cases = table(maker(run, Tally("hostile")))
+    with open(WANTED, "w", encoding="utf-8") as file:
+        for name, (words, before) in cases.items():
             file.write(told(name, words, before, run(words, before)))
+
+
+def wanted_by_case():
+    with open(WANTED, encoding="utf-8") as file:
+        return {block.split(" -- ")[0]: "== " + block for block in file.read().split("== ")[1:]}
 
 
 def main():
     program, words = os.path.abspath(sys.argv[1]), sys.argv[2:]
     if words[:1] == ["--write"]:
         return write(os.path.abspath(words[1]))
-    with open(WANTED) as file:
-        wanted = {block.split(" -- ")[0]: "== " + block for block in file.read().split("== ")[1:]}
     run = lambda words, before: left_by(program, words, before)
-    cases = table(run, lambda command: knows(program, command))
-    passed, failed = 0, 0
-    for name, (case, before) in cases.items():
-        if words and name not in words:
+    tally, wanted = Tally("hostile"), wanted_by_case()
+    cases = table(maker(run, tally))
+    for name in words or dict.fromkeys([*cases, *wanted]):
+        if name not in cases or name not in wanted:
+            tally.count(name, "there is no such case in the table" if name not in cases else "hostile.txt does not have it")
             continue
-        try:
-            got = told(name, case, before, run(case, before))
-        except subprocess.TimeoutExpired:
-            got = "no end in %d seconds\n" % SECONDS
-        right = got == wanted.get(name)
-        passed, failed = passed + right, failed + (not right)
-        if not right:
-            print("%s:\n%sand not:\n%s" % (name, got, wanted.get(name)))
-    if len(cases) < len(wanted):
-        print("%d cases skipped: the program does not know their commands" % (len(wanted) - len(cases)))
-    print("hostile: %d passed, %d failed" % (passed, failed))
-    return 1 if failed else 0
+        got = told(name, *cases[name], run(*cases[name]))
+        tally.count(name, "" if got == wanted[name] else "\n%sand not:\n%s" % (got, wanted[name]))
+    return tally.end()
 
 
 if __name__ == "__main__":

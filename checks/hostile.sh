@@ -3,5 +3,5 @@
 # samples, events, two ends), and compares each run with what is written down in hostile.txt. Names of cases run these alone.
 set -u
 . "$(dirname "$0")/program.bash"
-wants python3
+wants python3 python3
 exec python3 -B "$top/checks/hostile.py" "$program" "$@"

@@ -1,6 +1,6 @@
-"""Whether the files that show the house say what its crates use: crates.txt names the crates whose items each crate names, and
-no other; proofs/Lib.antt of a crate shows ('pub mod') the lemmas that other crates cite, and no other; docs/ARCHITECTURE.md has a
-row for each crate.
+"""Whether the files that show the house say what its crates use: crates.txt has a line for each crate, which names the crates, of
+the repository and of the kit, whose items the crate names, and no other; proofs/Lib.antt of a crate shows ('pub mod') the lemmas
+that other crates cite, and no other; docs/ARCHITECTURE.md has a row for each crate.
 
     python3 house.py TOP
 """
@@ -10,8 +10,12 @@ import os
 import re
 import sys
 
+from tally import Tally
+
 LOGIC = re.compile(r"\bRattle\.([a-z0-9_]+)\.(specs|proofs)\.([A-Za-z0-9_-]+)")
 CODE = re.compile(r"(?<![A-Za-z0-9_:.$])([a-z][a-z0-9_]*)::")
+# What begins a comment, by the ends of files.
+COMMENT = {".rt": "//", ".antt": "--"}
 
 
 def edges_of(top):
@@ -25,18 +29,24 @@ def edges_of(top):
     return edges
 
 
-def without_comments(text):
-    return re.sub(r"//[^\n]*", "", text)
+def without_comments(path):
+    with open(path, encoding="utf-8") as file:
+        return re.sub(COMMENT[os.path.splitext(path)[1]] + r"[^\n]*", "", file.read())
+
+
+def sources_of(top, crate):
+    """The files of a crate with code, definitions and proofs."""
+    for part in ("src", "specs", "proofs"):
+        for path in glob.glob(os.path.join(top, "crates", crate, part, "**", "*"), recursive=True):
+            if path.endswith(tuple(COMMENT)):
+                yield path
 
 
 def used_by(top, crate, crates):
     """The crates whose items this one names, and the files of others' lemmas that it cites."""
     used, cited = set(), set()
-    for path in glob.glob(os.path.join(top, "crates", crate, "**", "*"), recursive=True):
-        part = os.path.relpath(path, os.path.join(top, "crates", crate)).split(os.sep)[0]
-        if part not in ("src", "specs", "proofs") or not path.endswith((".rt", ".antt")):
-            continue
-        text = open(path, encoding="utf-8").read()
+    for path in sources_of(top, crate):
+        text = without_comments(path)
         modules = {os.path.basename(p)[:-3] for p in glob.glob(os.path.join(os.path.dirname(path), "*.rt"))}
         for other, kind, file in LOGIC.findall(text):
             if other != crate and other in crates:
@@ -44,7 +54,7 @@ def used_by(top, crate, crates):
                 if kind == "proofs":
                     cited.add((other, file))
         if path.endswith(".rt"):
-            used |= {n for n in CODE.findall(without_comments(text)) if n in crates and n != crate and n not in modules}
+            used |= {n for n in CODE.findall(text) if n in crates and n != crate and n not in modules}
     return used, cited
 
 
@@ -54,29 +64,40 @@ def shown_in(path):
     return {name for pub, name in lines if pub}, {name for _, name in lines}
 
 
+def faults_of_line(top, crate, named, used):
+    """What is wrong with the line of a crate in crates.txt."""
+    if not any(sources_of(top, crate)):
+        return ["there are no sources of it"]
+    lacking, idle = sorted(used - named), sorted(named - used)
+    return ["it uses %s, which its line in crates.txt does not name" % n for n in lacking] + ["crates.txt names %s, of which it uses nothing" % n for n in idle]
+
+
+def faults_of_proofs(top, crate, cited):
+    """What is wrong with the list of a crate's proofs, where it has one."""
+    path = os.path.join(top, "crates", crate, "proofs", "Lib.antt")
+    if not os.path.exists(path):
+        return []
+    shown, listed = shown_in(path)
+    wanted = {file for other, file in cited if other == crate and file in listed}
+    shows, hides = sorted(shown - wanted), sorted(wanted - shown)
+    return ["proofs/Lib shows %s, which no other crate cites" % n for n in shows] + ["proofs/Lib hides %s, which another crate cites" % n for n in hides]
+
+
 def main(top):
-    edges = edges_of(top)
-    crates = set(edges)
-    page = open(os.path.join(top, "docs", "ARCHITECTURE.md"), encoding="utf-8").read()
-    faults, cited = [], set()
-    for crate in edges:
-        used, lemmas = used_by(top, crate, crates)
-        cited |= lemmas
-        named = {n for n in edges[crate] if n in crates}
-        faults += ["crates.txt: %s uses %s, which its line does not name" % (crate, n) for n in sorted(used - named)]
-        faults += ["crates.txt: %s names %s and uses nothing of it" % (crate, n) for n in sorted(named - used)]
-        if "\n| `%s` |" % crate not in page:
-            faults.append("docs/ARCHITECTURE.md: no row for %s" % crate)
-    for path in sorted(glob.glob(os.path.join(top, "crates", "*", "proofs", "Lib.antt"))):
-        crate = path.split(os.sep)[-3]
-        shown, listed = shown_in(path)
-        wanted = {file for other, file in cited if other == crate and file in listed}
-        faults += ["%s/proofs/Lib: shows %s, which no other crate cites" % (crate, n) for n in sorted(shown - wanted)]
-        faults += ["%s/proofs/Lib: hides %s, which another crate cites" % (crate, n) for n in sorted(wanted - shown)]
-    for fault in faults:
-        print("house: " + fault)
-    print("house: %d crates, %d passed, %d failed" % (len(edges), max(len(edges) - len(faults), 0), len(faults)))
-    return 1 if faults else 0
+    tally, edges = Tally("house"), edges_of(top)
+    with open(os.path.join(top, "docs", "ARCHITECTURE.md"), encoding="utf-8") as file:
+        page = file.read()
+    names = {*edges, *sum(edges.values(), [])}
+    used = {crate: used_by(top, crate, names) for crate in edges}
+    cited = set().union(*(lemmas for _, lemmas in used.values()))
+    for crate, line in edges.items():
+        faults = faults_of_line(top, crate, set(line), used[crate][0]) + faults_of_proofs(top, crate, cited)
+        faults += [] if "\n| `%s` |" % crate in page else ["docs/ARCHITECTURE.md has no row for it"]
+        tally.count(crate, "; ".join(faults))
+    for crate in sorted(set(os.listdir(os.path.join(top, "crates"))) - set(edges)):
+        if any(sources_of(top, crate)):
+            tally.count(crate, "crates.txt has no line for it")
+    return tally.end()
 
 
 if __name__ == "__main__":

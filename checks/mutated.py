@@ -1,45 +1,49 @@
 """Runs the commands that read what another end made on mutated files, and shows that each run ends by itself with an answer.
 
-    python3 mutated.py PROGRAM [--count N] [--seed S] [--jobs J] [--model FOLDER --sample N [--stage N]]
+    python3 mutated.py PROGRAM [--count N] [--seed S] [--jobs J] [--model MODEL --sample N]
 
-No part of the gate: it is run by hand, since it takes its time. The files that are mutated are the words files of `join`, the lanes
-of `receive`, the samples of `oobread` and the events of `resend`, of the rows of rows/ that end well and have at most 20,000 bytes
-together. A run is right where it ends within 20 seconds with the status 0, 2, 4 or 5, and nothing came on standard error. Of the
-first --sample runs of each job the model in FOLDER gives the same status, text and files, at the stage of the program. The same seed
-gives the same files. N is 1,000 by default, for each of the commands that the program knows an equal part.
+The files that are mutated are the words files of `join`, the lanes of `receive`, the samples of `oobread` and the events of `resend`,
+of the rows of rows/ that end well and have at most 20,000 bytes together. Each command has an equal part of the N runs, 400 by
+default. A run is right where it ends within 20 seconds with status 0, or 5 where the file can be one that is refused (every file is
+a lane), and nothing came on standard error. With --model, of the first --sample runs, or all, MODEL, which is called as the program
+is, gives the same status, text and files. The same seed gives the same runs.
 """
 
 import argparse
+import collections
 import multiprocessing
 import os
 import random
-import subprocess
 import sys
-import tempfile
-import time
 
-import compare
-from rows import ROWS, content, files_in, knows, left_by, lines_of
+from rows import ROWS, Row
+from runs import left_by
+from tally import Tally
 
-COMMANDS = ("join", "receive", "oobread", "resend")
-ANSWERS = (0, 2, 4, 5)
+# The commands, and the statuses with which they may end.
+ANSWERS = {"join": (0, 5), "receive": (0,), "oobread": (0, 5), "resend": (0, 5)}
+COMMANDS = list(ANSWERS)
 SECONDS = 20
 LARGEST = 20000
+# A run of a model has to end by then.
+MODEL_SECONDS = 600
 
 
-def bases(program, command):
-    """The words and the files before of each row of this command that ends well."""
-    found = []
-    for row in sorted(os.listdir(ROWS)):
-        path = os.path.join(ROWS, row)
-        words = lines_of(os.path.join(path, "words"))
-        if words[:1] != [command] or content(os.path.join(path, "status")).strip() != b"0" or os.path.exists(os.path.join(path, "captures")):
+def bases(program, tally):
+    """For each command the words and the files before of its rows that end well. The check ends where the program fails one."""
+    found = {command: [] for command in COMMANDS}
+    for row in map(Row, sorted(os.listdir(ROWS))):
+        if row.words[:1] not in [[command] for command in COMMANDS] or row.status != 0 or os.path.exists(row.at("captures")):
             continue
-        before = files_in(os.path.join(path, "before"))
-        first = lines_of(os.path.join(path, "first"))
-        before = left_by(program, first, before)[3] if first else before
+        before = row.prepared(program).files
+        ended = left_by(program, row.words, before)
+        if (ended.status, ended.text) != (row.status, row.text):
+            tally.give_up(row.name, "status %s, and text %r" % (ended.status, ended.text[:80]))
         if sum(map(len, before.values())) <= LARGEST and any(map(is_mutated, before)):
-            found.append((words, before))
+            found[row.words[0]].append((row.words, before))
+    for command in COMMANDS:
+        if not found[command]:
+            tally.give_up(command, "no row of it can be mutated")
     return found
 
 
@@ -152,67 +156,52 @@ def mutated(r, words, before):
     return words, files
 
 
-def run_in(program, folder, words, files):
-    for name in os.listdir(folder):
-        os.unlink(os.path.join(folder, name))
-    for name, data in files.items():
-        with open(os.path.join(folder, name), "wb") as file:
-            file.write(data)
-    done = subprocess.run([program] + words, cwd=folder, stdin=subprocess.DEVNULL, capture_output=True, timeout=SECONDS)
-    return done.returncode, done.stdout, done.stderr
+def differences(ended, model):
+    """What a run of the program and one of the model differ in."""
+    parts = [name for name, mine, other in zip(ended._fields, ended, model) if mine != other]
+    return "not as the model has it: %s" % ", ".join(parts) if parts else ""
 
 
-def job(task):
-    given, number, count = task
-    r = random.Random("%d %d" % (given.seed, number))
-    from_rows = {command: bases(given.program, command) for command in given.commands}
-    told, answers = [], {}
-    if given.model:
-        sys.path.insert(0, given.model)
-        compare.reference = __import__("reference")
-    with tempfile.TemporaryDirectory(dir="/dev/shm" if os.path.isdir("/dev/shm") else None) as folder:
-        for run in range(count):
-            command = given.commands[run % len(given.commands)]
-            words, files = mutated(r, *r.choice(from_rows[command]))
-            try:
-                status, _, error = run_in(given.program, folder, words, files)
-            except subprocess.TimeoutExpired:
-                status, error = "no end", b""
-            answers[command, status] = answers.get((command, status), 0) + 1
-            if status not in ANSWERS or error:
-                told.append("job %d, run %d: status %s, standard error %r" % (number, run, status, error))
-            if given.model and run < given.sample:
-                told += ["job %d, run %d: %s" % (number, run, what) for what in compare.differences(given.program, words, files, given.stage)]
-    return told, answers
+class Trial:
+    """What each run needs."""
+
+    def __init__(self, given, from_rows):
+        self.given, self.from_rows = given, from_rows
+
+    def __call__(self, number):
+        """The command and the status of a run, and what is wrong with it."""
+        r = random.Random("%d %d" % (self.given.seed, number))
+        command = COMMANDS[number % len(COMMANDS)]
+        words, files = mutated(r, *r.choice(self.from_rows[command]))
+        ended = left_by(self.given.program, words, files, SECONDS)
+        wrong = "" if ended.status in ANSWERS[command] and not ended.error else "status %s, standard error %r" % (ended.status, ended.error[:80])
+        if self.given.model and number < self.given.sample and not wrong:
+            wrong = differences(ended, left_by(self.given.model, words, files, MODEL_SECONDS))
+        return command, ended.status, wrong
 
 
-def main():
+def arguments():
     parser = argparse.ArgumentParser()
     parser.add_argument("program", type=os.path.abspath)
-    parser.add_argument("--count", type=int, default=1000)
+    parser.add_argument("--count", type=int, default=400)
     parser.add_argument("--seed", type=int, default=0)
     parser.add_argument("--jobs", type=int, default=1)
     parser.add_argument("--model", type=os.path.abspath)
-    parser.add_argument("--sample", type=int, default=0)
-    parser.add_argument("--stage", type=int)
-    given = parser.parse_args()
-    given.commands = [command for command in COMMANDS if knows(given.program, command)]
-    given.stage = given.stage or compare.stage_of(given.program)
-    began = time.time()
+    parser.add_argument("--sample", type=int, default=sys.maxsize)
+    return parser.parse_args()
+
+
+def main():
+    given, tally = arguments(), Tally("mutated")
+    trial = Trial(given, bases(given.program, tally))
+    answers = collections.Counter()
     with multiprocessing.Pool(given.jobs) as pool:
-        ended = pool.map(job, [(given, number, given.count // given.jobs) for number in range(given.jobs)])
-    told = [line for lines, _ in ended for line in lines]
-    counts = {}
-    for _, answers in ended:
-        for key, count in answers.items():
-            counts[key] = counts.get(key, 0) + count
-    for line in told[:20]:
-        print(line)
-    for (command, status), count in sorted(counts.items(), key=str):
+        for number, (command, status, wrong) in enumerate(pool.imap(trial, range(given.count), chunksize=10)):
+            answers[command, status] += 1
+            tally.count("run %d, %s" % (number, command), wrong)
+    for (command, status), count in sorted(answers.items(), key=str):
         print("%s: status %s: %d" % (command, status, count))
-    total = sum(counts.values())
-    print("mutated: %d runs in %d seconds, %d not right" % (total, time.time() - began, len(told)))
-    return 1 if told else 0
+    return tally.end()
 
 
 if __name__ == "__main__":

@@ -1,17 +1,22 @@
 """Feeds a receiver with the lanes of worked rows in 200 orders and cuts: each gives the same events, and they are as the row says.
 
-    python3 orders.py PROGRAM ORDERS
+    python3 orders.py PROGRAM TOP
 
-ORDERS is the program of the crate rx_orders. The lanes are those that PROGRAM leaves of a row of `link`; the text of the row has
-the packets, the drops, the spans, and each lane's report.
+The lanes are those that PROGRAM leaves of a row of `link`; the text of the row has the packets, the drops, the spans, and each lane's
+report. They are fed by the program of the crate rx_orders, which the gate leaves built; where it is absent, or older than its
+sources, it is built here.
 """
 
+import glob
 import os
 import re
+import shutil
 import subprocess
 import sys
 
-from rows import Row, left_by
+from rows import Row
+from runs import left_by
+from tally import Tally
 
 NAMES = [
     "link_of_skewed_lanes",
@@ -24,7 +29,7 @@ SECONDS = 300
 
 def told_by(row):
     """The lines on packets and on lanes that the text of a row comes to."""
-    text = b"".join(open(row.at("text"), "rb")).decode()
+    text = row.text.decode()
     packets = sum(int(count) for count in re.findall(r"^got channel=\d+ packets=(\d+)", text, re.M))
     spans = int(re.search(r"^spans (\d+)$", text, re.M).group(1))
     drops = sum(int(count) for count in re.findall(r"=(\d+)", re.search(r"^dropped (.*)$", text, re.M).group(1)))
@@ -36,35 +41,67 @@ def told_by(row):
     return lines
 
 
-def given(program, orders, row):
+def lanes_of(row, program, tally):
+    """The lanes that the program leaves of a row, in order; None where the row fails."""
+    ended = left_by(program, row.words, row.before)
+    if (ended.status, ended.text) != (row.status, row.text):
+        tally.count(row.name, "status %s, and text %r" % (ended.status, ended.text[:400]))
+        return None
+    names = sorted((name for name in ended.files if ".lane." in name), key=lambda name: int(name.rsplit(".", 1)[1]))
+    return [ended.files[name] for name in names]
+
+
+def is_stale(orders, top):
+    if not os.path.isfile(orders):
+        return True
+    sources = (glob.glob(os.path.join(top, "crates", "*", part, "**"), recursive=True) for part in ("src", "specs", "proofs"))
+    newest = max(map(os.path.getmtime, [os.path.join(top, "crates.txt"), *sum(sources, [])]))
+    return newest > os.path.getmtime(orders)
+
+
+def built_orders(top, tally):
+    """The program of rx_orders."""
+    crate = os.path.join(top, "crates", "rx_orders")
+    orders = os.path.join(crate, "out", "rx_orders")
+    if is_stale(orders, top):
+        if not shutil.which("rt"):
+            tally.skip("rt", "the Rattle kit")
+        with open(os.path.join(crate, "stdin"), "rb") as given:
+            subprocess.run(["rt", "run"], cwd=crate, stdin=given, stdout=subprocess.DEVNULL, stderr=subprocess.DEVNULL)
+    if not os.path.isfile(orders):
+        tally.give_up("rx_orders", "its program was not built")
+    return orders
+
+
+def fed(orders, row, lanes):
     """What the receivers of the lanes of a row print."""
-    files = left_by(program, row.words, row.before)[3]
-    lanes = sorted((name for name in files if ".lane." in name), key=lambda name: int(name.rsplit(".", 1)[1]))
-    lines = [row.before[row.words[1]]] + [files[name] for name in lanes]
-    text = "".join(line.hex().upper() + "\n" for line in lines)
-    done = subprocess.run([orders], input=text.encode(), capture_output=True, timeout=SECONDS)
+    text = "".join(line.hex().upper() + "\n" for line in [row.before[row.words[1]], *lanes])
+    try:
+        done = subprocess.run([orders], input=text.encode(), capture_output=True, timeout=SECONDS)
+    except subprocess.TimeoutExpired:
+        return ["no end in %d seconds" % SECONDS]
     return done.stdout.decode().splitlines()
 
 
 def differs(printed, told):
-    if not any(re.match(r"200 orders, each with the same \d+ events$", line) for line in printed):
-        return "the orders differ: %r" % printed
-    if not any(line.endswith(", ends 1") for line in printed):
-        return "the end did not come once: %r" % printed
+    if not any(re.match(r"200 orders, each with the same [1-9]\d* events$", line) for line in printed):
+        return "the orders differ, or have no events: %r" % printed
+    if not any(re.match(r"verified words [1-9]\d*, ends 1$", line) for line in printed):
+        return "no word was verified, or the end did not come once: %r" % printed
     missing = [line for line in told if line not in printed]
-    return "not told: %r in %r" % (missing, printed) if missing else None
+    return "not told: %r in %r" % (missing, printed) if missing else ""
 
 
 def main():
-    program, orders = os.path.abspath(sys.argv[1]), os.path.abspath(sys.argv[2])
-    failed = 0
-    for row in map(Row, NAMES):
-        told = differs(given(program, orders, row), told_by(row))
-        if told:
-            failed += 1
-            print("%s: %s" % (row.name, told))
-    print("orders: %d passed, %d failed" % (len(NAMES) - failed, failed))
-    return 1 if failed else 0
+    program, top = os.path.abspath(sys.argv[1]), os.path.abspath(sys.argv[2])
+    tally = Tally("orders")
+    rows = [Row(name) for name in NAMES]
+    lanes = [lanes_of(row, program, tally) for row in rows]
+    if None not in lanes:
+        orders = built_orders(top, tally)
+        for row, files in zip(rows, lanes):
+            tally.count(row.name, differs(fed(orders, row, files), told_by(row)))
+    return tally.end()
 
 
 if __name__ == "__main__":

@@ -2,7 +2,8 @@
 
     python3 pieces.py PROGRAM LIBRARY
 
-LIBRARY is faults/failing.c, built. A write that fails adds nothing, so what stands then are the writes before it:
+LIBRARY is faults/failing.c, built. A write that fails adds nothing, so what stands then are the writes before it. Each run without
+a failing call has to end with status 0 and leave the files that are looked at:
 
     burst   of a hundred packets of 1,514 bytes: two pieces of 65,536 bytes, a rest, and the text in one write
     send    of eight lanes of 171,520 bytes: pieces of 65,536 bytes alone, then the rests in the order of creation, then the text
@@ -15,10 +16,9 @@ LIBRARY is faults/failing.c, built. A write that fails adds nothing, so what sta
 import os
 import sys
 
-sys.path.insert(0, os.path.join(os.path.dirname(os.path.abspath(__file__)), "faults"))
-from faults import Run
 from captures import capture
-from rows import knows
+from runs import left_by
+from tally import Tally
 
 PIECE = 65536
 SENT = {"p.plan": b"lanes,8\nmetaframe,2048\nchannel,0,a.pcap\nchannel,1,b.pcap\nout,o\n", "a.pcap": capture(["60", "1514"]), "b.pcap": capture(["60", "590"])}
@@ -32,24 +32,29 @@ ENDS = {"d.csv": b"plan,p.plan\ndelay,1\nmark,100\nslots,30000\nback,1,a.pcap\no
 
 class Checks:
     def __init__(self, program, library):
-        self.program, self.library = program, os.path.abspath(library)
-        self.passed, self.failed = 0, 0
+        self.program, self.library, self.tally = program, library, Tally("pieces")
 
-    def run(self, words, before, kind=None, at=0):
-        failing = {"LD_PRELOAD": self.library, "FAIL_KIND": kind, "FAIL_AT": str(at)} if kind else {}
-        return Run(self.program, words, before, failing)
+    def files(self, words, before, names=()):
+        """The files after a run that nothing disturbs; the check ends where it fails, or one of these names is not among them."""
+        right = left_by(self.program, words, before)
+        lacking = [name for name in names if name not in right.files]
+        if right.status != 0 or right.error or lacking:
+            told = "undisturbed it ends with status %s and text %r, and these files are missing: %s"
+            self.tally.give_up(words[0], told % (right.status, right.text[:80], ", ".join(lacking) or "none"))
+        return right.files
+
+    def failing(self, words, before, kind, at):
+        return left_by(self.program, words, before, environment={"LD_PRELOAD": self.library, "FAIL_KIND": kind, "FAIL_AT": str(at)})
 
     def holds(self, what, true):
-        self.passed, self.failed = self.passed + bool(true), self.failed + (not true)
-        if not true:
-            print("not so: %s" % what, flush=True)
+        self.tally.count(what, "" if true else "not so")
 
     def lengths(self, words, before, names, at, wanted, line):
         """Write number `at` fails: these files have these lengths, each a prefix, and the text is this line."""
-        right, got = self.run(words, before), self.run(words, before, "write", at)
+        right, got = self.files(words, before, names), self.failing(words, before, "write", at)
         what = "%s, write %d" % (words[0], at)
         self.holds(what + ": lengths", [len(got.files.get(name, b"")) for name in names] == wanted)
-        self.holds(what + ": prefixes", all(right.files[name].startswith(got.files.get(name, b"")) for name in names))
+        self.holds(what + ": prefixes", all(right[name].startswith(got.files.get(name, b"")) for name in names))
         self.holds(what + ": status and text", (got.status, got.text) == ((1, line) if line else (7, b"")))
 
     def one_output(self, words, before, name, length):
@@ -63,7 +68,7 @@ class Checks:
         """The files of a command, all of one length, grow in pieces side by side; then come the rests in order, and then the text."""
         pieces = len(names) * (length // PIECE)
         for at in range(1, pieces + 1):
-            got = self.run(words, before, "write", at)
+            got = self.failing(words, before, "write", at)
             lengths = [len(got.files.get(name, b"")) for name in names]
             self.holds("%s, write %d: pieces" % (words[0], at), all(n % PIECE == 0 for n in lengths) and sum(lengths) == PIECE * (at - 1))
         for at, name in enumerate(names):
@@ -91,23 +96,23 @@ class Checks:
 
     def resend(self):
         # The whole stream is accepted, so that its length is that of the words file of `burst`.
-        length = len(self.run(["burst", "p.plan"], RESENT).files["o.words"])
+        length = len(self.files(["burst", "p.plan"], RESENT, ["o.words"])["o.words"])
         self.one_output(["resend", "p.plan"], RESENT, "o.words", length)
 
     def receive(self):
-        before = self.run(["send", "p.plan"], RECEIVED).files
-        last = None
-        for at in range(1, 10000):
-            got = self.run(["receive", "p.plan"], before, "read", at)
-            if got.status != 1:
-                break
-            last = got
+        before = self.files(["send", "p.plan"], RECEIVED, ["o.lane.0"])
+        right, last, at = self.files(["receive", "p.plan"], before, ["o.1.pcap"]), None, 1
+        got = self.failing(["receive", "p.plan"], before, "read", at)
+        while got.status == 1 and at < 10000:
+            last, at = got, at + 1
+            got = self.failing(["receive", "p.plan"], before, "read", at)
+        self.holds("receive, after its last read: it ends undisturbed", (got.status, got.files) == (0, right))
         held = last.files.get("o.1.pcap", b"") if last else b""
         self.holds("receive, the last read: a piece of the capture stands", PIECE <= len(held))
         self.holds("receive, the last read: its lane is told", last and last.text == b"store fault: o.lane.0\n")
 
     def generate(self):
-        right = self.run(["generate", "7", "g"], {}).files
+        right = self.files(["generate", "7", "g"], {}, ["g.schedule", "g.plan"])
         captures = sorted((name for name in right if name.startswith("g.") and name.endswith(".pcap") and ".out." not in name), key=lambda name: int(name.split(".")[1]))
         names = captures + ["g.schedule", "g.plan"]
         at = 1
@@ -120,14 +125,11 @@ class Checks:
 
 
 def main():
-    program, library = sys.argv[1:]
-    program = os.path.abspath(program)
+    program, library = (os.path.abspath(name) for name in sys.argv[1:])
     checks = Checks(program, library)
-    for command in ("burst", "send", "receive", "generate", "duplex", "oobwrite", "oobread", "resend"):
-        if knows(program, command):
-            getattr(checks, command)()
-    print("pieces: %d passed, %d failed" % (checks.passed, checks.failed))
-    return 1 if checks.failed else 0
+    for command in (checks.burst, checks.send, checks.receive, checks.generate, checks.duplex, checks.oobwrite, checks.oobread, checks.resend):
+        command()
+    return checks.tally.end()
 
 
 if __name__ == "__main__":

@@ -3,8 +3,8 @@
 # that the text is one write, by a library that makes a write or a read of the program fail.
 set -u
 . "$(dirname "$0")/program.bash"
-wants gcc
-wants python3
+wants gcc gcc
+wants python3 python3
 folder=$(mktemp -d)
 trap 'rm -rf "$folder"' EXIT
 gcc -O1 -shared -fPIC -o "$folder/failing.so" "$top/checks/faults/failing.c" -ldl || { echo "pieces: 0 passed, 1 failed"; exit 1; }

@@ -11,9 +11,9 @@ if [ ! -x "$program" ]; then
   echo "0 passed, 1 failed"
   exit 1
 fi
-# Ends the script where a tool is not there.
-wants() {
+# Ends the script where a tool is not there. The second word is the Debian package that has it.
+wants() { # TOOL PACKAGE
   command -v "$1" >/dev/null 2>&1 && return
-  echo "$0: skipped, no $1"
-  exit 0
+  echo "$(basename "$0" .sh): skipped, no $1 (Debian package $2)"
+  exit 77
 }

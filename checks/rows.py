@@ -1,6 +1,6 @@
 """Runs the program on each row of rows/, and compares what it leaves and says with what the row holds.
 
-    python3 rows.py PROGRAM [--all] [ROW..]
+    python3 rows.py PROGRAM [ROW..]
 
 A row is a folder:
 
@@ -12,58 +12,30 @@ A row is a folder:
     text          what it prints, byte for byte
     after/        the files that it creates or changes, whole
     after.large   the large ones of them: a line 'NAME LENGTH FIRST-BYTES SHA-256' each
-    needs         a command: where the program does not know it the row is skipped (with --all it is run all the same)
 
 Every other file has to be as it was, and nothing may come on standard error.
 """
 
 import hashlib
 import os
-import subprocess
 import sys
-import tempfile
 
 from captures import capture
+from runs import SECONDS, Run, content, files_in, left_by
+from tally import Tally
 
 ROWS = os.path.join(os.path.dirname(os.path.abspath(__file__)), "rows")
-# A row has to end by then.
-SECONDS = 120
-
-
-def content(name):
-    with open(name, "rb") as file:
-        return file.read()
 
 
 def lines_of(name):
     return content(name).decode().splitlines() if os.path.exists(name) else []
 
 
-def files_in(folder):
-    return {name: content(os.path.join(folder, name)) for name in sorted(os.listdir(folder))} if os.path.isdir(folder) else {}
-
-
-def left_by(program, words, before):
-    """The status, the text, what came on standard error, and the files that stand after the run."""
-    with tempfile.TemporaryDirectory() as folder:
-        for name, data in before.items():
-            with open(os.path.join(folder, name), "wb") as file:
-                file.write(data)
-        done = subprocess.run([program] + words, cwd=folder, stdin=subprocess.DEVNULL, capture_output=True, timeout=SECONDS)
-        return done.returncode, done.stdout, done.stderr, files_in(folder)
-
-
-def knows(program, command):
-    """Whether the program has this command: a name that it does not have is a fault of usage."""
-    arguments = ["0", "absent/g"] if command == "generate" else ["absent"]
-    return left_by(program, [command] + arguments, {})[0] != 2
-
-
 class Row:
     def __init__(self, name):
         self.name, self.folder = name, os.path.join(ROWS, name)
-        self.words = lines_of(self.at("words"))
-        self.first, self.needs = lines_of(self.at("first")), lines_of(self.at("needs"))
+        self.words, self.first = content(self.at("words")).decode().splitlines(), lines_of(self.at("first"))
+        self.status, self.text = int(content(self.at("status"))), content(self.at("text"))
         self.before = files_in(self.at("before"))
         for line in lines_of(self.at("captures")):
             file, *sizes = line.split()
@@ -72,23 +44,24 @@ class Row:
     def at(self, part):
         return os.path.join(self.folder, part)
 
+    def prepared(self, program):
+        """The run of its first command, whose files are those before; without one nothing changes."""
+        return left_by(program, self.first, self.before) if self.first else Run(0, b"", b"", self.before)
+
     def differences(self, program):
-        try:
-            if self.first:
-                self.before = left_by(program, self.first, self.before)[3]
-            status, text, error, files = left_by(program, self.words, self.before)
-        except subprocess.TimeoutExpired:
-            return ["it does not end in %d seconds" % SECONDS]
-        wanted = int(content(self.at("status")))
-        told = [] if status == wanted else ["status %d and not %d" % (status, wanted)]
-        if text != content(self.at("text")):
-            told.append("text %r and not %r" % (text[:400], content(self.at("text"))[:400]))
+        first = self.prepared(program)
+        if first.status != 0:
+            return ["status %s of its first command" % first.status]
+        status, text, error, files = left_by(program, self.words, first.files)
+        told = [] if status == self.status else ["status %s and not %d" % (status, self.status)]
+        if text != self.text:
+            told.append("text %r and not %r" % (text[:400], self.text[:400]))
         if error:
             told.append("standard error %r" % error[:80])
-        return told + self.differing(files)
+        return told + self.differing(first.files, files)
 
-    def differing(self, files):
-        whole = {**self.before, **files_in(self.at("after"))}
+    def differing(self, before, files):
+        whole = {**before, **files_in(self.at("after"))}
         large = {line.split()[0]: line for line in lines_of(self.at("after.large"))}
         told = []
         for name in sorted({*whole, *large, *files}):
@@ -111,24 +84,14 @@ def large_line(name, data, like):
 
 
 def main():
-    program, words = os.path.abspath(sys.argv[1]), sys.argv[2:]
-    names = [word for word in words if word != "--all"] or sorted(os.listdir(ROWS))
-    known, passed, failed, skipped = {}, 0, 0, 0
-    for row in map(Row, names):
-        for command in row.needs:
-            known.setdefault(command, "--all" in words or knows(program, command))
-        if not all(known[command] for command in row.needs):
-            skipped += 1
-            continue
-        told = row.differences(program)
-        passed, failed = passed + (not told), failed + bool(told)
-        if told:
-            print("%s: %s" % (row.name, "; ".join(told)))
-    lacking = sorted(command for command in known if not known[command])
-    if skipped:
-        print("%d rows skipped: the program does not know %s" % (skipped, ", ".join(lacking)))
-    print("rows: %d passed, %d failed" % (passed, failed))
-    return 1 if failed else 0
+    program, names = os.path.abspath(sys.argv[1]), sys.argv[2:]
+    tally = Tally("rows")
+    for name in names or sorted(os.listdir(ROWS)):
+        if os.path.isfile(os.path.join(ROWS, name, "words")):
+            tally.count(name, "; ".join(Row(name).differences(program)))
+        else:
+            tally.count(name, "there is no such row")
+    return tally.end()
 
 
 if __name__ == "__main__":

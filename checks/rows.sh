@@ -1,7 +1,7 @@
 #!/usr/bin/env bash
-# Runs the program on each row of rows/: a command, the files before, the status, the text, and the files after. Rows of commands
-# that the program does not know are skipped, or run all the same with --all. Names of rows run these alone.
+# Runs the program on each row of rows/: a command, the files before, the status, the text, and the files after. Names of rows run
+# these alone.
 set -u
 . "$(dirname "$0")/program.bash"
-wants python3
+wants python3 python3
 exec python3 -B "$top/checks/rows.py" "$program" "$@"

@@ -3,31 +3,31 @@
     python3 faults.py PROGRAM LIBRARY [--seconds N] [CASE..]
 
 LIBRARY is failing.c, built. Each case is a command on a small link: two captures of a few packets, a plan with a flow file and a
-local file, what `burst` and `send` make of it, and a schedule; samples and events; and two ends that send to each other. A run in
+local file, what `burst` and `send` make of it, and a schedule; samples and events; and two ends that send to each other. The
+undisturbed run has to have status 0, print a text and write a file, and the library has to count calls of each kind in it. A run in
 which one call failed has to end by itself
 
-    as the undisturbed run does: status, text and files;
-    or with status 6 where memory was refused, 1 where an open or a read failed, 1 or 7 where a write failed; then each file that
+    with status 6 where memory was refused, 1 where an open or a read failed, 1 or 7 where a write failed; then each file that
     is not as it was holds a prefix of what the undisturbed run leaves there, no file is gone, and the text is the line of the
     fault or nothing (after status 7 a prefix of the undisturbed text);
+    or, where memory was refused, as the undisturbed run does: status, text and files; but not after each refusal of a case;
 
 and with nothing on standard error. The time is bounded: where a case has more calls than its share of the time allows, some of
-them, spread over all, are tried, and a line says how many.
+them, spread over all, are tried, LEAST of them in any case, and a line says how many.
 """
 
 import argparse
 import os
 import random
-import shutil
 import struct
-import subprocess
 import sys
 import tempfile
 import time
 
 sys.path.insert(0, os.path.join(os.path.dirname(os.path.abspath(__file__)), ".."))
 from captures import capture
-from rows import files_in, knows
+from runs import left_by
+from tally import Tally
 
 CASES = {
     "burst": ["burst", "one.pcap"], "burst with a plan": ["burst", "p.plan"], "join": ["join", "one.pcap.words"],
@@ -43,6 +43,8 @@ PLAN = "lanes,2\nmetaframe,32\nwarmup,4\nchannel,1,one.pcap\nchannel,2,two.pcap\
 SAMPLES = bytes([6, 7, 0, 1, 0, 1, 0, 1, 0, 1, 0, 1])
 # A run has to end by then.
 SECONDS = 60
+# The least number of calls that are tried of a case, whatever time they take.
+LEAST = 40
 
 
 def made_inputs():
@@ -57,31 +59,16 @@ def made_inputs():
     }
 
 
-class Run:
-    """How a run ended, what it printed, and what it left."""
-
-    def __init__(self, program, words, before, failing=None):
-        self.folder = tempfile.mkdtemp()
-        try:
-            for name, data in before.items():
-                with open(os.path.join(self.folder, name), "wb") as file:
-                    file.write(data)
-            how = {"cwd": self.folder, "stdin": subprocess.DEVNULL, "capture_output": True, "timeout": SECONDS}
-            done = subprocess.run([program] + words, env={**os.environ, **(failing or {})}, **how)
-            self.status, self.text, self.error = done.returncode, done.stdout, done.stderr
-            self.files = files_in(self.folder)
-        finally:
-            shutil.rmtree(self.folder)
-
-
 def wrong(got, right, before, kind):
     """What a run with a failing call of a kind did that it must not, or nothing."""
     if got.error:
         return "standard error %r" % got.error[:80]
     if (got.status, got.text) == (right.status, right.text):
+        if kind != "malloc":
+            return "nothing tells of it"
         return "" if got.files == right.files else "it answers, and its files differ"
     if got.status not in STATUSES[kind]:
-        return "status %d" % got.status
+        return "status %s" % got.status
     if got.status == 1 and not (got.text.startswith(b"store fault: ") and got.text.find(b"\n") == len(got.text) - 1):
         return "text %r" % got.text
     if got.status == 6 and got.text not in (b"out of memory\n", b""):
@@ -95,72 +82,82 @@ def wrong(got, right, before, kind):
     return "%s is gone" % gone[0] if gone else ""
 
 
-class Tried:
-    def __init__(self, program, library, name, before, until):
-        self.program, self.library, self.name, self.words = program, os.path.abspath(library), name, CASES[name]
-        self.before, self.until = before, until
-        self.passed, self.failed, self.calls = 0, 0, 0
+class Case:
+    def __init__(self, given, tally, name, before):
+        self.program, self.library, self.tally = given.program, given.library, tally
+        self.name, self.words, self.before = name, CASES[name], before
+        self.refused = 0
 
-    def shim(self, **more):
-        return {"LD_PRELOAD": self.library, **more}
+    def run(self, **more):
+        """A run with the library loaded, and these words for it."""
+        return left_by(self.program, self.words, self.before, SECONDS, {"LD_PRELOAD": self.library, **more})
 
-    def counts(self):
+    def undisturbed(self):
+        """The run without the library; None, and a failure, where it is not one in which something can fail."""
+        right = left_by(self.program, self.words, self.before, SECONDS)
+        if right.status == 0 and right.text and not right.error and right.files != self.before:
+            return right
+        self.tally.count(self.name, "undisturbed it ends with status %s, text %r and standard error %r" % (right.status, right.text[:80], right.error[:80]))
+        return None
+
+    def calls(self, right):
+        """Each call of the run, as the library counts them: its kind and its number. None where it does not see all kinds."""
         with tempfile.NamedTemporaryFile() as file:
-            file.write(bytes(32))
+            file.write(bytes(8 * len(KINDS)))
             file.flush()
-            Run(self.program, self.words, self.before, self.shim(FAIL_COUNTS=file.name))
-            return struct.unpack("4q", open(file.name, "rb").read())
+            counted = self.run(FAIL_COUNTS=file.name)
+            with open(file.name, "rb") as counts:
+                found = struct.unpack("%dq" % len(KINDS), counts.read())
+        if counted != right or 0 in found:
+            told = ", ".join("%d of %s" % pair for pair in zip(found, KINDS))
+            self.tally.count(self.name, "with the library it ends with status %s and %r, and makes calls: %s" % (counted.status, counted.text[:80], told))
+            return None
+        return [(kind, at) for kind, count in zip(KINDS, found) for at in range(1, count + 1)]
 
-    def one(self, kind, at, right):
-        try:
-            got = Run(self.program, self.words, self.before, self.shim(FAIL_KIND=kind, FAIL_AT=str(at)))
-            told = wrong(got, right, self.before, kind)
-        except subprocess.TimeoutExpired:
-            told = "it does not end in %d seconds" % SECONDS
-        self.passed, self.failed = self.passed + (not told), self.failed + bool(told)
-        if told:
-            print("%s, %s %d: %s" % (self.name, kind, at, told), flush=True)
+    def fail_one(self, kind, at, right):
+        got = self.run(FAIL_KIND=kind, FAIL_AT=str(at))
+        self.refused += got.status == 6
+        self.tally.count("%s, %s %d" % (self.name, kind, at), wrong(got, right, self.before, kind))
 
-    def all(self):
-        right = Run(self.program, self.words, self.before)
-        calls = [(kind, at) for kind, count in zip(KINDS, self.counts()) for at in range(1, count + 1)]
-        self.calls = len(calls)
+    def fail_all(self, until):
+        right = self.undisturbed()
+        calls = right and self.calls(right)
+        if not calls:
+            return
         # In an order in which those that the time allows are spread over all.
         random.Random(0).shuffle(calls)
+        tried = 0
         for kind, at in calls:
-            if time.monotonic() > self.until:
-                return
-            self.one(kind, at, right)
+            if tried >= LEAST and time.monotonic() > until:
+                break
+            self.fail_one(kind, at, right)
+            tried += 1
+        if not self.refused:
+            self.tally.count(self.name, "no refusal of memory changes anything")
+        print("%s: %d of %d calls tried" % (self.name, tried, len(calls)), flush=True)
 
 
 def arguments():
     parser = argparse.ArgumentParser()
     parser.add_argument("program", type=os.path.abspath)
-    parser.add_argument("library")
+    parser.add_argument("library", type=os.path.abspath)
     parser.add_argument("--seconds", type=float, default=120)
     parser.add_argument("cases", nargs="*", default=list(CASES), metavar="CASE")
     return parser.parse_args()
 
 
 def main():
-    given = arguments()
+    given, tally = arguments(), Tally("faults")
     before = made_inputs()
     for name in ("burst", "burst with a plan", "send"):
-        before = Run(given.program, CASES[name], before).files
-    known = {CASES[name][0]: knows(given.program, CASES[name][0]) for name in given.cases}
-    names = [name for name in given.cases if known[CASES[name][0]]]
-    until, tried = time.monotonic() + given.seconds, []
-    for left, name in zip(range(len(names), 0, -1), names):
-        case = Tried(given.program, given.library, name, before, time.monotonic() + (until - time.monotonic()) / left)
-        case.all()
-        tried.append(case)
-        print("%s: %d of %d calls tried" % (name, case.passed + case.failed, case.calls), flush=True)
-    lacking = sorted(command for command in known if not known[command])
-    if lacking:
-        print("skipped, since the program does not know them: %s" % ", ".join(lacking))
-    failed = sum(case.failed for case in tried)
-    print("faults: %d passed, %d failed" % (sum(case.passed for case in tried), failed))
-    return 1 if failed else 0
+        before = left_by(given.program, CASES[name], before, SECONDS).files
+    until = time.monotonic() + given.seconds
+    for left, name in zip(range(len(given.cases), 0, -1), given.cases):
+        if name in CASES:
+            Case(given, tally, name, before).fail_all(time.monotonic() + (until - time.monotonic()) / left)
+        else:
+            tally.count(name, "there is no such case")
+    return tally.end()
 
 
 if __name__ == "__main__":
