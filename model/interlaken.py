@@ -1,3 +1,4 @@
+#!/usr/bin/env python3
 """The whole program: `python3 model/interlaken.py WORDS..`, on files of the current folder. REFERENCE, "Commands" and "Statuses"."""
 
 import re

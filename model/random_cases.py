@@ -8,12 +8,11 @@ from typing import Callable, NamedTuple, Sequence
 
 import fields
 import lanes
-import listing
 import oob
 import random_inputs as drawn
+import random_listings
 import words_file
 from fields import BAD, CONTROL, DATA, Word
-from files import Refusal
 from link import CODE_BITS, Link
 from random_inputs import Drawn
 from stream import payload_stream
@@ -95,8 +94,12 @@ def words_case(r: Random) -> Case:
     out = r.choice(["o", "no/o", "o" * 200, "p", "\u00fc,", "-o"])
     d.rows = [row for row in d.rows if row[0] != "out"] + [["out", out if out.isalnum() or "/" in out or out == "-o" else '"%s"' % out]]
     files = d.all_files()
-    name = r.choice(["p.plan", "p.plan", "p.plan", "q.plan", "-", "-p.plan", "", "n" * 255, "n" * 256, "\u00e9" * 128, "no/p.plan", ".plan", "c0.pcap", "p"])
-    command = r.choice(["burst", "join", "send", "receive", "link", "duplex", "oobwrite", "oobread", "resend", "list", "assemble", "Burst", "", "help", "link "])
+    if r.randrange(2):
+        # One word that is right, with an output that cannot be created or a name that is odd.
+        command = r.choice(["burst", "send", "link", "oobwrite", "join", "receive", "list"])
+        return Case([command, r.choice(["p.plan", "p.plan", "p.plan", "n" * 255, "\u00e9" * 127, "no/p.plan", ".plan", "o"])], files, d.wide)
+    name = r.choice(["p.plan", "p.plan", "q.plan", "-", "-p.plan", "", "n" * 256, "\u00e9" * 128, "c0.pcap"])
+    command = r.choice(["burst", "join", "receive", "resend", "list", "assemble", "Burst", "", "help", "link "])
     words = r.choice([[command, name], [command, name], [command, name], [command, name, name], [command], [name, command], []])
     if r.randrange(5) == 0:
         number = r.choice(["0", "1" * 20, "18446744073709551616", "9" * 20, "0" * 21, "", "x1", "-1", " 1", "1.", "\u0661"])
@@ -198,7 +201,7 @@ def join_case(r: Random) -> Case:
     d = Drawn(r)
     words = mutated_words(r, payload_stream(d.source()).words)
     if r.randrange(10) == 0:
-        words = [Word(r.choice([1, 1, 2, 2, 2, 3]), random_number(r)) for _ in range(r.choice([0, 1, 30]))]
+        words = [random_listings.word(r) for _ in range(r.choice([0, 1, 30]))]
     data = words_file.file_of_words(words)
     if r.randrange(6) == 0:
         at = 9 * r.randrange(len(data) // 9 + 1)
@@ -209,12 +212,6 @@ def join_case(r: Random) -> Case:
     if r.randrange(10) == 0:
         files = r.choice([{"p.plan": files["p.plan"]}, {"o.words": data}, {**files, "p.plan": drawn.spoiled_plan(r, d.rows)}])
     return Case(["join", "p.plan"], files, d.wide)
-
-
-def random_number(r: Random) -> int:
-    """A random number, or that of a control word with its own CRC24."""
-    number = 1 << 63 | r.getrandbits(2) << 61 | r.choice([0, 0, 1, 8, 12]) << 57 | r.getrandbits(1) << 32
-    return r.choice([r.getrandbits(64), fields.sealed([], number), fields.sealed([], number)])
 
 
 # ---- received lanes
@@ -390,63 +387,14 @@ def apart(r: Random, stream: Sequence[Word], link: Link) -> list[list]:
 # ---- listings
 
 def list_case(r: Random) -> Case:
-    """`list` of words files and lanes, of random or sent words, damaged and cut ones."""
-    if r.randrange(2):
-        data = words_file.file_of_words([Word(r.choice([1, 1, 2, 2, 3]), r.choice([random_number(r), r.getrandbits(64)])) for _ in range(r.choice([0, 1, 2, 12, 60]))])
-        at = 9 * r.randrange(len(data) // 9 + 1)
-        data = r.choice([data, data, data[:r.randrange(len(data) + 1)], data[:at] + bytes([r.choice([0, 4, 255])]) + data[at + 1:]])
-        return Case(["list", "x.words"], {"x.words": data} if r.randrange(20) else {})
-    return Case(["list", r.choice(["x.lane.0", "words", "x.words.0"])], {name: random_lane(r) for name in ("x.lane.0", "words", "x.words.0")})
-
-
-def random_lane(r: Random) -> bytes:
-    """A lane file of framing words and others, cut or damaged, with any number of bits at its end."""
-    def code() -> str:
-        payload = r.choice([r.getrandbits(64), lanes.SYNC, lanes.state_number(r.getrandbits(58)), lanes.SYNC ^ lanes.ONES_64])
-        return listing.code_bits(r.choice("01"), r.choice(["01", "10", "10", "10", "00", "11"]), payload)
-    bits = "".join(code() for _ in range(r.choice([0, 1, 8, 40]))) + format(r.getrandbits(66), "066b")[:r.choice([0, 3, 66])]
-    return lanes.file_of_bits(bits[r.choice([0, 0, r.randrange(len(bits) + 1)]):])
-
-
-SPELLINGS = (
-    ("sync 0", "code 0 10 78F678F678F678F6"), ("sync 1", "code 1 10 78F678F678F678F6"), ("state 0 0", "state 0 4"), ("state 1 ", "state 1 0"),
-    ("code 0 10", "code 0 01"), ("code 1 ", "code 2 "), ("eop=8", "eop=0"), ("eop=none", "eop=error"), ("eop=error", "eop=9"), ("channel=", "channel=0"),
-    ("channel=", "channel=25"), ("multi=", "multi=25"), ("sop=1", "sop=2"), ("data ", "control "), ("control ", "data "), ("bad ", "control "),
-    ("words", "lane"), ("lane", "words"), ("idle", "burst"), ("burst", "data"), ("flow=", "flow=0"), ("\n", "\r\n"), ("rest ", "rest 0"),
-    ("rest ", "rest 1\nrest "), (" ", "  "), ("A", "a"),
-)
-
-
-def mutated_text(r: Random, text: str) -> str:
-    """A listing with one place that is told in another way, or with bytes that are lost, put in or moved."""
-    at = r.randrange(len(text) + 1)
-    change = r.randrange(6)
-    if change < 2:
-        old, new = r.choice([pair for pair in SPELLINGS if pair[0] in text] or [("", "")])
-        return text.replace(old, new, r.choice([1, 1, 1_000]))
-    if change == 2:
-        return text[:at] + r.choice(["0", " ", "\n", "\r", "rest 1\n", "sync 0\n", "data 0000000000000000\n", "\u00e9", "words\n"]) + text[at:]
-    if change == 3:
-        return text[:at] + text[at + r.choice([1, 2, 28]):]
-    if change == 4:
-        return text[:at]
-    lines = text.splitlines(True)
-    lines.insert(r.randrange(len(lines) + 1), lines.pop(r.randrange(len(lines))) if lines else "")
-    return "".join(lines)
+    """`list` of a words file or a lane, right or spoiled; a name that ends in `.words` makes it a words file."""
+    name, data = r.choice([("x.words", random_listings.words_data), ("x.lane.0", random_listings.lane_data), ("x.words.0", random_listings.lane_data)])
+    return Case(["list", name], {name: data(r)} if r.randrange(20) else {})
 
 
 def assemble_case(r: Random) -> Case:
-    """`assemble` of listings, right and mutated ones."""
-    while True:
-        made = list_case(r)
-        name = made.words[1]
-        try:
-            text = listing.text_of(listing.listing(name, made.files.get(name, b""))).decode()
-        except Refusal:
-            continue
-        for _ in range(r.choice([0, 1, 1, 1, 2])):
-            text = mutated_text(r, text)
-        return Case(["assemble", "x.txt"], {"x.txt": text.encode()} if r.randrange(30) else {})
+    """`assemble` of a listing, right or spoiled."""
+    return Case(["assemble", "x.txt"], {"x.txt": random_listings.text(r)} if r.randrange(30) else {})
 
 
 # ---- two ends
