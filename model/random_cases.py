@@ -119,9 +119,10 @@ def mutated_words(r: Random, words: Sequence[Word]) -> list[Word]:
     """A stream with a few words that break rules, or pass them: fields of control words are changed and sealed anew, words change their kind, are lost,
     repeated, moved or damaged."""
     found = list(words)
+    # Most of a stream's bursts stand in its second half.
     for _ in range(r.choice([0, 1, 2, 4, 9])):
         if found:
-            r.choice(MUTATIONS)(r, found, r.randrange(len(found)))
+            r.choice(MUTATIONS)(r, found, r.randrange(r.choice([0, len(found) // 2]), len(found)))
     return found
 
 
@@ -182,7 +183,15 @@ def put_control(r: Random, words: list[Word], at: int) -> None:
     seal(words, at)
 
 
-MUTATIONS = (change_fields, change_fields, change_end, change_end, invert_bit, change_kind, lose, repeat, put_control)
+def lose_sop(r: Random, words: list[Word], at: int) -> None:
+    """A burst word that begins a packet does so no longer."""
+    at = next((place for place in range(at, len(words)) if words[place].kind == CONTROL and fields.has_sop(words[place].number)), None)
+    if at is not None:
+        words[at] = Word(CONTROL, words[at].number & ~(1 << 61))
+        seal(words, at)
+
+
+MUTATIONS = (change_fields, change_fields, change_end, change_end, change_end, lose_sop, invert_bit, change_kind, lose, repeat, put_control)
 
 
 def far_end(r: Random, d: Drawn) -> list[list]:
@@ -193,7 +202,7 @@ def far_end(r: Random, d: Drawn) -> list[list]:
         rows.remove(r.choice(listed))
     if r.randrange(8) == 0 and all(row[1] < 256 for row in listed):
         rows = [row for row in rows if row[0] != "wide"] + [["wide", r.randrange(2)]]
-    return rows + ([["max_packet", r.choice([8, 60, 100, 256])]] if r.randrange(3) == 0 else [])
+    return rows + ([["max_packet", r.choice([8, 8, 60, 100, 256])]] if r.randrange(2) == 0 else [])
 
 
 def join_case(r: Random) -> Case:
@@ -227,7 +236,7 @@ def receive_case(r: Random) -> Case:
     if r.randrange(2):
         bits = struck(r, d, bits)
     for _ in range(r.choice([0, 0, 1, 2])):
-        r.choice(SPOILS)(r, bits, r.randrange(len(bits)))
+        r.choice(SPOILS)(r, bits, r.randrange(len(bits)), d.plan.link)
     return Case(["receive", "p.plan"], receive_files(r, d, bits), d.wide)
 
 
@@ -252,41 +261,49 @@ def struck(r: Random, d: Drawn, bits: Sequence[str]) -> list[str]:
     return found
 
 
-def cut_front(r: Random, bits: list[str], lane: int) -> None:
+def cut_front(r: Random, bits: list[str], lane: int, link: Link) -> None:
     """The first bits are gone."""
     bits[lane] = bits[lane][r.randrange(len(bits[lane]) + 1):]
 
 
-def cut_end(r: Random, bits: list[str], lane: int) -> None:
+def cut_end(r: Random, bits: list[str], lane: int, link: Link) -> None:
     """The last bits are gone."""
     bits[lane] = bits[lane][:r.randrange(len(bits[lane]) + 1)]
 
 
-def swap(r: Random, bits: list[str], lane: int) -> None:
+def swap(r: Random, bits: list[str], lane: int, link: Link) -> None:
     """Two lanes stand in each other's place, or one stands twice."""
     other = r.randrange(len(bits))
     bits[lane], bits[other] = bits[other], r.choice([bits[lane], bits[other]])
 
 
-def noise(r: Random, bits: list[str], lane: int) -> None:
+def noise(r: Random, bits: list[str], lane: int, link: Link) -> None:
     """Random bits stand in front, between or in place of others."""
     at, count = r.randrange(len(bits[lane]) + 1), r.choice([1, 5, 66, 67, 700, 5_000])
     bits[lane] = bits[lane][:at] + format(r.getrandbits(count), "0%db" % count) + bits[lane][at + r.choice([0, count]):]
 
 
-def slip(r: Random, bits: list[str], lane: int) -> None:
+def slip(r: Random, bits: list[str], lane: int, link: Link) -> None:
     """Bits in the middle are gone."""
     at = r.randrange(len(bits[lane]) + 1)
     bits[lane] = bits[lane][:at] + bits[lane][at + r.choice([1, 3, 66, 67, 67 * 32]):]
 
 
-def twice(r: Random, bits: list[str], lane: int) -> None:
+def twice(r: Random, bits: list[str], lane: int, link: Link) -> None:
     """All lanes come twice, one after the other."""
     gap = r.choice(["", "1", "0" * 67, "01" * 600])
     bits[:] = [part + gap + part for part in bits]
 
 
-SPOILS = (cut_front, cut_end, swap, noise, slip, twice)
+def end_together(r: Random, bits: list[str], lane: int, link: Link) -> None:
+    """One lane is over where another loses its lock, at the end of a metaframe: the fourth of wrong Syncs is the next."""
+    turn, other = r.randrange(7, 10), r.randrange(len(bits))
+    bits[lane] = bits[lane][:link.period * turn]
+    syncs = tuple(link.period * (turn - back) + 9 for back in range(4))
+    bits[other] = lanes.received(bits[other], lanes.Damage(0, syncs))
+
+
+SPOILS = (cut_front, cut_end, swap, noise, slip, twice, end_together, end_together)
 
 
 def regular_case(r: Random) -> Case:
@@ -296,7 +313,7 @@ def regular_case(r: Random) -> Case:
     if r.randrange(2):
         bits = [bits[0]] * len(bits)
     if r.randrange(3) == 0:
-        noise(r, bits, r.randrange(len(bits)))
+        noise(r, bits, r.randrange(len(bits)), d.plan.link)
     return Case(["receive", "p.plan"], receive_files(r, d, bits), d.wide)
 
 
@@ -305,9 +322,13 @@ def regular_bits(r: Random, link: Link, lane: int) -> str:
     count = r.choice([4, 7, 10, 14]) * link.period
     idle = Word(CONTROL, fields.sealed([], fields.control_number(False, False, 0, True, 0xFFFF, 0, 0)))
     other = link._replace(metaframe=r.choice([link.metaframe, link.metaframe + 1, 2 * link.metaframe, link.metaframe - 1 if link.metaframe > 32 else 64]))
+    code = lanes.code(idle, False)
     sent = lanes.lane_bits([idle] * (other.group * r.choice([6, 13])), other, lane)
     metaframe = [lanes.code(Word(CONTROL, number), r.random() < 0.5) for number in repeated_metaframe(r, link)]
+    wrong = "0" * CODE_BITS * 16
     pattern = r.choice([
+        # The sixteenth wrong header of a block is in the last word of the six metaframes, or just not.
+        (code * (6 * link.metaframe - 16 - r.choice([0, 0, 1])) + wrong + code * 200)[:CODE_BITS * 500],
         "0", "1", "01", "0110", lanes.code(Word(CONTROL, lanes.SYNC), False), lanes.code(Word(DATA, r.getrandbits(64)), True),
         sent[:link.period], sent, sent, sent[:link.period * 5] + "0" * r.choice([1, 67, 2_000]), "".join(metaframe), "".join(metaframe), "".join(metaframe),
     ])
@@ -329,7 +350,9 @@ def mimic_case(r: Random) -> Case:
     link = d.plan.link
     rows: list[list] = []
     for _ in range(r.choice([1, 1, 2])):
-        rows += r.choice([forged_words, forged_words, forged_words, forged_lock, forged_lock, apart])(r, stream, link)
+        rows += r.choice([forged_words, forged_words, forged_words, forged_lock, forged_lock, forged_diagnostic, apart])(r, stream, link)
+    if r.randrange(3) == 0:
+        rows += drawn.one_bit(r, r.randrange(link.lanes), link, lane_length(d))
     skews = {row[1]: row for row in rows if row[0] == "skew"}
     d.add_rows("schedule", "s.csv", [row for row in rows if row[0] != "skew"] + list(skews.values()))
     return Case(["link", "p.plan"], d.all_files(), d.wide)
@@ -379,6 +402,21 @@ def forged_lock(r: Random, stream: Sequence[Word], link: Link) -> list[list]:
     return rows + [["flip", lane, link.period * turn + 30] for turn in range(r.choice([0, 1, 9]))]
 
 
+def forged_diagnostic(r: Random, stream: Sequence[Word], link: Link) -> list[list]:
+    """A payload of a metaframe is another, often that of the Diagnostic word, which has the right CRC32 again."""
+    lane, turn = r.randrange(link.lanes), r.randrange(4, len(stream) // link.group)
+    payload = lanes.striped(stream, link.lanes, lane)[turn * link.rows:(turn + 1) * link.rows]
+    sent = [word.number for word in lanes.framed(payload, link, 0)]
+    wanted = list(sent)
+    wanted[r.choice([2, link.metaframe // 2, -1, -1])] ^= 1 << r.choice([63, 58, 40, 33])
+    wanted[-1] += lanes.metaframe_crc(wanted) - fields.bits(wanted[-1], 31, 0)
+    rows = []
+    for position, (old, new) in enumerate(zip(sent, wanted)):
+        at = link.period * turn + CODE_BITS * position
+        rows += flips_between(lane, at, lanes.code(Word(DATA, old), False), lanes.code(Word(DATA, new), False))
+    return rows
+
+
 def apart(r: Random, stream: Sequence[Word], link: Link) -> list[list]:
     """Some lanes come whole metaframes later than others."""
     return [["skew", lane, r.choice([0, 1, 1, 2]) * link.period + r.randrange(60)] for lane in range(link.lanes)]
@@ -409,11 +447,11 @@ def duplex_case(r: Random) -> Case:
     back = r.sample(d.plan.channels, r.randint(0, len(d.plan.channels)))
     files = {"b%d.pcap" % channel: drawn.capture(r, drawn.packets(r)) for channel in back}
     rows += [["back", channel, "b%d.pcap" % channel] for channel in back]
-    if r.randrange(12) == 0:
+    if r.randrange(16) == 0:
         rows.append(["back", r.choice([4, 65_535]), "b.pcap"])
     r.shuffle(rows)
     plan = d.spoil() if r.randrange(8) == 0 else d.all_files()
-    files = {**plan, **files, "s.duplex": drawn.spoiled(r, rows) if r.randrange(4) == 0 else drawn.spelled(r, rows)}
+    files = {**plan, **files, "s.duplex": drawn.spoiled(r, rows) if r.randrange(6) == 0 else drawn.spelled(r, rows)}
     if r.randrange(12) == 0:
         name = r.choice(sorted(files))
         files[name] = r.choice([b"", drawn.spoiled_capture(r, drawn.packets(r))])

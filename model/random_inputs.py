@@ -2,12 +2,12 @@
 
 import struct
 from random import Random
-from typing import Callable, Sequence
+from typing import Sequence
 
-import csv_rows
 import fields
 import pcap
 from flow import FlowRow, LocalRow, packed
+from link import CODE_BITS, Link
 from plan import Plan, plan_of
 from stream import Source
 
@@ -216,7 +216,7 @@ def flow_rows(r: Random, entries: Sequence[int]) -> list[FlowRow]:
             slot += r.choice([0, 0, 1, 30, 90])
             flow = packed(states[at:at + 16])
             word = fields.control_number(r.randrange(2), r.randrange(2), r.choice([0, 1, 8, 15]), at == 0, flow, r.randrange(256), r.randrange(256))
-            rows.append(FlowRow(slot, spoiled_flow(r, fields.sealed([], word)) if r.randrange(9) == 0 else fields.sealed([], word)))
+            rows.append(FlowRow(slot, spoiled_flow(r, fields.sealed([], word)) if r.randrange(6) == 0 else fields.sealed([], word)))
     return rows if r.randrange(3) else rows + all_on(entries, slot)
 
 
@@ -244,45 +244,57 @@ def local_rows(r: Random, channels: Sequence[int], most: int) -> list[LocalRow]:
 def schedule_rows(r: Random, plan: Plan, bits: int) -> list[list]:
     """Skews within the depth and beyond, inverted bits, dark stretches, and damage that takes locks."""
     link = plan.link
-    base, depth = r.choice([0, 0, 5, 300]), 67 * link.deskew
-    spread = r.choice([0, depth, depth, depth + 1, 2 * depth, link.period])
-    rows = [["skew", lane, base + r.choice([0, spread, r.randint(0, spread)])] for lane in range(link.lanes) if r.randrange(4)]
+    rows = [["skew", lane, skew] for lane, skew in enumerate(skews(r, link)) if skew or r.randrange(2)]
     for _ in range(r.choice([0, 1, 1, 2, 4])):
         rows += r.choice(DAMAGES)(r, r.randrange(link.lanes), link, bits)
     r.shuffle(rows)
     return rows
 
 
-def one_bit(r: Random, lane: int, link, bits: int) -> list[list]:
+def skews(r: Random, link: Link) -> list[int]:
+    """Of each lane its skew: all alike, within the depth, just beyond it, or each within the depth of lane 0 and not of one another."""
+    base, depth = r.choice([0, 0, 5, 300]), CODE_BITS * link.deskew
+    if r.randrange(5) == 0:
+        return [base + depth] + [base + r.choice([0, 2 * depth, 2 * depth - 1, r.randint(0, 2 * depth)]) for _ in range(1, link.lanes)]
+    spread = r.choice([0, depth, depth, depth + 1, 2 * depth, link.period])
+    return [base + r.choice([0, spread, r.randint(0, spread)]) for _ in range(link.lanes)]
+
+
+def one_bit(r: Random, lane: int, link: Link, bits: int) -> list[list]:
     """One bit, once or twice, also beyond the lane's end."""
     return [["flip", lane, r.choice([r.randrange(bits), r.randrange(bits), bits, 999_999_999_999])]] * r.choice([1, 1, 1, 2])
 
 
-def some_bits(r: Random, lane: int, link, bits: int) -> list[list]:
+def some_bits(r: Random, lane: int, link: Link, bits: int) -> list[list]:
     """Many bits near one another."""
     at = r.randrange(bits)
     return [["flip", lane, at + r.randrange(200)] for _ in range(r.randint(2, 9))]
 
 
-def dark(r: Random, lane: int, link, bits: int) -> list[list]:
-    """A dark stretch, short or long enough to take a lock."""
-    return [["dark", lane, r.randrange(bits), r.choice([1, 3, 67, 67 * 8, 67 * 15, 67 * 17, 67 * 40, 999_999_999_999])]]
+def dark(r: Random, lane: int, link: Link, bits: int) -> list[list]:
+    """A dark stretch, short or long enough to take a lock, and sometimes an inverted bit in it."""
+    first, count = r.choice([r.randrange(bits), locked_bit(r, link, bits)]), r.choice([1, 3, 67, 67 * 8, 67 * 15, 67 * 17, 67 * 40, 999_999_999_999])
+    return [["dark", lane, first, count]] + r.choice([[], [["flip", lane, first + r.randrange(min(count, 1_000))]]])
 
 
-def words_of_metaframes(position: int, count: int, bit: int) -> Callable:
-    """Damage of one bit in the words at a position of a metaframe, in so many metaframes."""
-    def rows(r: Random, lane: int, link, bits: int) -> list[list]:
-        first = r.randrange(max(1, bits // link.period - 1))
-        return [["flip", lane, link.period * (first + turn) + 67 * (position % link.metaframe) + bit] for turn in range(count)]
-    return rows
+def locked_bit(r: Random, link: Link, bits: int) -> int:
+    """A bit at which a lane is locked, where nothing happened before."""
+    return r.randrange(min(4 * link.period, bits - 1), bits)
 
 
-def headers(r: Random, lane: int, link, bits: int) -> list[list]:
+def headers(r: Random, lane: int, link: Link, bits: int) -> list[list]:
     """Wrong headers in 15 to 17 words of one block, or so."""
-    first = r.randrange(max(1, bits // 67 - 40))
-    return [["flip", lane, 67 * (first + turn) + r.choice([1, 2])] for turn in range(r.choice([15, 16, 17, 40]))]
+    first = r.choice([r.randrange(bits), locked_bit(r, link, bits)]) // CODE_BITS
+    return [["flip", lane, CODE_BITS * (first + turn) + r.choice([1, 2])] for turn in range(r.choice([15, 16, 17, 40]))]
 
 
-DAMAGES = (one_bit, one_bit, some_bits, dark, dark, headers, words_of_metaframes(0, 1, 40), words_of_metaframes(0, 4, 9), words_of_metaframes(0, 3, 9),
-           words_of_metaframes(1, 1, 4), words_of_metaframes(1, 3, 30), words_of_metaframes(1, 2, 30), words_of_metaframes(-1, 1, 50),
-           words_of_metaframes(1, 4, 4), words_of_metaframes(4, 3, 2))
+def framing(r: Random, lane: int, link: Link, bits: int) -> list[list]:
+    """Sync, Scrambler State or Diagnostic words of some metaframes, one after another or with right ones between: a bit of each, or both of its
+    header, which make it a data word."""
+    turns = r.choice([[0], [0, 1], [0, 1, 2], [0, 1, 2, 3], [0, 1, 3], [0, 1, 3, 4], [0, 1, 2, 4], [0, 1, 2, 4, 5, 6]])
+    first, position = r.choice([0, 3, 3, 4, 4, r.randrange(max(1, bits // link.period))]), r.choice([0, 0, 1, 1, link.metaframe - 1, 2])
+    places = r.choice([[1, 2], [1], [3], [9], [30], [65]])
+    return [["flip", lane, link.period * (first + turn) + CODE_BITS * position + place] for turn in turns for place in places]
+
+
+DAMAGES = (one_bit, one_bit, some_bits, dark, dark, headers, headers, framing, framing, framing, framing)
