@@ -88,7 +88,8 @@ def main():
             for what, wrong in found:
                 tally.count(what, wrong)
             different = sum(bool(wrong) for _, wrong in found)
-            print("%s%s: %d equal, %d different" % (kind, "" if plans == "drawn" else ", " + plans, len(found) - different, different), flush=True)
+            form = "" if plans == "drawn" else ", " + plans
+            print("%s%s: %d equal, %d different" % (kind, form, len(found) - different, different), flush=True)
     return tally.end()
 
 

@@ -1,9 +1,10 @@
-"""What no receiver can see: accidents, and packets that are missing. DEFINITIONS, "What lanes show": Accident, Missing packet."""
+"""What no receiver can see: accidents, and packets that are missing. DEFINITIONS, "What lanes show": Accident, Missing
+packet."""
 
 from typing import NamedTuple, Sequence
 
 from epochs import Epoch, Place
-from fields import Word
+from fields import CONTROL, Word
 from link import Link
 from locks import Lock
 from reassembly import Packet
@@ -18,7 +19,8 @@ class Sent(NamedTuple):
     skews: Sequence[int]
 
     def number_of_sync(self, lane: int, bit: int) -> int | None:
-        """The number of the sender's Sync at a bit of a lane. They stand at the lane's skew and every metaframe after."""
+        """The number of the sender's Sync at a bit of a lane. They stand at the lane's skew and every metaframe
+        after."""
         number, rest = divmod(bit - self.skews[lane], self.link.period)
         return number if rest == 0 and 0 <= number < len(self.words) // self.link.group else None
 
@@ -59,22 +61,25 @@ def is_sent_group(sent: Sent, group: Sequence[int]) -> bool:
 
 
 def is_sent_stretch(sent: Sent, epoch: Epoch, begin: int, end: int) -> bool:
-    """Whether the words of a stretch are, word for word and at their places, those after one sent control word up to and including the next."""
+    """Whether the words of a stretch are, word for word and at their places, those after one sent control word up to
+    and including the next."""
     slots = [sent.slot(place) for place in epoch.places[begin:end + 1]]
     first = slots[0]
-    if first is None or slots != list(range(first, first + len(slots))):
+    if first is None or slots != list(range(first, first + len(slots))) or sent.words[first].kind != CONTROL:
         return False
-    return sent.words[first].kind == epoch.words[begin].kind and list(sent.words[first + 1:slots[-1] + 1]) == epoch.words[begin + 1:end + 1]
+    return epoch.words[begin + 1:end + 1] == list(sent.words[first + 1:slots[-1] + 1])
 
 
 class Missing(NamedTuple):
-    """A listed packet for which none came, with the number of the first span that it meets, or else the number of spans."""
+    """A listed packet for which none came, with the number of the first span that it meets, or else the number of
+    spans."""
     packet: ListedPacket
     span: int
 
 
 def missing(sent: Sent, listed: Sequence[ListedPacket], packets: Sequence[Packet], spans: Sequence[Span]) -> list[Missing]:
-    """The listed packets that have their end word, where no packet came on their channel from the place of the SOP word to that of the end word."""
+    """The listed packets that have their end word, where no packet came on their channel from the place of the SOP word
+    to that of the end word."""
     came = {(packet.channel, packet.first, packet.last) for packet in packets}
     found = []
     for packet in listed:

@@ -8,8 +8,8 @@ LINK_TYPE, DESKEW, WARMUP = 1, 7, 4
 
 
 class Draws:
-    """The state starts as the number. A draw below k first sets the state x to 6364136223846793005 x + 1442695040888963407 modulo 2^64, and is x div 2^33,
-    modulo k."""
+    """The state starts as the number. A draw below k first sets the state x to 6364136223846793005 x +
+    1442695040888963407 modulo 2^64, and is x div 2^33, modulo k."""
 
     def __init__(self, number: int):
         self.state = number
@@ -21,7 +21,8 @@ class Draws:
 
 
 class Case(NamedTuple):
-    """The numbers of the plan by their keys, the packets of each channel, the skews, and the inverted bits, each as its lane and the bit."""
+    """The numbers of the plan by their keys, the packets of each channel, the skews, and the inverted bits, each as its
+    lane and the bit."""
     numbers: list[tuple[str, int]]
     channels: list[list[bytes]]
     skews: list[int]
@@ -54,7 +55,8 @@ def packet(draws: Draws) -> bytes:
 
 def files_of_case(drawn: Case, prefix: str) -> list[tuple[str, bytes]]:
     """The captures by number, the schedule with a row for each skew and then for each inverted bit, and the plan."""
-    captures = [("%s.%d.pcap" % (prefix, channel), pcap.written(packets, LINK_TYPE)) for channel, packets in enumerate(drawn.channels)]
+    captures = [("%s.%d.pcap" % (prefix, channel), pcap.written(packets, LINK_TYPE))
+                for channel, packets in enumerate(drawn.channels)]
     schedule = [("skew", lane, skew) for lane, skew in enumerate(drawn.skews)] + [("flip", *flip) for flip in drawn.flips]
     plan = [
         *drawn.numbers,

@@ -7,7 +7,8 @@ CRC24, CRC32 = (24, 0x328B63), (32, 0x1EDC6F41)
 
 
 def step(width: int, polynomial: int, register: int, bit: int) -> int:
-    """The register is shifted left by one, and where its highest bit and the message bit differ, the polynomial is xored in."""
+    """The register is shifted left by one, and where its highest bit and the message bit differ, the polynomial is
+    xored in."""
     shifted = register << 1 & (1 << width) - 1
     return shifted ^ polynomial if register >> width - 1 != bit else shifted
 
@@ -23,7 +24,8 @@ def checksum(width: int, polynomial: int, message: Iterable[int]) -> int:
 
 @lru_cache
 def byte_steps(width: int, polynomial: int) -> list[int]:
-    """For each byte what eight steps with zeros make of a register that has the byte as its highest bits and else zeros."""
+    """For each byte what eight steps with zeros make of a register that has the byte as its highest bits and else
+    zeros."""
     table = []
     for byte in range(256):
         register = byte << width - 8
@@ -34,7 +36,8 @@ def byte_steps(width: int, polynomial: int) -> list[int]:
 
 
 def checksum_of_words(width: int, polynomial: int, numbers: Sequence[int]) -> int:
-    """The checksum of the 64 bits of each number, the highest first. Eight steps at once, by a table, since a step is linear."""
+    """The checksum of the 64 bits of each number, the highest first. Eight steps at once, by a table, since a step is
+    linear."""
     table, ones = byte_steps(width, polynomial), (1 << width) - 1
     register = ones
     for byte in b"".join(number.to_bytes(8, "big") for number in numbers):

@@ -16,7 +16,7 @@ import words_file
 from accidents import Sent, accidents, missing
 from duplex import duplex_run
 from epochs import Epoch, epoch_of_words, epochs_of_lanes
-from files import CAPTURES_LIMIT, DONE, HELD, Refusal, input_refused, read_input, read_plan
+from files import CAPTURES_LIMIT, DONE, HELD, read_input, read_plan
 from link import Link, Shape
 from plan import Plan
 from reassembly import Outcome, Packet, Settings, reassembled
@@ -38,7 +38,8 @@ class Answer(NamedTuple):
 # ---- inputs
 
 class Captures:
-    """Captures that are read one after another. One is too large where its bytes exceed what those before it left of the limit."""
+    """Captures that are read one after another. One is too large where its bytes exceed what those before it left of
+    the limit."""
 
     def __init__(self, longest: int):
         self.longest, self.left = longest, CAPTURES_LIMIT
@@ -53,7 +54,8 @@ class Captures:
 
 def packets_of_plan(plan: Plan, captures: Captures) -> list[tuple[int, bytes]]:
     """The packets of a plan's captures, each with its channel, in the order of the channels' rows."""
-    return [(channel, packet) for channel, name in plan.listed.items() if name is not None for packet in captures.packets(name)]
+    named = [(channel, name) for channel, name in plan.listed.items() if name is not None]
+    return [(channel, packet) for channel, name in named for packet in captures.packets(name)]
 
 
 def rows_of_file(name: str | None, read) -> list:
@@ -67,7 +69,8 @@ def local_rows(plan: Plan) -> list:
 
 
 def source_of_plan(plan: Plan) -> Source:
-    """The shape, the channels in order of number, the calendar, and the inputs: captures first, then the flow file, then the local file."""
+    """The shape, the channels in order of number, the calendar, and the inputs: captures first, then the flow file,
+    then the local file."""
     packets = packets_of_plan(plan, Captures(plan.settings.max_packet))
     flow = rows_of_file(plan.file("flow"), inputs.flow_rows)
     return Source(plan.shape, plan.channels, plan.entries, packets, flow, local_rows(plan))
@@ -153,7 +156,8 @@ def capture_of(packets: Sequence[Packet], link_type: int) -> bytes:
 
 def outcome_files(out: str, outcome: Outcome, settings: Settings, link_type: int) -> list[tuple[str, bytes]]:
     """The capture of each listed channel by number, and the table of the spans."""
-    captures = [("%s.%d.pcap" % (out, channel), capture_of(packets_on(outcome.packets, channel), link_type)) for channel in settings.channels]
+    captures = [("%s.%d.pcap" % (out, channel), capture_of(packets_on(outcome.packets, channel), link_type))
+                for channel in settings.channels]
     return [*captures, ("%s.spans.csv" % out, texts.span_table(outcome.spans))]
 
 
@@ -193,7 +197,8 @@ def receive(name: str) -> Answer:
     data = [read_input(lane_name(plan, lane), files.LANE_LIMIT, bytes) for lane in range(plan.link.lanes)]
     front = front_of(data, plan.link)
     outcome = reassembled(front.epochs, plan.settings)
-    return Answer(DONE, outcome_files(plan.out, outcome, plan.settings, plan.link_type), received_lines(plan, front, outcome))
+    made = outcome_files(plan.out, outcome, plan.settings, plan.link_type)
+    return Answer(DONE, made, received_lines(plan, front, outcome))
 
 
 def received_lines(plan: Plan, front: Front, outcome: Outcome) -> list[str]:
@@ -202,11 +207,19 @@ def received_lines(plan: Plan, front: Front, outcome: Outcome) -> list[str]:
     return reports + outcome_lines(outcome, plan.settings)
 
 
+def damages_of_plan(plan: Plan) -> list[lanes.Damage]:
+    """What the schedule says of each lane; without one nothing happens to any."""
+    name = plan.file("schedule")
+    if name is None:
+        return [lanes.Damage()] * plan.link.lanes
+    return read_input(name, files.ROWS_LIMIT, lambda data: inputs.schedule(data, plan.link.lanes))
+
+
 def link(name: str) -> Answer:
     """A stream over its lanes, each damaged by the schedule, and what the receiver makes of them."""
     plan = read_plan(name, plans.plan_of)
     source = source_of_plan(plan)
-    damages = rows_of_file(plan.file("schedule"), lambda data: inputs.schedule(data, plan.link.lanes)) or [lanes.Damage()] * plan.link.lanes
+    damages = damages_of_plan(plan)
     stream = payload_stream(source)
     made = lane_files(plan, [lanes.received(bits, damage) for bits, damage in zip(sent_lanes(plan, stream), damages)])
     front = front_of([data for _, data in made], plan.link)
@@ -220,11 +233,13 @@ def link(name: str) -> Answer:
         *map(texts.missing_line, missing(sent, listed, outcome.packets, outcome.spans)),
         *held_lines(stream),
     ]
-    return Answer(HELD if stream.left else DONE, made + outcome_files(plan.out, outcome, plan.settings, plan.link_type), lines)
+    made += outcome_files(plan.out, outcome, plan.settings, plan.link_type)
+    return Answer(HELD if stream.left else DONE, made, lines)
 
 
 def generate(number: str, prefix: str) -> Answer:
-    """The files of the case of the number, each written to its end before the next, and then what `link` of its plan comes to."""
+    """The files of the case of the number, each written to its end before the next, and then what `link` of its plan
+    comes to."""
     for name, data in cases.files_of_case(cases.case(int(number)), prefix):
         files.create(name, data)
     return link(prefix + ".plan")
@@ -233,7 +248,8 @@ def generate(number: str, prefix: str) -> Answer:
 # ---- two ends, out-of-band status, and what is sent again
 
 def duplex(name: str) -> Answer:
-    """What each of two ends got of the other. Inputs are the settings, the plan, the captures of end a as the plan names them, and those of end b."""
+    """What each of two ends got of the other. Inputs are the settings, the plan, the captures of end a as the plan
+    names them, and those of end b."""
     settings = read_plan(name, plans.settings_of)
     plan = read_input(settings.plan, files.PLAN_LIMIT, plans.plan_of)
     for place, channel, _ in settings.back:

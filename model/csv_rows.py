@@ -18,7 +18,8 @@ class Fault(Exception):
 
 
 def rows_of(data: bytes) -> list[list[bytes]]:
-    """The rows of a file by their fields. A byte-order mark at the beginning is skipped, and empty lines are no rows."""
+    """The rows of a file by their fields. A byte-order mark at the beginning is skipped, and empty lines are no
+    rows."""
     csv.field_size_limit(len(data) + 1)
     # Each byte stands as one character, since a field may be no text.
     text = data.removeprefix(BYTE_ORDER_MARK).decode("latin-1")
@@ -70,7 +71,8 @@ CHANNEL, SLOT, BIT = number(0, GREATEST_CHANNEL), number(0, GREATEST_SLOT), numb
 
 
 def values_of(fields: Sequence[str], kinds: Sequence[Kind]) -> list:
-    """The values of fields, each of its kind: another number of fields goes before a number, and that before a range."""
+    """The values of fields, each of its kind: another number of fields goes before a number, and that before a
+    range."""
     if len(fields) != len(kinds):
         raise Fault("fields")
     values = [kind.read(field) for kind, field in zip(kinds, fields)]

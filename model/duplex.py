@@ -4,7 +4,7 @@ from typing import NamedTuple, Sequence
 
 import fields
 from epochs import epoch_of_words
-from fields import CONTROL, DATA, Word
+from fields import DATA, Word
 from flow import FlowRow, LocalRow
 from plan import DuplexSettings, Plan
 from reassembly import Packet, reassembled
@@ -31,8 +31,8 @@ class Side:
         self.has_heard = False
 
     def hear(self, slot: int, word: Word) -> list[FlowRow]:
-        """Takes the word that the other end sent `delay` slots ago. A flow row is a control word, with bits 23:0 replaced by the CRC24 of the word alone;
-        the other end's first control word is left out."""
+        """Takes the word that the other end sent `delay` slots ago. A flow row is a control word, with bits 23:0
+        replaced by the CRC24 of the word alone; the other end's first control word is left out."""
         self.got.append(word)
         if word.kind == DATA:
             self.queue[self.current] += 1
@@ -53,7 +53,8 @@ class Side:
 
 
 def duplex_run(plan: Plan, packets: Sequence[Sequence[tuple[int, bytes]]], settings: DuplexSettings) -> list[End]:
-    """A run of two ends, a and b, slot by slot: what each got of the other. Each stream is an open stream with the rows of its end."""
+    """A run of two ends, a and b, slot by slot: what each got of the other. Each stream is an open stream with the rows
+    of its end."""
     sides = [Side(plan, of_side, settings) for of_side in packets]
     for slot in range(settings.slots):
         for side, other in zip(sides, reversed(sides)):

@@ -1,4 +1,5 @@
-"""Groups and epochs: which words of the lanes belong together. DEFINITIONS, "What lanes show": Group, Epoch; "What is received": Epoch."""
+"""Groups and epochs: which words of the lanes belong together. DEFINITIONS, "What lanes show": Group, Epoch; "What is
+received": Epoch."""
 
 from itertools import product
 from typing import Iterator, NamedTuple, Sequence
@@ -15,7 +16,8 @@ class Place(NamedTuple):
 
 
 class Epoch(NamedTuple):
-    """Words at their places, and the break that ends them: `lost` or `end`. An epoch of lanes has its groups too, each as one Sync a lane."""
+    """Words at their places, and the break that ends them: `lost` or `end`. An epoch of lanes has its groups too, each
+    as one Sync a lane."""
     places: list[Place]
     words: list[Word]
     ends_for: str
@@ -60,8 +62,8 @@ def epochs_of_lanes(locks: Sequence[Sequence[Lock]], link: Link) -> list[Epoch]:
 
 
 def epoch_from(group: tuple[Sync, ...], lanes: Sequence[Sequence[Lock]], link: Link) -> Epoch:
-    """A group, its words in order, then the group a metaframe on where every lane's next Sync is covered by the same lock. It ends at the first
-    word or Sync that is not there."""
+    """A group, its words in order, then the group a metaframe on where every lane's next Sync is covered by the same
+    lock. It ends at the first word or Sync that is not there."""
     epoch = Epoch([], [], "", [])
     syncs = group
     while True:

@@ -66,7 +66,8 @@ def is_control_word(number: int) -> bool:
 
 
 def channel_number(number: int, wide: bool) -> int:
-    """Where numbers are narrow it is the channel, bits 39:32; where they are wide it is that and 256 times bits 31:24."""
+    """Where numbers are narrow it is the channel, bits 39:32; where they are wide it is that and 256 times bits
+    31:24."""
     return channel_field(number) + (256 * multiple_use(number) if wide else 0)
 
 
@@ -87,7 +88,8 @@ def control_number(burst: bool, sop: bool, end: int, reset: bool, flow: int, cha
 
 
 def right_crc(data: Sequence[int], number: int) -> int:
-    """The CRC24 of a control word covers the data words since the last control word, and then the word with zeros in bits 23:0."""
+    """The CRC24 of a control word covers the data words since the last control word, and then the word with zeros in
+    bits 23:0."""
     return crc24([*data, number - crc_field(number)])
 
 

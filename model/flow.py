@@ -44,7 +44,8 @@ class Incoming:
             self.state[channel] = on
 
     def numbered(self, number: int) -> int | None:
-        """Valid words are numbered from the last reset word at or before them, as 0, where no invalid word stands between."""
+        """Valid words are numbered from the last reset word at or before them, as 0, where no invalid word stands
+        between."""
         if not is_valid(number):
             return None
         if fields.has_reset(number):

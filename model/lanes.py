@@ -33,19 +33,21 @@ def is_state_number(number: int) -> bool:
 
 
 def diagnostic_number(crc: int) -> int:
-    """Diagnostic has 011001 in bits 63:58, zeros, a 1 in bits 33 and 32 (lane and interface are well), and the CRC32."""
+    """Diagnostic has 011001 in bits 63:58, zeros, a 1 in bits 33 and 32 (lane and interface are well), and the
+    CRC32."""
     return DIAGNOSTIC_TYPE << 58 | ALL_WELL | crc
 
 
 def metaframe_crc(payloads: Sequence[int]) -> int:
-    """It covers the L unscrambled payloads, with bits 57:0 of the Scrambler State word and bits 31:0 of the Diagnostic word as zeros."""
+    """It covers the L unscrambled payloads, with bits 57:0 of the Scrambler State word and bits 31:0 of the Diagnostic
+    word as zeros."""
     sync, state, *between, diagnostic = payloads
     return crc32([sync, state & ~ONES_58, *between, diagnostic & ~ONES_32])
 
 
 def is_right_diagnostic(metaframe: Sequence[Word]) -> bool:
-    """A received Diagnostic word is right where it is Control, has 011001 in bits 63:58, no word of its metaframe is Bad, and its
-    bits 31:0 are the CRC32 of the metaframe."""
+    """A received Diagnostic word is right where it is Control, has 011001 in bits 63:58, no word of its metaframe is
+    Bad, and its bits 31:0 are the CRC32 of the metaframe."""
     kind, number = metaframe[-1]
     has_its_form = kind == CONTROL and fields.bits(number, 63, 58) == DIAGNOSTIC_TYPE
     if not has_its_form or any(word.kind == BAD for word in metaframe):
@@ -54,7 +56,8 @@ def is_right_diagnostic(metaframe: Sequence[Word]) -> bool:
 
 
 def framed(payload: Sequence[Word], link: Link, state: int) -> list[Word]:
-    """A metaframe: position 0 is Sync, 1 Scrambler State, 2 to K + 1 Skip, then the payload words, and L - 1 Diagnostic."""
+    """A metaframe: position 0 is Sync, 1 Scrambler State, 2 to K + 1 Skip, then the payload words, and L - 1
+    Diagnostic."""
     framing = [Word(CONTROL, SYNC), Word(CONTROL, state_number(state))] + [Word(CONTROL, SKIP)] * link.skips
     words = [*framing, *payload, Word(CONTROL, diagnostic_number(0))]
     crc = metaframe_crc([word.number for word in words])
@@ -69,8 +72,8 @@ def first_state(lane: int) -> int:
 
 
 def key_bits(state: int, count: int) -> int:
-    """The next bits of the key: bit n is the exclusive or of those 39 and 58 steps back, and bit b of a state is the key bit b + 1 steps
-    back. Up to 39 at once, since none of these is among those that it is made of."""
+    """The next bits of the key: bit n is the exclusive or of those 39 and 58 steps back, and bit b of a state is the
+    key bit b + 1 steps back. Up to 39 at once, since none of these is among those that it is made of."""
     return (state >> 39 - count ^ state >> 58 - count) & (1 << count) - 1
 
 
@@ -101,20 +104,22 @@ def goes_inverted(payload: int, disparity: int) -> bool:
 
 
 def code(word: Word, inverted: bool) -> str:
-    """Bit 66 says that the payload is inverted, bits 65:64 are 01 for data and 10 for control, bits 63:0 are the payload or its complement."""
+    """Bit 66 says that the payload is inverted, bits 65:64 are 01 for data and 10 for control, bits 63:0 are the
+    payload or its complement."""
     return "%d%s%s" % (inverted, HEADERS[word.kind], format(word.number ^ ONES_64 if inverted else word.number, "064b"))
 
 
 def meant(bits: str) -> Word:
-    """A received code with header 00 or 11 means Bad; any other the word of its header, with its payload complemented where bit 66 is 1."""
+    """A received code with header 00 or 11 means Bad; any other the word of its header, with its payload complemented
+    where bit 66 is 1."""
     payload = int(bits[3:], 2) ^ (ONES_64 if bits[0] == "1" else 0)
     header = bits[1:3]
     return Word(DATA if header == HEADERS[DATA] else CONTROL if header == HEADERS[CONTROL] else BAD, payload)
 
 
 def scrambled(words: Sequence[Word], link: Link, lane: int) -> Iterator[Word]:
-    """The words of a lane by metaframes: the payload of all but Sync and Scrambler State words xored with the next 64 key bits. Headers are
-    not scrambled. The Scrambler State word carries the state at its moment."""
+    """The words of a lane by metaframes: the payload of all but Sync and Scrambler State words xored with the next 64
+    key bits. Headers are not scrambled. The Scrambler State word carries the state at its moment."""
     state = first_state(lane)
     for at in range(0, len(words), link.rows):
         for position, word in enumerate(framed(words[at:at + link.rows], link, state)):
@@ -125,7 +130,8 @@ def scrambled(words: Sequence[Word], link: Link, lane: int) -> Iterator[Word]:
 
 
 def lane_bits(stream: Sequence[Word], link: Link, lane: int) -> str:
-    """A lane is its codes one after another, bit 66 first. The disparity is the ones less the zeros in all codes of the lane before."""
+    """A lane is its codes one after another, bit 66 first. The disparity is the ones less the zeros in all codes of the
+    lane before."""
     codes, disparity = [], 0
     for word in scrambled(striped(stream, link.lanes, lane), link, lane):
         inverted = goes_inverted(word.number, disparity)
@@ -163,8 +169,8 @@ class Damage(NamedTuple):
 
 
 def received(sent: str, damage: Damage) -> str:
-    """A received lane has as many ones in front as its skew says, and then the sent bits: a sent bit is 0 where it is dark, else inverted where an
-    odd number of flips names it."""
+    """A received lane has as many ones in front as its skew says, and then the sent bits: a sent bit is 0 where it is
+    dark, else inverted where an odd number of flips names it."""
     lane = list(sent)
     for bit in damage.flips:
         if bit < len(lane):

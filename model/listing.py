@@ -20,18 +20,19 @@ def end_text(end: int) -> str:
 
 
 def word_line(word: Word) -> str:
-    """The line of a word: `data X` and `bad X`; of a word sent as control its fields, where it is a control word, and else `control X`."""
+    """The line of a word: `data X` and `bad X`; of a word sent as control its fields, where it is a control word, and
+    else `control X`."""
     number = word.number
     if word.kind != CONTROL or not fields.is_control_word(number):
         return "%s %s" % ({DATA: "data", CONTROL: "control", BAD: "bad"}[word.kind], hex_digits(number, 16))
     return "%s sop=%d eop=%s reset=%d flow=%s channel=%d multi=%d crc=%s" % (
         "burst" if fields.begins_burst(number) else "idle", fields.has_sop(number), end_text(fields.end_format(number)),
-        fields.has_reset(number), hex_digits(fields.flow_bits(number), 4), fields.channel_field(number), fields.multiple_use(number),
-        hex_digits(fields.crc_field(number), 6))
+        fields.has_reset(number), hex_digits(fields.flow_bits(number), 4), fields.channel_field(number),
+        fields.multiple_use(number), hex_digits(fields.crc_field(number), 6))
 
 
-FIELDS = re.compile(r"(burst|idle) sop=([01]) eop=(none|error|[1-8]) reset=([01]) flow=([0-9A-F]{4}) channel=(\d{1,3}) multi=(\d{1,3}) "
-                    r"crc=([0-9A-F]{6})", re.ASCII)
+FIELDS = re.compile("(burst|idle) sop=([01]) eop=(none|error|[1-8]) reset=([01]) flow=([0-9A-F]{4}) channel=([0-9]{1,3}) "
+                    "multi=([0-9]{1,3}) crc=([0-9A-F]{6})")
 PAYLOAD = re.compile("(data|control|bad) ([0-9A-F]{16})")
 KINDS = {"data": DATA, "control": CONTROL, "bad": BAD}
 
@@ -50,14 +51,15 @@ def word_of_line(line: str) -> Word | None:
 def control_of(name: str, sop: str, eop: str, reset: str, flow: str, channel: str, multi: str, crc: str) -> int:
     """The number of a control word by the texts of its fields."""
     end = {"none": NO_END, "error": ERROR_END}[eop] if eop.isalpha() else fields.end_of_bytes(int(eop))
-    return fields.control_number(name == "burst", sop == "1", end, reset == "1", int(flow, 16), int(channel) % 256, int(multi) % 256, int(crc, 16))
+    return fields.control_number(name == "burst", sop == "1", end, reset == "1", int(flow, 16), int(channel) % 256,
+                                 int(multi) % 256, int(crc, 16))
 
 
 # ---- lane files
 
 def code_line(bits: str) -> str:
-    """The line of 67 bits: with bit 66 and with the payload as it is meant, whatever the header; `sync I` of a Sync word, `state I S` of a Scrambler State
-    word, and else `code I HH X`."""
+    """The line of 67 bits: with bit 66 and with the payload as it is meant, whatever the header; `sync I` of a Sync
+    word, `state I S` of a Scrambler State word, and else `code I HH X`."""
     inverted, header = bits[0], bits[1:3]
     payload = int(bits[3:], 2) ^ (ONES_64 if inverted == "1" else 0)
     if header == "10" and payload == SYNC:
@@ -92,7 +94,8 @@ def code_bits(inverted: str, header: str, payload: int) -> str:
 
 
 def lane_lines(data: bytes) -> Iterator[str]:
-    """A line for each 67 bits of a lane file from its first bit on; where 1 to 66 bits are left, a last line has them as characters."""
+    """A line for each 67 bits of a lane file from its first bit on; where 1 to 66 bits are left, a last line has them
+    as characters."""
     bits = bits_of_file(data)
     for at in range(0, len(bits), CODE_BITS):
         part = bits[at:at + CODE_BITS]
@@ -124,7 +127,8 @@ def assembled(text: bytes) -> bytes:
 
 
 def file_of_lane(text: bytes) -> bytes:
-    """The lane file of the lines after the first. No line follows one of rest bits, and the bits of a lane fill bytes."""
+    """The lane file of the lines after the first. No line follows one of rest bits, and the bits of a lane fill
+    bytes."""
     parts = []
     for bits, number in read_lines(text, bits_of_line):
         if parts and len(parts[-1]) < CODE_BITS:
@@ -137,7 +141,8 @@ def file_of_lane(text: bytes) -> bytes:
 
 
 def read_lines(text: bytes, read: Callable) -> Iterator[tuple]:
-    """What each line after the first is the line of, with its number counted from 1; the least line that is none, or is not ended, is refused."""
+    """What each line after the first is the line of, with its number counted from 1; the least line that is none, or is
+    not ended, is refused."""
     lines = text.decode("latin-1").split("\n")
     for number, line in enumerate(lines[:-1], 2):
         found = read(line)

@@ -1,4 +1,5 @@
-"""The locks of one lane, and its received words. DEFINITIONS, "What lanes show": Lock, Received word of a lane, Report of a lane."""
+"""The locks of one lane, and its received words. DEFINITIONS, "What lanes show": Lock, Received word of a lane, Report
+of a lane."""
 
 from enum import Enum
 from typing import Iterator, NamedTuple
@@ -23,8 +24,9 @@ class Cause(Enum):
 
 
 class Lock(NamedTuple):
-    """A lock of a lane: the bit of its declaring Sync, if one declared it; the words that it covers, from there on and up to the last before the
-    losing word; the states of the key at its Scrambler State words; and why it was lost, if it was."""
+    """A lock of a lane: the bit of its declaring Sync, if one declared it; the words that it covers, from there on and
+    up to the last before the losing word; the states of the key at its Scrambler State words; and why it was lost, if
+    it was."""
     declared: int | None
     words: list[Word]
     states: list[int]
@@ -53,8 +55,8 @@ def word_lock(bits: str, begin: int) -> int | None:
 
 
 def searches(bits: str, link: Link) -> list[Lock]:
-    """What each search of a lane that found a word lock came to, in order. The first begins at bit 0. The next begins after the losing word, and where
-    framing was given up one bit after the six metaframes."""
+    """What each search of a lane that found a word lock came to, in order. The first begins at bit 0. The next begins
+    after the losing word, and where framing was given up one bit after the six metaframes."""
     found, begin = [], 0
     while (first := word_lock(bits, begin)) is not None:
         lock, after = follow(bits, first, link)
@@ -84,7 +86,8 @@ class Watch:
         self.cause: Cause | None = None
         self.syncs: set[int] = set()
         self.wrong_headers, self.wrong_states, self.wrong_syncs = 0, 0, 0
-        # The number of the declaring Sync, the received words from there on, the state of the key, and what it was at each state word.
+        # The number of the declaring Sync, the received words from there on, the state of the key, and what it was at each
+        # Scrambler State word.
         self.declared: int | None = None
         self.words: list[Word] = []
         self.state = 0
@@ -102,8 +105,8 @@ class Watch:
         self.cause = Cause.HEADERS if self.wrong_headers == WRONG_HEADERS else cause
 
     def take_unlocked(self, number: int, word: Word) -> Cause | None:
-        """The lock is declared at the fourth of four Syncs that stand a metaframe apart. Where none is within six metaframes, the search is
-        given up."""
+        """The lock is declared at the fourth of four Syncs that stand a metaframe apart. Where none is within six
+        metaframes, the search is given up."""
         if word == (CONTROL, SYNC):
             self.syncs.add(number)
         if all(number - turn * self.length in self.syncs for turn in range(SYNCS)):
@@ -127,8 +130,9 @@ class Watch:
         return None
 
     def take_state(self, is_first: bool, word: Word) -> Cause | None:
-        """The key is that of the state word after the declaring Sync, and runs by itself. A lock is lost where that is no Scrambler State word, or
-        at the third wrong one in a row; one is wrong where it does not carry the state of the key."""
+        """The key is that of the state word after the declaring Sync, and runs by itself. A lock is lost where that is
+        no Scrambler State word, or at the third wrong one in a row; one is wrong where it does not carry the state of
+        the key."""
         if is_first:
             self.state = word.number & lanes.ONES_58
         self.states.append(self.state)
@@ -142,8 +146,9 @@ def carries_state(word: Word, state: int) -> bool:
 
 
 class Report(NamedTuple):
-    """Declared locks, the first declaring Sync, losses of declared locks, losses and given-up searches before one; and among the covered
-    words the Bad ones, wrong Syncs, wrong Scrambler State words, and Diagnostic words that are not right."""
+    """Declared locks, the first declaring Sync, losses of declared locks, losses and given-up searches before one; and
+    among the covered words the Bad ones, wrong Syncs, wrong Scrambler State words, and Diagnostic words that are not
+    right."""
     locks: int
     first: int | None
     lost: int
@@ -165,7 +170,8 @@ def report(found: list[Lock], link: Link) -> Report:
         unframed=sum(lock.declared is None and lock.cause is not None for lock in found),
         bad=sum(word.kind == BAD for word in covered),
         sync=sum(word != (CONTROL, SYNC) for lock in declared for word in lock.words[::link.metaframe]),
-        state=sum(not carries_state(*pair) for lock in declared for pair in zip(lock.words[1::link.metaframe], lock.states)),
+        state=sum(not carries_state(word, state) for lock in declared
+                  for word, state in zip(lock.words[1::link.metaframe], lock.states)),
         diag=sum(not lanes.is_right_diagnostic(part) for lock in declared for part in metaframes(lock, link)),
     )
 

@@ -34,8 +34,8 @@ def frame(states: Sequence[bool]) -> bytes:
 
 
 def written(entries: Sequence[int], rows: Sequence[LocalRow]) -> bytes:
-    """Frames that follow one another; each shows the states by the local rows whose slot is at most the number of its first sample, and the last is the
-    first that begins at or after the slot of every row."""
+    """Frames that follow one another; each shows the states by the local rows whose slot is at most the number of its
+    first sample, and the last is the first that begins at or after the slot of every row."""
     calendar, left, samples = Outgoing(entries), list(rows), b""
     while True:
         while left and left[0].slot <= len(samples):
@@ -54,7 +54,8 @@ def samples_of(data: bytes) -> bytes:
 
 
 def taken(samples: bytes) -> Iterator[tuple[int, int]]:
-    """A bit is taken where the clock was 0 and is 1: the numbers of these samples, and the samples. Before the first sample the clock was 0."""
+    """A bit is taken where the clock was 0 and is 1: the numbers of these samples, and the samples. Before the first
+    sample the clock was 0."""
     clock = 0
     for slot, sample in enumerate(samples):
         if sample & CLOCK and not clock:
@@ -70,8 +71,8 @@ def words_of_block(block: Sequence[int], is_first: bool) -> list[int]:
 
 
 def rows_of_samples(samples: bytes, entries: int) -> list[FlowRow]:
-    """The rows that samples give. A sync bit begins a frame. A whole block gives its states at the number of the sample that took its last bit; one
-    whose checksum is wrong gives the one word 0, and the rest of its frame nothing."""
+    """The rows that samples give. A sync bit begins a frame. A whole block gives its states at the number of the sample
+    that took its last bit; one whose checksum is wrong gives the one word 0, and the rest of its frame nothing."""
     rows: list[FlowRow] = []
     # The entries of the frame that are still to come, none outside of a frame, and the bits of its block so far.
     left, bits = 0, []

@@ -12,7 +12,8 @@ SNAPLEN = 262_144
 
 
 def capture(data: bytes, longest: int) -> list[bytes]:
-    """The packets of a capture: a header of 24 bytes in either byte order, and records of 16 bytes and the captured bytes."""
+    """The packets of a capture: a header of 24 bytes in either byte order, and records of 16 bytes and the captured
+    bytes."""
     order = byte_order(data)
     packets: list[bytes] = []
     at = HEADER
@@ -23,8 +24,8 @@ def capture(data: bytes, longest: int) -> list[bytes]:
 
 
 def byte_order(data: bytes) -> str:
-    """The byte order of a header. Its refusals, in order: short at 0 below 4 bytes, pcapng, another magic, short at 0 below 24 bytes, another
-    version."""
+    """The byte order of a header. Its refusals, in order: short at 0 below 4 bytes, pcapng, another magic, short at 0
+    below 24 bytes, another version."""
     if len(data) < 4:
         raise Refusal("short at 0")
     magic = int.from_bytes(data[:4], "little")
@@ -42,8 +43,8 @@ def byte_order(data: bytes) -> str:
 
 
 def record(data: bytes, at: int, number: int, order: str, longest: int) -> bytes:
-    """The packet of a record at an offset. The refusals, in order: short with 1 to 15 bytes left, empty, longer than the largest packet, short with
-    fewer captured bytes left."""
+    """The packet of a record at an offset. The refusals, in order: short with 1 to 15 bytes left, empty, longer than
+    the largest packet, short with fewer captured bytes left."""
     if len(data) - at < RECORD:
         raise Refusal("short at %d" % at)
     length = int.from_bytes(data[at + 8:at + 12], order)
@@ -57,7 +58,8 @@ def record(data: bytes, at: int, number: int, order: str, longest: int) -> bytes
 
 
 def written(packets: Sequence[bytes], link_type: int) -> bytes:
-    """Little-endian, microseconds, version 2.4, zone and sigfigs 0, snaplen 262,144, the link type; both stamps 0 and both lengths the packet's."""
+    """Little-endian, microseconds, version 2.4, zone and sigfigs 0, snaplen 262,144, the link type; both stamps 0 and
+    both lengths the packet's."""
     def little(*parts: tuple[int, int]) -> bytes:
         return b"".join(value.to_bytes(count, "little") for value, count in parts)
     head = little((MICROSECONDS, 4), (VERSION[0], 2), (VERSION[1], 2), (0, 4), (0, 4), (SNAPLEN, 4), (link_type, 4))

@@ -61,7 +61,8 @@ SETTINGS_NEEDS = ("plan", "delay", "mark", "slots", "out")
 
 
 def row_of(fields: Sequence[str], keys: dict[str, list[list[Kind]]], before: Sequence[Row]) -> Row:
-    """A row of a key, or the first of its faults: the key, the number of fields, a number, a range or a count, a repeat."""
+    """A row of a key, or the first of its faults: the key, the number of fields, a number, a range or a count, a
+    repeat."""
     key, values = fields[0], fields[1:]
     if key not in keys:
         raise Fault("key")
@@ -85,7 +86,8 @@ def repeats(row: Row, same: Sequence[Row]) -> bool:
 
 
 def keyed_rows(data: bytes, keys: dict[str, list[list[Kind]]], needs: Sequence[str]) -> list[Row]:
-    """The rows of a file of keys; the least row with a fault is refused, else the first key that is absent is missing."""
+    """The rows of a file of keys; the least row with a fault is refused, else the first key that is absent is
+    missing."""
     rows: list[Row] = []
     all_rows(data, lambda fields: rows.append(row_of(fields, keys, rows)))
     for key in needs:
@@ -189,7 +191,8 @@ def plan_of_oobread(data: bytes) -> Plan:
 
 
 class DuplexSettings(NamedTuple):
-    """The settings of a duplex run; `back` has the rows of the captures of end b, each with its number, channel and file."""
+    """The settings of a duplex run; `back` has the rows of the captures of end b, each with its number, channel and
+    file."""
     plan: str
     delay: int
     mark: int

@@ -1,6 +1,8 @@
-"""Random cases for the comparison of program and model: files and words of the command line, right ones and malformed ones, drawn from a seed.
+"""Random cases for the comparison of program and model: files and words of the command line, right ones and malformed ones, drawn
+from a seed.
 
-Each kind draws on purpose what is rare: each cause of a refusal, each reason of a drop, each way to lose a lock, accidents, streams that are held.
+Each kind draws on purpose what is rare: each cause of a refusal, each reason of a drop, each way to lose a lock, accidents, streams
+that are held.
 """
 
 from random import Random
@@ -71,7 +73,8 @@ def channels_case(r: Random) -> Case:
     numbers = r.sample(range(65_536), r.randint(1_000, 1_024)) if wide else r.sample(range(256), 256)
     files = {"%d.pcap" % n: drawn.capture(r, [drawn.packet(r, r.choice([1, 9, 65])) for _ in range(n)]) for n in range(3)}
     names = ["", "", "", ",0.pcap", ",1.pcap", ",2.pcap"]
-    rows = ["lanes,%d" % r.randint(1, 4), "metaframe,%d" % r.randint(32, 64), "warmup,4", "out,o", "schedule,s.csv"] + ["wide,1"] * wide
+    rows = ["lanes,%d" % r.randint(1, 4), "metaframe,%d" % r.randint(32, 64), "warmup,4", "out,o", "schedule,s.csv"]
+    rows += ["wide,1"] * wide
     rows += ["channel,%d%s" % (n, r.choice(names)) for n in numbers]
     rows += ["entry,%d" % r.choice(numbers) for _ in range(r.choice([0, 0, 1_024, 1_025]))]
     files["p.plan"] = "".join(row + "\n" for row in rows).encode()
@@ -83,21 +86,23 @@ def generate_case(r: Random) -> Case:
     """`generate`, with prefixes that need quotes, over files that are replaced."""
     prefix = r.choice(["g", "g", "a,b", 'a"b', "\u00e9 \u2603", "g.plan", "p" * 180])
     number = r.choice([r.randrange(1_000), r.getrandbits(64), 2 ** 64 - 1])
-    return Case(["generate", r.choice(["", "0"]) + str(number) if number < 2 ** 60 else str(number), prefix], {prefix[:100] + ".plan": b"old"})
+    zeros = r.choice(["", "0"]) if number < 10 ** 18 else ""
+    return Case(["generate", zeros + str(number), prefix], {prefix[:100] + ".plan": b"old"})
 
 
 # ---- words of the command line
 
 def words_case(r: Random) -> Case:
-    """Words that are accepted or not, names at their limits, outputs in a folder that is not there, a file in the way of one."""
+    """Words that are accepted or not, names at their limits, outputs in a folder that is not there, a file in the way
+    of one."""
     d = Drawn(r)
-    out = r.choice(["o", "no/o", "o" * 200, "p", "\u00fc,", "-o"])
-    d.rows = [row for row in d.rows if row[0] != "out"] + [["out", out if out.isalnum() or "/" in out or out == "-o" else '"%s"' % out]]
+    d.rows = [row for row in d.rows if row[0] != "out"] + [["out", r.choice(["o", "no/o", "o" * 200, "p", '"\u00fc,"', "-o"])]]
     files = d.all_files()
     if r.randrange(2):
         # One word that is right, with an output that cannot be created or a name that is odd.
         command = r.choice(["burst", "send", "link", "oobwrite", "join", "receive", "list"])
-        return Case([command, r.choice(["p.plan", "p.plan", "p.plan", "n" * 255, "\u00e9" * 127, "no/p.plan", ".plan", "o"])], files, d.wide)
+        name = r.choice(["p.plan", "p.plan", "p.plan", "n" * 255, "\u00e9" * 127, "no/p.plan", ".plan", "o"])
+        return Case([command, name], files, d.wide)
     name = r.choice(["p.plan", "p.plan", "q.plan", "-", "-p.plan", "", "n" * 256, "\u00e9" * 128, "c0.pcap"])
     command = r.choice(["burst", "join", "receive", "resend", "list", "assemble", "Burst", "", "help", "link "])
     words = r.choice([[command, name], [command, name], [command, name], [command, name, name], [command], [name, command], []])
@@ -116,8 +121,8 @@ def are_good(words: Sequence[str]) -> bool:
 # ---- received words
 
 def mutated_words(r: Random, words: Sequence[Word]) -> list[Word]:
-    """A stream with a few words that break rules, or pass them: fields of control words are changed and sealed anew, words change their kind, are lost,
-    repeated, moved or damaged."""
+    """A stream with a few words that break rules, or pass them: fields of control words are changed and sealed anew,
+    words change their kind, are lost, repeated, moved or damaged."""
     found = list(words)
     # Most of a stream's bursts stand in its second half.
     for _ in range(r.choice([0, 1, 2, 4, 9])):
@@ -128,7 +133,7 @@ def mutated_words(r: Random, words: Sequence[Word]) -> list[Word]:
 
 def change_fields(r: Random, words: list[Word], at: int) -> None:
     """The next control word gets other fields, and its right CRC24."""
-    at = next((place for place in range(at, len(words)) if words[place].kind == CONTROL), None)
+    at = next_control(words, at, lambda number: True)
     if at is None:
         return
     low, high = r.choice([(57, 61), (57, 58), (60, 61), (61, 62), (62, 63), (32, 40), (24, 32), (62, 64), (57, 64)])
@@ -137,6 +142,11 @@ def change_fields(r: Random, words: list[Word], at: int) -> None:
         number ^= r.randrange(2) << bit
     words[at] = Word(CONTROL, number if r.randrange(5) else number | 1 << 57 & ~(0b111 << 58))
     seal(words, at)
+
+
+def next_control(words: Sequence[Word], begin: int, fits: Callable) -> int | None:
+    """The next Control word whose number fits."""
+    return next((at for at in range(begin, len(words)) if words[at].kind == CONTROL and fits(words[at].number)), None)
 
 
 def seal(words: list[Word], at: int) -> None:
@@ -149,7 +159,7 @@ def seal(words: list[Word], at: int) -> None:
 
 def change_end(r: Random, words: list[Word], at: int) -> None:
     """A packet ends with an error, at another byte, not at all, or by an end format that is none."""
-    at = next((place for place in range(at, len(words)) if words[place].kind == CONTROL and fields.end_format(words[place].number)), None)
+    at = next_control(words, at, fields.end_format)
     if at is not None:
         words[at] = Word(CONTROL, words[at].number & ~(0b1111 << 57) | r.choice([0, 1, 1, 1, 2, 7, 8, 9, 12]) << 57)
         seal(words, at)
@@ -178,24 +188,28 @@ def repeat(r: Random, words: list[Word], at: int) -> None:
 def put_control(r: Random, words: list[Word], at: int) -> None:
     """A sealed control word of any fields stands between others."""
     end = r.choice([0, 0, 1, 8, 9, r.randrange(16)])
-    number = fields.control_number(r.randrange(2), r.randrange(2), end, r.randrange(2), 0xFFFF, r.choice([0, 1, 2, 9]), r.choice([0, 0, 1]))
+    channel, multi = r.choice([0, 1, 2, 9]), r.choice([0, 0, 1])
+    number = fields.control_number(r.randrange(2), r.randrange(2), end, r.randrange(2), 0xFFFF, channel, multi)
     words.insert(at, Word(CONTROL, number))
     seal(words, at)
 
 
 def lose_sop(r: Random, words: list[Word], at: int) -> None:
     """A burst word that begins a packet does so no longer."""
-    at = next((place for place in range(at, len(words)) if words[place].kind == CONTROL and fields.has_sop(words[place].number)), None)
+    at = next_control(words, at, fields.has_sop)
     if at is not None:
         words[at] = Word(CONTROL, words[at].number & ~(1 << 61))
         seal(words, at)
 
 
-MUTATIONS = (change_fields, change_fields, change_end, change_end, change_end, lose_sop, invert_bit, change_kind, lose, repeat, put_control)
+MUTATIONS = (
+    change_fields, change_fields, change_end, change_end, change_end, lose_sop, invert_bit, change_kind, lose, repeat, put_control,
+)
 
 
 def far_end(r: Random, d: Drawn) -> list[list]:
-    """The rows of a receiver's plan: those of the sender, with other channels, a shorter longest packet or the other form of numbers."""
+    """The rows of a receiver's plan: those of the sender, with other channels, a shorter longest packet or the other
+    form of numbers."""
     rows = [row for row in d.rows if row[0] not in ("flow", "local", "max_packet", "entry")]
     listed = [row for row in rows if row[0] == "channel"]
     if len(listed) > 1 and r.randrange(3) == 0:
@@ -226,7 +240,8 @@ def join_case(r: Random) -> Case:
 # ---- received lanes
 
 def receive_case(r: Random) -> Case:
-    """`receive` of the lanes of a stream whose words are mutated and whose bits are damaged, cut, moved, swapped or noise."""
+    """`receive` of the lanes of a stream whose words are mutated and whose bits are damaged, cut, moved, swapped or
+    noise."""
     d = Drawn(r)
     words = mutated_words(r, payload_stream(d.source()).words)
     # A sender has no Bad words; damaged headers make them.
@@ -257,7 +272,8 @@ def struck(r: Random, d: Drawn, bits: Sequence[str]) -> list[str]:
         own = [row for row in rows if row[1] == lane]
         skew = next((row[2] for row in own if row[0] == "skew"), 0)
         flips = tuple(row[2] for row in own if row[0] == "flip")
-        found.append(lanes.received(part, lanes.Damage(skew, flips, tuple(lanes.Dark(*row[2:]) for row in own if row[0] == "dark"))))
+        darks = tuple(lanes.Dark(*row[2:]) for row in own if row[0] == "dark")
+        found.append(lanes.received(part, lanes.Damage(skew, flips, darks)))
     return found
 
 
@@ -296,7 +312,8 @@ def twice(r: Random, bits: list[str], lane: int, link: Link) -> None:
 
 
 def end_together(r: Random, bits: list[str], lane: int, link: Link) -> None:
-    """One lane is over where another loses its lock, at the end of a metaframe: the fourth of wrong Syncs is the next."""
+    """One lane is over where another loses its lock, at the end of a metaframe: the fourth of wrong Syncs is the
+    next."""
     turn, other = r.randrange(7, 10), r.randrange(len(bits))
     bits[lane] = bits[lane][:link.period * turn]
     syncs = tuple(link.period * (turn - back) + 9 for back in range(4))
@@ -307,7 +324,8 @@ SPOILS = (cut_front, cut_end, swap, noise, slip, twice, end_together, end_togeth
 
 
 def regular_case(r: Random) -> Case:
-    """`receive` of lanes that repeat themselves: all alike, alternating, one code or one metaframe again and again, framing of another length."""
+    """`receive` of lanes that repeat themselves: all alike, alternating, one code or one metaframe again and again,
+    framing of another length."""
     d = Drawn(r)
     bits = [regular_bits(r, d.plan.link, lane) for lane in range(d.plan.link.lanes)]
     if r.randrange(2):
@@ -319,18 +337,18 @@ def regular_case(r: Random) -> Case:
 
 def regular_bits(r: Random, link: Link, lane: int) -> str:
     """The bits of one lane, some ten metaframes of them."""
-    count = r.choice([4, 7, 10, 14]) * link.period
+    length, count = link.metaframe, r.choice([4, 6, 7, 10, 12, 14]) * link.period
     idle = Word(CONTROL, fields.sealed([], fields.control_number(False, False, 0, True, 0xFFFF, 0, 0)))
-    other = link._replace(metaframe=r.choice([link.metaframe, link.metaframe + 1, 2 * link.metaframe, link.metaframe - 1 if link.metaframe > 32 else 64]))
-    code = lanes.code(idle, False)
-    sent = lanes.lane_bits([idle] * (other.group * r.choice([6, 13])), other, lane)
-    metaframe = [lanes.code(Word(CONTROL, number), r.random() < 0.5) for number in repeated_metaframe(r, link)]
-    wrong = "0" * CODE_BITS * 16
-    pattern = r.choice([
+    code, wrong = lanes.code(idle, False), "0" * CODE_BITS * 16
+    if r.randrange(6) == 0:
         # The sixteenth wrong header of a block is in the last word of the six metaframes, or just not.
-        (code * (6 * link.metaframe - 16 - r.choice([0, 0, 1])) + wrong + code * 200)[:CODE_BITS * 500],
-        "0", "1", "01", "0110", lanes.code(Word(CONTROL, lanes.SYNC), False), lanes.code(Word(DATA, r.getrandbits(64)), True),
-        sent[:link.period], sent, sent, sent[:link.period * 5] + "0" * r.choice([1, 67, 2_000]), "".join(metaframe), "".join(metaframe), "".join(metaframe),
+        return code * (6 * length - 16 - r.choice([0, 0, 1])) + wrong + code * 6 * length
+    other = link._replace(metaframe=r.choice([length, length + 1, 2 * length, max(length - 1, 32)]))
+    sent = lanes.lane_bits([idle] * (other.group * r.choice([6, 13])), other, lane)
+    metaframe = "".join(lanes.code(Word(CONTROL, number), r.random() < 0.5) for number in repeated_metaframe(r, link))
+    pattern = r.choice([
+        "0", "1", "01", "0110", code, lanes.code(Word(CONTROL, lanes.SYNC), False), lanes.code(Word(DATA, r.getrandbits(64)), True),
+        sent[:link.period], sent, sent, sent[:link.period * 5] + "0" * r.choice([1, 67, 2_000]), metaframe, metaframe, metaframe,
     ])
     return (pattern * (count // len(pattern) + 1))[:count]
 
@@ -344,13 +362,14 @@ def repeated_metaframe(r: Random, link: Link) -> list[int]:
 # ---- what no receiver can see
 
 def mimic_case(r: Random) -> Case:
-    """`link` with a schedule that makes other words of those that were sent: words that pass, framing where none is, lanes a metaframe apart."""
+    """`link` with a schedule that makes other words of those that were sent: words that pass, framing where none is,
+    lanes a metaframe apart."""
     d = Drawn(r)
     stream = payload_stream(d.source()).words
     link = d.plan.link
     rows: list[list] = []
     for _ in range(r.choice([1, 1, 2])):
-        rows += r.choice([forged_words, forged_words, forged_words, forged_lock, forged_lock, forged_diagnostic, apart])(r, stream, link)
+        rows += r.choice(FORGERIES)(r, stream, link)
     if r.randrange(3) == 0:
         rows += drawn.one_bit(r, r.randrange(link.lanes), link, lane_length(d))
     skews = {row[1]: row for row in rows if row[0] == "skew"}
@@ -364,7 +383,8 @@ def flips_between(lane: int, at: int, sent: str, wanted: str) -> list[list]:
 
 
 def forged_words(r: Random, stream: Sequence[Word], link: Link) -> list[list]:
-    """Words in place of others, as mutated words of the same number: the payload of a lane's bits changes where that of the word does."""
+    """Words in place of others, as mutated words of the same number: the payload of a lane's bits changes where that of
+    the word does."""
     rows = []
     wanted = list(stream)
     for _ in range(r.choice([1, 1, 3])):
@@ -386,7 +406,8 @@ def forged_data(r: Random, words: list[Word], at: int) -> None:
 
 
 def forged_lock(r: Random, stream: Sequence[Word], link: Link) -> list[list]:
-    """Syncs a metaframe apart at another position than the sender's, with state words after them or not, where the sender's own are damaged or not."""
+    """Syncs a metaframe apart at another position than the sender's, with state words after them or not, where the
+    sender's own are damaged or not."""
     lane = r.randrange(link.lanes)
     bits = lanes.lane_bits(stream, link, lane)
     position, count = r.randrange(3, link.metaframe - 1), r.choice([4, 4, 5, 6])
@@ -394,8 +415,9 @@ def forged_lock(r: Random, stream: Sequence[Word], link: Link) -> list[list]:
     rows, state = [], r.getrandbits(58)
     for turn in range(first, min(first + count, len(bits) // link.period)):
         at = link.period * turn + CODE_BITS * position
-        wanted = lanes.code(Word(CONTROL, lanes.SYNC), r.random() < 0.5) + lanes.code(Word(CONTROL, lanes.state_number(state)), False)
-        rows += flips_between(lane, at, bits[at:at + 2 * CODE_BITS], wanted[:r.choice([2, 2, 2, 1]) * CODE_BITS])
+        sync = lanes.code(Word(CONTROL, lanes.SYNC), r.random() < 0.5)
+        second = r.choice([lanes.code(Word(CONTROL, lanes.state_number(state)), False)] * 3 + [""])
+        rows += flips_between(lane, at, bits[at:at + 2 * CODE_BITS], sync + second)
         if turn >= first + 3:
             for _ in range(link.metaframe - 2):
                 _, state = lanes.next_key(state)
@@ -422,12 +444,16 @@ def apart(r: Random, stream: Sequence[Word], link: Link) -> list[list]:
     return [["skew", lane, r.choice([0, 1, 1, 2]) * link.period + r.randrange(60)] for lane in range(link.lanes)]
 
 
+FORGERIES = (forged_words, forged_words, forged_words, forged_lock, forged_lock, forged_diagnostic, apart)
+
+
 # ---- listings
 
 def list_case(r: Random) -> Case:
     """`list` of a words file or a lane, right or spoiled; a name that ends in `.words` makes it a words file."""
-    name, data = r.choice([("x.words", random_listings.words_data), ("x.lane.0", random_listings.lane_data), ("x.words.0", random_listings.lane_data)])
-    return Case(["list", name], {name: data(r)} if r.randrange(20) else {})
+    name = r.choice(["x.words", "x.words", "x.lane.0", "x.words.0"])
+    data = random_listings.words_data(r) if name == "x.words" else random_listings.lane_data(r)
+    return Case(["list", name], {name: data} if r.randrange(20) else {})
 
 
 def assemble_case(r: Random) -> Case:
@@ -521,20 +547,25 @@ def resend_case(r: Random) -> Case:
         d.add_rows("events", "e.csv", rows)
     found = d.spoil() if r.randrange(5) == 0 else d.all_files()
     if "e.csv" in found and r.randrange(8) == 0:
-        found["e.csv"] = drawn.spelled(r, rows + [["send", 4_194_304 - r.choice([0, 1, sum(row[1] for row in rows)])]]) if r.randrange(3) == 0 else drawn.spoiled(r, rows)
+        # All events together are as many as may be, or a few more.
+        most = ["send", 4_194_304 - r.choice([0, 1, sum(row[1] for row in rows)])]
+        found["e.csv"] = drawn.spelled(r, rows + [most]) if r.randrange(3) == 0 else drawn.spoiled(r, rows)
     return Case(["resend", "p.plan"], found, d.wide)
 
 
 # ---- kinds
 
 KINDS: dict[str, Callable[[Random], Case]] = {
-    "capture": capture_case, "burst": plan_case("burst"), "join": join_case, "send": plan_case("send"), "receive": receive_case, "regular": regular_case,
-    "link": link_case, "mimic": mimic_case, "channels": channels_case, "words": words_case, "generate": generate_case, "list": list_case,
-    "assemble": assemble_case, "duplex": duplex_case, "oobwrite": oobwrite_case, "oobread": oobread_case, "resend": resend_case,
+    "capture": capture_case, "burst": plan_case("burst"), "join": join_case, "send": plan_case("send"), "receive": receive_case,
+    "regular": regular_case, "link": link_case, "mimic": mimic_case, "channels": channels_case, "words": words_case,
+    "generate": generate_case, "list": list_case, "assemble": assemble_case, "duplex": duplex_case, "oobwrite": oobwrite_case,
+    "oobread": oobread_case, "resend": resend_case,
 }
 # Kinds that have large cases, and kinds that have wide plans.
 LARGE = ("generate", "channels")
-WIDE = ("burst", "join", "send", "receive", "regular", "link", "mimic", "channels", "words", "duplex", "oobwrite", "oobread", "resend")
+WIDE = (
+    "burst", "join", "send", "receive", "regular", "link", "mimic", "channels", "words", "duplex", "oobwrite", "oobread", "resend",
+)
 
 
 def make(kind: str, seed: int) -> Case:

@@ -20,7 +20,8 @@ FRAMING = (0x78F678F678F678F6, 0x1E1E1E1E1E1E1E1E, 0x28F0000000000000)
 def packet(r: Random, length: int | None = None) -> bytes:
     """Random bytes, or the words of framing, or bytes that are all alike."""
     length = length or r.choice(LENGTHS)
-    return r.choice([r.randbytes(length), r.choice(FRAMING).to_bytes(8, "big") * length, bytes([r.choice([0, 255])]) * length])[:length]
+    pattern = r.choice([r.randbytes(length), r.choice(FRAMING).to_bytes(8, "big"), b"\0", b"\xff"])
+    return (pattern * length)[:length]
 
 
 def packets(r: Random, most: int = 4) -> list[bytes]:
@@ -31,7 +32,8 @@ def packets(r: Random, most: int = 4) -> list[bytes]:
 def capture(r: Random, of: Sequence[bytes], version: tuple[int, int] = pcap.VERSION) -> bytes:
     """A capture of packets in one of its forms, with stamps and original lengths that are not read."""
     order = r.choice("<>")
-    head = struct.pack(order + "IHHIIII", r.choice([pcap.MICROSECONDS, pcap.NANOSECONDS]), *version, 1, 2, r.choice([0, 65535]), 1)
+    magic = r.choice([pcap.MICROSECONDS, pcap.NANOSECONDS])
+    head = struct.pack(order + "IHHIIII", magic, *version, 1, 2, r.choice([0, 65535]), 1)
     return head + b"".join(struct.pack(order + "IIII", 7, 8, len(p), r.choice([0, len(p) + 3])) + p for p in of)
 
 
@@ -49,7 +51,8 @@ def spoiled_capture(r: Random, of: Sequence[bytes]) -> bytes:
 # ---- rows
 
 def spelled(r: Random, rows: Sequence[Sequence[object]]) -> bytes:
-    """Rows of comma-separated values, plain ones or with quotes, blank lines, other line ends, leading zeros and a byte-order mark."""
+    """Rows of comma-separated values, plain ones or with quotes, blank lines, other line ends, leading zeros and a
+    byte-order mark."""
     if r.randrange(3):
         return "".join(",".join(map(str, row)) + "\n" for row in rows).encode()
 
@@ -62,12 +65,15 @@ def spelled(r: Random, rows: Sequence[Sequence[object]]) -> bytes:
     return (text.rstrip("\r\n") if r.randrange(3) == 0 else text).encode()
 
 
-BAD_FIELDS = ("", " 1", "+1", "-1", "1.0", "0x10", "9" * 15, "0" * 16, "1" * 16, "65536", "1025", "256", "16777216", "\u0661", "x" * 256, "y" * 201,
-              "on", "off ", "0", "33", "63", "4097", "81FFFF000018817", "81FFFF00001881770")
+BAD_FIELDS = (
+    "", " 1", "+1", "-1", "1.0", "0x10", "9" * 15, "0" * 16, "1" * 16, "65536", "1025", "256", "16777216", "\u0661", "x" * 256,
+    "y" * 201, "on", "off ", "0", "33", "63", "4097", "81FFFF000018817", "81FFFF00001881770",
+)
 
 
 def spoiled(r: Random, rows: Sequence[Sequence[object]]) -> bytes:
-    """Rows of which one or two are spoiled: another field or key, another number of fields, a second time, at another place, no text, odd quotes."""
+    """Rows of which one or two are spoiled: another field or key, another number of fields, a second time, at another
+    place, no text, odd quotes."""
     rows = [list(row) for row in rows] or [["x"]]
     for _ in range(r.choice([1, 1, 2])):
         at = r.randrange(len(rows))
@@ -120,7 +126,7 @@ class Drawn:
         metaframe = r.choice([32, 32, 32, 33, 40, 50])
         burst_max = r.choice([64, 64, 128, 256, 256, 512, 4096])
         rows = [["lanes", r.choice([1, 1, 2, 2, 3, 4, 5])], ["metaframe", metaframe]]
-        rows += [["warmup", r.choice([4, 4, 4, 5, 6])]] if r.randrange(12) else []
+        rows += [["warmup", r.choice([4, 4, 4, 5, 6])]] if r.randrange(6) else []
         optional = [
             ["skips", r.randint(1, 4)], ["deskew", r.randint(1, (metaframe - 1) // 2)], ["link_type", r.choice([0, 1, 101, 65535])],
             ["burst_max", burst_max],
@@ -187,15 +193,17 @@ class Drawn:
         elif name == "p.plan":
             found[name] = spoiled_plan(self.r, self.rows)
         else:
-            found[name] = spoiled(self.r, [line.split(",") for line in found[name].decode("utf-8-sig").replace('"', "").split()])
+            text = found[name].decode("utf-8-sig").replace('"', "")
+            found[name] = spoiled(self.r, [line.split(",") for line in text.split()])
         return found
 
 
 def spoiled_plan(r: Random, rows: Sequence[Sequence[object]]) -> bytes:
     """A plan that contradicts itself, or with spoiled rows."""
     clash = r.choice([
-        [["deskew", 25]], [["burst_max", 64], ["burst_short", 72]], [["burst_max", 128], ["burst_min", 96]], [["entry", 9]], [["channel", 300]],
-        [["channel", 65_536]], [["wide", 2]], [["oob", ""]], [["events", "e" * 256]], [["window", 256]],
+        [["deskew", 25]], [["deskew", 16]], [["burst_max", 64], ["burst_short", 72]], [["burst_max", 128], ["burst_min", 96]],
+        [["entry", 9]], [["channel", 300]], [["channel", 65_536]], [["wide", 2]], [["oob", ""]], [["events", "e" * 256]],
+        [["window", 256]], [["out", "\u00e9" * 101]],
     ])
     keys = {row[0] for row in clash} - {"channel", "entry"}
     if r.randrange(2):
@@ -215,19 +223,22 @@ def flow_rows(r: Random, entries: Sequence[int]) -> list[FlowRow]:
         for at in range(0, len(entries), 16):
             slot += r.choice([0, 0, 1, 30, 90])
             flow = packed(states[at:at + 16])
-            word = fields.control_number(r.randrange(2), r.randrange(2), r.choice([0, 1, 8, 15]), at == 0, flow, r.randrange(256), r.randrange(256))
-            rows.append(FlowRow(slot, spoiled_flow(r, fields.sealed([], word)) if r.randrange(6) == 0 else fields.sealed([], word)))
-    return rows if r.randrange(3) else rows + all_on(entries, slot)
+            word = flow_word(r, at == 0, flow)
+            rows.append(FlowRow(slot, spoiled_flow(r, word) if r.randrange(6) == 0 else word))
+    # At the end all channels are on, or they stay as they are.
+    return rows + [FlowRow(slot, flow_word(r, at == 0, 0xFFFF)) for at in range(0, r.choice([0, 0, len(entries)]), 16)]
 
 
-def all_on(entries: Sequence[int], slot: int) -> list[FlowRow]:
-    """A whole calendar that turns all channels on."""
-    return [FlowRow(slot, fields.sealed([], fields.control_number(False, False, 0, at == 0, 0xFFFF, 0, 0))) for at in range(0, len(entries), 16)]
+def flow_word(r: Random, reset: bool, flow: int) -> int:
+    """A valid word with these flow bits, and any other fields."""
+    end, channel, multi = r.choice([0, 1, 8, 15]), r.randrange(256), r.randrange(256)
+    return fields.sealed([], fields.control_number(r.randrange(2), r.randrange(2), end, reset, flow, channel, multi))
 
 
 def spoiled_flow(r: Random, number: int) -> int:
     """A word that is not valid, or carries something else."""
-    return r.choice([0, number ^ 1 << r.randrange(64), number & ~(1 << 63), fields.sealed([], number | 0b0110 << 57), (1 << 64) - 1])
+    refused = fields.sealed([], r.choice([number & ~(1 << 63), number & ~(0b1000 << 57) | 0b0110 << 57]))
+    return r.choice([0, number ^ 1 << r.randrange(64), refused, refused, (1 << 64) - 1])
 
 
 def flow_text(r: Random, number: int) -> str:
@@ -245,17 +256,19 @@ def schedule_rows(r: Random, plan: Plan, bits: int) -> list[list]:
     """Skews within the depth and beyond, inverted bits, dark stretches, and damage that takes locks."""
     link = plan.link
     rows = [["skew", lane, skew] for lane, skew in enumerate(skews(r, link)) if skew or r.randrange(2)]
-    for _ in range(r.choice([0, 1, 1, 2, 4])):
+    for _ in range(r.choice([0, 1, 2, 3, 4])):
         rows += r.choice(DAMAGES)(r, r.randrange(link.lanes), link, bits)
     r.shuffle(rows)
     return rows
 
 
 def skews(r: Random, link: Link) -> list[int]:
-    """Of each lane its skew: all alike, within the depth, just beyond it, or each within the depth of lane 0 and not of one another."""
+    """Of each lane its skew: all alike, within the depth, just beyond it, or each within the depth of lane 0 and not of
+    one another."""
     base, depth = r.choice([0, 0, 5, 300]), CODE_BITS * link.deskew
     if r.randrange(5) == 0:
-        return [base + depth] + [base + r.choice([0, 2 * depth, 2 * depth - 1, r.randint(0, 2 * depth)]) for _ in range(1, link.lanes)]
+        others = [r.choice([0, 2 * depth, 2 * depth - 1, r.randint(0, 2 * depth)]) for _ in range(1, link.lanes)]
+        return [base + skew for skew in (depth, *others)]
     spread = r.choice([0, depth, depth, depth + 1, 2 * depth, link.period])
     return [base + r.choice([0, spread, r.randint(0, spread)]) for _ in range(link.lanes)]
 
@@ -273,7 +286,8 @@ def some_bits(r: Random, lane: int, link: Link, bits: int) -> list[list]:
 
 def dark(r: Random, lane: int, link: Link, bits: int) -> list[list]:
     """A dark stretch, short or long enough to take a lock, and sometimes an inverted bit in it."""
-    first, count = r.choice([r.randrange(bits), locked_bit(r, link, bits)]), r.choice([1, 3, 67, 67 * 8, 67 * 15, 67 * 17, 67 * 40, 999_999_999_999])
+    first = r.choice([r.randrange(bits), locked_bit(r, link, bits)])
+    count = r.choice([1, 3, 67, 67 * 8, 67 * 15, 67 * 17, 67 * 40, 999_999_999_999])
     return [["dark", lane, first, count]] + r.choice([[], [["flip", lane, first + r.randrange(min(count, 1_000))]]])
 
 
@@ -289,12 +303,16 @@ def headers(r: Random, lane: int, link: Link, bits: int) -> list[list]:
 
 
 def framing(r: Random, lane: int, link: Link, bits: int) -> list[list]:
-    """Sync, Scrambler State or Diagnostic words of some metaframes, one after another or with right ones between: a bit of each, or both of its
-    header, which make it a data word."""
-    turns = r.choice([[0], [0, 1], [0, 1, 2], [0, 1, 2, 3], [0, 1, 3], [0, 1, 3, 4], [0, 1, 2, 4], [0, 1, 2, 4, 5, 6]])
-    first, position = r.choice([0, 3, 3, 4, 4, r.randrange(max(1, bits // link.period))]), r.choice([0, 0, 1, 1, link.metaframe - 1, 2])
-    places = r.choice([[1, 2], [1], [3], [9], [30], [65]])
-    return [["flip", lane, link.period * (first + turn) + CODE_BITS * position + place] for turn in turns for place in places]
+    """Sync, Scrambler State or other words of framing of some metaframes, one after another or with right ones between: a bit of
+    each, or both of its header, which make it a data word."""
+    position, turns = r.choice([
+        (0, [[0, 1, 2, 3], [0, 1, 2, 3], [0, 1, 2, 4], [0, 1, 2]]),
+        (1, [[0], [0, 1, 2], [0, 1], [0, 1, 3], [0, 1, 3, 4, 5]]),
+        (r.choice([2, link.metaframe - 1]), [[0], [0, 2]]),
+    ])
+    first, places = r.choice([3, 4, 4, 4, r.randrange(max(1, bits // link.period))]), r.choice([[1, 2], [1], [3], [9], [30], [65]])
+    words = [link.period * (first + turn) + CODE_BITS * position for turn in r.choice(turns)]
+    return [["flip", lane, word + place] for word in words for place in places]
 
 
 DAMAGES = (one_bit, one_bit, some_bits, dark, dark, headers, headers, framing, framing, framing, framing)

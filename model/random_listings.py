@@ -48,7 +48,8 @@ def code(r: Random) -> str:
 
 
 def lane_data(r: Random) -> bytes:
-    """A lane file with any number of bits after its last code; one in three has a damaged bit, or is without its first ones."""
+    """A lane file with any number of bits after its last code; one in three has a damaged bit, or is without its first
+    ones."""
     bits = "".join(code(r) for _ in range(r.choice([0, 1, 8, 40])))
     if r.randrange(3) == 0 and bits:
         at = r.randrange(len(bits))
@@ -74,7 +75,8 @@ def one_byte(r: Random, text: bytearray) -> None:
 def put_in(r: Random, text: bytearray) -> None:
     """Some bytes more."""
     at = r.randrange(len(text) + 1)
-    text[at:at] = r.choice([b"0", b"00", b" ", b"\n", b"\r", b"1", b"rest 1\n", b"sync 0\n", b"data 0000000000000000\n", b"\n\n", b"words\n", b"\xc3\xa9"])
+    text[at:at] = r.choice([b"0", b"00", b" ", b"\n", b"\r", b"1", b"rest 1\n", b"sync 0\n", b"data 0000000000000000\n", b"\n\n",
+                            b"words\n", b"\xc3\xa9"])
 
 
 def take_out(r: Random, text: bytearray) -> None:
@@ -99,11 +101,12 @@ def move_line(r: Random, text: bytearray) -> None:
 
 
 SPELLINGS = (
-    (b"sync 0", b"code 0 10 78F678F678F678F6"), (b"sync 1", b"code 1 10 78F678F678F678F6"), (b"state 0 0", b"state 0 4"), (b"state 0 ", b"state 0 0"),
-    (b"code 0 10", b"code 0 01"), (b"code 1 ", b"code 2 "), (b"eop=8", b"eop=0"), (b"eop=4", b"eop=9"), (b"eop=none", b"eop=error"),
-    (b"channel=", b"channel=0"), (b"channel=", b"channel=25"), (b"multi=", b"multi=25"), (b"sop=1", b"sop=2"), (b"data ", b"control "),
-    (b"control ", b"data "), (b"bad ", b"control "), (b"words", b"lane"), (b"lane", b"words"), (b"idle", b"burst"), (b"burst", b"data"),
-    (b"flow=", b"flow=0"), (b"\n", b"\r\n"), (b"rest ", b"rest 0000000"), (b"rest ", b"rest " + b"1" * 67 + b"\nrest "), (b" ", b"  "),
+    (b"sync 0", b"code 0 10 78F678F678F678F6"), (b"sync 1", b"code 1 10 78F678F678F678F6"), (b"state 0 0", b"state 0 4"),
+    (b"state 0 ", b"state 0 0"), (b"code 0 10", b"code 0 01"), (b"code 1 ", b"code 2 "), (b"eop=8", b"eop=0"), (b"eop=4", b"eop=9"),
+    (b"eop=none", b"eop=error"), (b"channel=", b"channel=0"), (b"channel=", b"channel=25"), (b"multi=", b"multi=25"),
+    (b"sop=1", b"sop=2"), (b"data ", b"control "), (b"control ", b"data "), (b"bad ", b"control "), (b"words", b"lane"),
+    (b"lane", b"words"), (b"idle", b"burst"), (b"burst", b"data"), (b"flow=", b"flow=0"), (b"\n", b"\r\n"), (b" ", b"  "),
+    (b"rest ", b"rest 0000000"), (b"rest ", b"rest " + b"1" * 67 + b"\nrest "),
 )
 
 

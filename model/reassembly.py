@@ -12,14 +12,16 @@ DROPS = ("bad", "crc", "protocol", "lost", "end", "toolong", "unlisted", "sender
 
 
 class Settings(NamedTuple):
-    """The channels that the receiver lists, by number, the longest packet, and whether it reads channel numbers as wide ones."""
+    """The channels that the receiver lists, by number, the longest packet, and whether it reads channel numbers as wide
+    ones."""
     channels: Sequence[int]
     max_packet: int
     wide: bool
 
 
 class Burst(NamedTuple):
-    """A verified burst word with the data words between it and the next word of its run; the end format of that word, 0000 where the run ends."""
+    """A verified burst word with the data words between it and the next word of its run; the end format of that word,
+    0000 where the run ends."""
     sop: bool
     first: Place
     data: list[int]
@@ -43,24 +45,24 @@ class Outcome(NamedTuple):
 
 
 def bursts_of(epoch: Epoch, run: Run, wide: bool) -> dict[int, list[Burst]]:
-    """The bursts of each channel in a run. The channel of a burst is its channel number, which the receiver reads as a wide or as a narrow one."""
+    """The bursts of each channel in a run. The channel of a burst is its channel number, which the receiver reads as a
+    wide or as a narrow one."""
     found: dict[int, list[Burst]] = {}
     for at, after in zip(run.controls, [*run.controls[1:], None]):
         number = epoch.words[at].number
         if not fields.begins_burst(number):
             continue
-        if after is None:
-            burst = Burst(fields.has_sop(number), epoch.places[at], [], NO_END, None)
-        else:
+        burst = Burst(fields.has_sop(number), epoch.places[at], [], NO_END, None)
+        if after is not None:
             data = [word.number for word in epoch.words[at + 1:after]]
-            burst = Burst(fields.has_sop(number), epoch.places[at], data, fields.end_format(epoch.words[after].number), epoch.places[after])
+            burst = burst._replace(data=data, end=fields.end_format(epoch.words[after].number), last=epoch.places[after])
         found.setdefault(fields.channel_number(number, wide), []).append(burst)
     return found
 
 
 def pieces(bursts: Sequence[Burst]) -> list[list[Burst]]:
-    """The bursts of one channel in a run are cut into pieces: a new piece begins at each SOP, and after each burst whose next control word has an end
-    format."""
+    """The bursts of one channel in a run are cut into pieces: a new piece begins at each SOP, and after each burst
+    whose next control word has an end format."""
     found: list[list[Burst]] = []
     for burst in bursts:
         if not found or burst.sop or found[-1][-1].end != NO_END:
@@ -76,8 +78,8 @@ def bytes_of(piece: Sequence[Burst]) -> bytes:
 
 
 def drop_of(piece: Sequence[Burst], is_first: bool, is_last: bool, settings: Settings, ends_for: str) -> str | None:
-    """Why a piece of a listed channel gives no packet, or nothing where it gives one or is not told of. It is the first of its channel in the run, or
-    the last."""
+    """Why a piece of a listed channel gives no packet, or nothing where it gives one or is not told of. It is the first
+    of its channel in the run, or the last."""
     end = piece[-1].end
     if not piece[0].sop:
         return None if is_first else "protocol"

@@ -9,7 +9,8 @@ ROOM = 1_024
 
 
 def cut(words: Sequence[Word]) -> list[list[Word]]:
-    """Piece k of a stream is its words after control word k - 1, up to and with control word k. Data words after the last control word are in no piece."""
+    """Piece k of a stream is its words after control word k - 1, up to and with control word k. Data words after the
+    last control word are in no piece."""
     pieces, begin = [], 0
     for slot, word in enumerate(words):
         if word.kind == CONTROL:
@@ -27,9 +28,9 @@ class Counts(NamedTuple):
 
 
 class Resending:
-    """The state after events, with the true numbers of pieces: the first piece that is not acknowledged, the next to send, how many times one was
-    sent, how many the receiver accepted, the numbers of the pieces on their way and of the acknowledgements on their way back. Each way holds
-    1,024 at most."""
+    """The state after events, with the true numbers of pieces: the first piece that is not acknowledged, the next to
+    send, how many times one was sent, how many the receiver accepted, the numbers of the pieces on their way and of the
+    acknowledgements on their way back. Each way holds 1,024 at most."""
 
     def __init__(self, pieces: int, window: int):
         self.pieces, self.window = pieces, window
@@ -49,8 +50,8 @@ class Resending:
         self.next = self.acknowledged
 
     def take(self) -> None:
-        """The receiver takes the piece that arrives, if it is the one that it waits for, and acknowledges with the number of the one that it waits for
-        then; an acknowledgement for which the way back has no room is not sent."""
+        """The receiver takes the piece that arrives, if it is the one that it waits for, and acknowledges with the
+        number of the one that it waits for then; an acknowledgement for which the way back has no room is not sent."""
         if not self.way:
             return
         if self.way.popleft() == self.accepted:
@@ -59,7 +60,8 @@ class Resending:
             self.back.append(self.accepted)
 
     def takeback(self) -> None:
-        """The sender takes an acknowledgement: all pieces before its number are acknowledged, and none of them is sent next."""
+        """The sender takes an acknowledgement: all pieces before its number are acknowledged, and none of them is sent
+        next."""
         if self.back:
             self.acknowledged = self.back.popleft()
             self.next = max(self.next, self.acknowledged)

@@ -73,7 +73,8 @@ def refusal(read, *arguments):
 
 class Words(unittest.TestCase):
     def test_control_fields(self):
-        self.assertTrue(fields.is_control_word(BURST) and fields.begins_burst(BURST) and fields.has_sop(BURST) and fields.has_reset(BURST))
+        self.assertTrue(fields.is_control_word(BURST) and fields.begins_burst(BURST))
+        self.assertTrue(fields.has_sop(BURST) and fields.has_reset(BURST))
         self.assertEqual((fields.end_format(BURST), fields.flow_bits(BURST), fields.crc_field(BURST)), (0, 0xFFFF, 0x4EAC73))
         self.assertEqual(fields.control_number(True, True, 0, True, 0xFFFF, 1, 0, 0x4EAC73), BURST)
         self.assertFalse(fields.is_control_word(BURST | 0b0010 << 57) or fields.is_control_word(BURST & ~(1 << 63)))
@@ -131,7 +132,8 @@ class SentStreams(unittest.TestCase):
     def test_outgoing_calendar(self):
         calendar = flow.Outgoing(list(range(20)))
         calendar.take(LocalRow(0, 17, False))
-        self.assertEqual([calendar.flow_of(number) for number in range(3)], [(True, 0xFFFF), (False, 0b1011_1111_1111_1111), (True, 0xFFFF)])
+        self.assertEqual([calendar.flow_of(number) for number in range(3)],
+                         [(True, 0xFFFF), (False, 0b1011_1111_1111_1111), (True, 0xFFFF)])
 
     def test_payload_stream(self):
         words = words_of((1, bytes(300)), shape=SHAPE._replace(group=56))
@@ -192,7 +194,8 @@ class Lanes(unittest.TestCase):
 
     def test_inversion(self):
         many, few = lanes.ONES_64, 0
-        self.assertEqual([lanes.goes_inverted(payload, disparity) for payload in (many, few) for disparity in (0, -1)], [True, False, False, True])
+        self.assertEqual([lanes.goes_inverted(payload, disparity) for payload in (many, few) for disparity in (0, -1)],
+                         [True, False, False, True])
 
     def test_bits_and_files(self):
         self.assertEqual(lanes.file_of_bits("1000000001"), b"\x80\x40")
@@ -284,7 +287,7 @@ class ShownByLanes(unittest.TestCase):
         self.assertEqual((lock.cause, len(lock.words)), (locks.Cause.SYNC, 128))
 
     def test_a_search_is_given_up(self):
-        # Seven metaframes of codes without a Sync: the next search begins a bit after six of them, where there is no room for another.
+        # Seven metaframes of codes without a Sync: the next search begins a bit after six of them, and finds no 64 words more.
         idle = lanes.code(Word(CONTROL, IDLE), False)
         lock, = locks.searches(idle * 32 * 7, LINK)
         self.assertEqual((lock.declared, lock.cause), (None, locks.Cause.UNFRAMED))
@@ -334,7 +337,8 @@ class TwoEnds(unittest.TestCase):
         self.assertEqual(([len(packet.data) for packet in b.packets], b.peaks, a.packets), ([64], {1: 6}, []))
 
     def test_what_is_heard(self):
-        side = duplex.Side(plan.plan_of(b"lanes,1\nmetaframe,32\nchannel,1\nout,o\n"), [], plan.DuplexSettings("p", 1, 1, 9, 1, "o", []))
+        settings = plan.DuplexSettings("p", 1, 1, 9, 1, "o", [])
+        side = duplex.Side(plan.plan_of(b"lanes,1\nmetaframe,32\nchannel,1\nout,o\n"), [], settings)
         self.assertEqual(side.hear(1, Word(CONTROL, IDLE)), [])
         self.assertEqual(side.hear(2, Word(CONTROL, IDLE ^ 1)), [FlowRow(2, IDLE)])
 
@@ -342,7 +346,8 @@ class TwoEnds(unittest.TestCase):
 class Status(unittest.TestCase):
     def test_samples_that_are_written(self):
         rows = [LocalRow(0, 2, False), LocalRow(5, 2, True), LocalRow(5, 3, False)]
-        self.assertEqual(oob.written([1, 2, 3, 4], rows).hex(), "06070001020302030001000102030203" "06070203000102030203000100010203")
+        self.assertEqual(oob.written([1, 2, 3, 4], rows).hex(),
+                         "06070001020302030001000102030203" "06070203000102030203000100010203")
 
     def test_rows_of_samples(self):
         samples = oob.written([1, 2, 3, 4], [LocalRow(0, 2, False), LocalRow(5, 2, True), LocalRow(5, 3, False)])
@@ -365,8 +370,10 @@ class SentAgain(unittest.TestCase):
         return tuple(resend.resent([Word(CONTROL, IDLE)] * 9, window, events)[1])
 
     def test_events(self):
-        self.assertEqual(self.counts(("send", 4), ("take", 4), ("rewind", 1), ("takeback", 3), ("send", 1), ("take", 1)), (9, 4, 3, 5))
-        self.assertEqual(self.counts(("send", 3), ("lose", 1), ("take", 2), ("takeback", 2), ("rewind", 1), ("send", 1), ("take", 1)), (9, 1, 0, 4))
+        late = self.counts(("send", 4), ("take", 4), ("rewind", 1), ("takeback", 3), ("send", 1), ("take", 1))
+        self.assertEqual(late, (9, 4, 3, 5))
+        lost = self.counts(("send", 3), ("lose", 1), ("take", 2), ("takeback", 2), ("rewind", 1), ("send", 1), ("take", 1))
+        self.assertEqual(lost, (9, 1, 0, 4))
         self.assertEqual(self.counts(("send", 9), ("repeat", 1), ("take", 3), window=2), (9, 2, 0, 2))
         self.assertEqual(self.counts(("send", 2), ("take", 2), ("loseback", 1), ("repeatback", 1), ("takeback", 1)), (9, 2, 2, 2))
 
@@ -398,8 +405,9 @@ class Files(unittest.TestCase):
         self.assertEqual(listing.listing("x", listing.assembled(listing.text_of(lines))), lines)
 
     def test_refusals_of_a_text(self):
-        for text, why in ((b"word\n", "head"), (b"words", "head"), (b"words\ndata 0\n", "line 2"), (b"words\ndata 0000000000000000", "line 2"),
-                          (b"lane\nsync 0\n", "length"), (b"lane\nrest 0\nrest 0\n", "line 3"), (b"lane\ncode 0 10 78F678F678F678F6\n", "line 2")):
+        for text, why in ((b"word\n", "head"), (b"words", "head"), (b"words\ndata 0\n", "line 2"),
+                          (b"words\ndata 0000000000000000", "line 2"), (b"lane\nsync 0\n", "length"),
+                          (b"lane\nrest 0\nrest 0\n", "line 3"), (b"lane\ncode 0 10 78F678F678F678F6\n", "line 2")):
             self.assertEqual(refusal(listing.assembled, text), why)
 
     def test_rows(self):
@@ -409,10 +417,10 @@ class Files(unittest.TestCase):
         good = b"lanes,1\nmetaframe,32\nchannel,1\nout,o\n"
         of = plan.plan_of(good)
         self.assertEqual((of.shape, of.entries), (Shape(28, 8, 256, 64, 0), [1]))
-        for rows, why in ((b"\xff", "row 5: text"), (b"lane,1", "row 5: key"), (b"skips", "row 5: fields"), (b"skips,x", "row 5: number"),
-                          (b"skips,5", "row 5: range"), (b"lanes,1", "row 5: repeat"), (b"entry,2", "row 5: clash"), (b"deskew,16", "row 5: clash"),
-                          (b"burst_short,264", "row 5: clash"), (b"burst_min,160", "row 5: clash"), (b"channel,256", "row 5: clash")):
-            self.assertEqual(refusal(plan.plan_of, good + rows), why)
+        for row, why in ((b"\xff", "text"), (b"lane,1", "key"), (b"skips", "fields"), (b"skips,x", "number"), (b"skips,5", "range"),
+                         (b"lanes,1", "repeat"), (b"entry,2", "clash"), (b"deskew,16", "clash"), (b"burst_short,264", "clash"),
+                         (b"burst_min,160", "clash"), (b"channel,256", "clash")):
+            self.assertEqual(refusal(plan.plan_of, good + row), "row 5: " + why)
         self.assertEqual(refusal(plan.plan_of, b"lanes,1\n"), "missing metaframe")
         self.assertEqual(refusal(plan.plan_of_oobread, good), "missing oob")
         self.assertEqual(refusal(plan.plan_of_resend, good + b"wide,1\nevents,e\n"), "row 5: clash")
@@ -423,7 +431,8 @@ class Files(unittest.TestCase):
         self.assertEqual(refusal(inputs.flow_rows, b"2,81FFFF0000188177\n1,81FFFF0000188177\n"), "row 2: clash")
         self.assertEqual(inputs.local_rows(b"3,1,off\n", of), [(3, 1, False)])
         self.assertEqual(refusal(inputs.local_rows, b"3,2,off\n", of), "row 1: clash")
-        self.assertEqual(inputs.schedule(b"skew,1,5\nflip,0,7\ndark,1,2,3\n", 2), [lanes.Damage(0, (7,)), lanes.Damage(5, (), (lanes.Dark(2, 3),))])
+        self.assertEqual(inputs.schedule(b"skew,1,5\nflip,0,7\ndark,1,2,3\n", 2),
+                         [lanes.Damage(0, (7,)), lanes.Damage(5, (), (lanes.Dark(2, 3),))])
         self.assertEqual(refusal(inputs.schedule, b"flip,2,0\n", 2), "row 1: range")
         self.assertEqual(inputs.events(b"send,2\n"), [("send", 2)])
         self.assertEqual(refusal(inputs.events, b"send,4194304\ntake,1\n"), "row 2: range")
@@ -438,8 +447,10 @@ class Files(unittest.TestCase):
 
     def test_texts(self):
         spans_of = [spans.Span(None, epochs.Place(0, 1), "start"), spans.Span(epochs.Place(0, 1), None, "end")]
-        self.assertEqual(texts.span_table(spans_of), b"after_group,after_index,before_group,before_index,why\n-,-,0,1,start\n0,1,-,-,end\n")
-        self.assertEqual(texts.dropped_line(Counter(crc=1)), "dropped bad=0 crc=1 protocol=0 lost=0 end=0 toolong=0 unlisted=0 sender=0")
+        table = b"after_group,after_index,before_group,before_index,why\n-,-,0,1,start\n0,1,-,-,end\n"
+        self.assertEqual(texts.span_table(spans_of), table)
+        line = "dropped bad=0 crc=1 protocol=0 lost=0 end=0 toolong=0 unlisted=0 sender=0"
+        self.assertEqual(texts.dropped_line(Counter(crc=1)), line)
 
 
 class Runs(unittest.TestCase):
@@ -457,7 +468,8 @@ class Runs(unittest.TestCase):
                 file.write(data)
 
     def test_accepted_words(self):
-        for words in ([], ["burst"], ["burst", "-x"], ["frob", "x"], ["burst", "x" * 256], ["generate", "1" * 21, "g"], ["generate", str(2 ** 64), "g"]):
+        for words in ([], ["burst"], ["burst", "-x"], ["frob", "x"], ["burst", "x" * 256], ["generate", "1" * 21, "g"],
+                      ["generate", str(2 ** 64), "g"]):
             self.assertEqual(interlaken.run(words), (2, texts.USAGE + "\n"))
         self.assertEqual(interlaken.run(["burst", "absent"]), (5, "input refused: absent: no file\n"))
         self.assertEqual(interlaken.run(["send", "absent"]), (4, "plan refused: no file\n"))

@@ -8,8 +8,9 @@ from fields import BAD, CONTROL, NO_END, Word
 
 
 class Stretch(NamedTuple):
-    """The words of one epoch after a control word a, up to and including the next control word b: the indexes of both in the epoch's words,
-    and the fault, if there is one. A control word here is any Control word, also one that no reader accepts."""
+    """The words of one epoch after a control word a, up to and including the next control word b: the indexes of both
+    in the epoch's words, and the fault, if there is one. A control word here is any Control word, also one that no
+    reader accepts."""
     epoch: int
     begin: int
     end: int
@@ -17,18 +18,21 @@ class Stretch(NamedTuple):
 
 
 class Span(NamedTuple):
-    """The places of the last verified word before it and of the first after it, where there are such, and why it is there."""
+    """The places of the last verified word before it and of the first after it, where there are such, and why it is
+    there."""
     after: Place | None
     before: Place | None
     why: str
 
     def meets(self, first: Place, last: Place) -> bool:
-        """It meets what goes from `first` to `last` where its first end is absent or before `last`, and its last end absent or after `first`."""
+        """It meets what goes from `first` to `last` where its first end is absent or before `last`, and its last end
+        absent or after `first`."""
         return (self.after is None or self.after < last) and (self.before is None or self.before > first)
 
 
 def fault_of(words: Sequence[Word], begin: int, end: int) -> str | None:
-    """The first of: a Bad word in it; b's bits 23:0 are not the CRC24 of its data words and b; the protocol is broken."""
+    """The first of: a Bad word in it; b's bits 23:0 are not the CRC24 of its data words and b; the protocol is
+    broken."""
     between, last = words[begin + 1:end], words[end].number
     if any(word.kind == BAD for word in between):
         return "bad"
@@ -38,7 +42,8 @@ def fault_of(words: Sequence[Word], begin: int, end: int) -> str | None:
 
 
 def breaks_protocol(begin: int, has_data: bool, end: int) -> bool:
-    """b is no control word by its number, or data are in it and a is not an accepted burst word, or b has an end format and no data are in it."""
+    """b is no control word by its number, or data are in it and a is not an accepted burst word, or b has an end format
+    and no data are in it."""
     if not fields.is_control_word(end):
         return True
     if has_data:
@@ -56,16 +61,16 @@ def stretches(epochs: Sequence[Epoch]) -> list[Stretch]:
 
 
 class Run(NamedTuple):
-    """A clean run: a longest list of verified control words with no span between, by their indexes in the words of an epoch; and the fault or
-    break that ends it."""
+    """A clean run: a longest list of verified control words with no span between, by their indexes in the words of an
+    epoch; and the fault or break that ends it."""
     epoch: int
     controls: list[int]
     ends_for: str
 
 
 def clean_runs(epochs: Sequence[Epoch], parts: Sequence[Stretch]) -> list[Run]:
-    """A control word is verified where it ends a passing stretch. Between two that follow one another there is a span exactly where the stretch of
-    the second does not begin right after the first."""
+    """A control word is verified where it ends a passing stretch. Between two that follow one another there is a span
+    exactly where the stretch of the second does not begin right after the first."""
     runs: list[Run] = []
     for number, epoch in enumerate(epochs):
         # The run that goes on, if one does.
@@ -81,8 +86,9 @@ def clean_runs(epochs: Sequence[Epoch], parts: Sequence[Stretch]) -> list[Run]:
 
 
 def fault_spans(epochs: Sequence[Epoch], runs: Sequence[Run]) -> list[Span]:
-    """One span stands before the first verified word and one after the last, and one between each two runs; where no word is verified there is one
-    with no ends. A span with a first end is for the first fault after that end; one without is for the start."""
+    """One span stands before the first verified word and one after the last, and one between each two runs; where no
+    word is verified there is one with no ends. A span with a first end is for the first fault after that end; one
+    without is for the start."""
     ends = [(place_of(epochs, run, 0), place_of(epochs, run, -1), run.ends_for) for run in runs]
     afters = [(None, "start")] + [(last, why) for _, last, why in ends]
     befores = [first for first, _, _ in ends] + [None]

@@ -27,8 +27,8 @@ class Chunk(NamedTuple):
 
 
 def piece_size(remaining: int, shape: Shape) -> int:
-    """The bytes of the next chunk: all where at most BurstMax remain, BurstMax - BurstMin where they are below BurstMax + BurstMin,
-    and BurstMax else."""
+    """The bytes of the next chunk: all where at most BurstMax remain, BurstMax - BurstMin where they are below BurstMax
+    + BurstMin, and BurstMax else."""
     if remaining <= shape.burst_max:
         return remaining
     return shape.burst_max - (shape.burst_min if remaining < shape.burst_max + shape.burst_min else 0)
@@ -51,7 +51,8 @@ def data_words(data: bytes) -> list[int]:
 
 
 class OpenStream:
-    """All that the payload stream asks of its words, without a finish. Words are asked for slot by slot, each with its rows."""
+    """All that the payload stream asks of its words, without a finish. Words are asked for slot by slot, each with its
+    rows."""
 
     def __init__(self, source: Source):
         self.shape = source.shape
@@ -124,7 +125,8 @@ class OpenStream:
         return number
 
     def control(self, burst: bool, sop: bool, channel: int, next_end: int) -> int:
-        """Every control word carries its calendar entries, its CRC24, and the end of the chunk before it, where that was a last one."""
+        """Every control word carries its calendar entries, its CRC24, and the end of the chunk before it, where that
+        was a last one."""
         reset, flow = self.outgoing.flow_of(self.control_words)
         number = fields.control_number(burst, sop, self.end, reset, flow, channel % 256, channel // 256)
         number = fields.sealed(self.covered, number)
@@ -141,8 +143,8 @@ class Stream(NamedTuple):
 
 
 def payload_stream(source: Source) -> Stream:
-    """The list has G (floor(z/G) + 2) words, z being the finish slot: the first control slot from W G on at which no channel is ready,
-    and either no listed channel has bytes left or no flow row has a slot above it."""
+    """The list has G (floor(z/G) + 2) words, z being the finish slot: the first control slot from W G on at which no
+    channel is ready, and either no listed channel has bytes left or no flow row has a slot above it."""
     stream, group = OpenStream(source), source.shape.group
     flow, local = deque(source.flow), deque(source.local)
     finish, left = None, []
@@ -165,7 +167,8 @@ def rows_at(rows: deque, slot: int) -> list:
 
 
 class ListedPacket(NamedTuple):
-    """A packet whose SOP word is in a stream: its channel, its number there, and the slots of its SOP word and of its end word."""
+    """A packet whose SOP word is in a stream: its channel, its number there, and the slots of its SOP word and of its
+    end word."""
     channel: int
     number: int
     first: int

@@ -63,7 +63,8 @@ def missing_line(missing: Missing) -> str:
 
 def end_line(end: str, channel: int, packets: Sequence[Packet], peak: int) -> str:
     """What an end of a duplex run got on a channel, and the most words of its queue."""
-    return "end %s channel=%d packets=%d bytes=%d peak=%d" % (end, channel, len(packets), sum(len(packet.data) for packet in packets), peak)
+    size = sum(len(packet.data) for packet in packets)
+    return "end %s channel=%d packets=%d bytes=%d peak=%d" % (end, channel, len(packets), size, peak)
 
 
 def resend_line(counts: Counts) -> str:

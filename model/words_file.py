@@ -14,8 +14,8 @@ def file_of_words(words: Sequence[Word]) -> bytes:
 
 
 def words_of_file(data: bytes) -> list[Word]:
-    """Refused for the least offset at which something is wrong: a byte that should be 1, 2 or 3 and is not, or the last word that is not whole; at one
-    offset the tag goes first."""
+    """Refused for the least offset at which something is wrong: a byte that should be 1, 2 or 3 and is not, or the last
+    word that is not whole; at one offset the tag goes first."""
     words = []
     for at in range(0, len(data), SIZE):
         if data[at] not in (DATA, CONTROL, BAD):
