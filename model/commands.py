@@ -101,13 +101,13 @@ def stream_lines(source: Source, stream: Stream, listed: Sequence[ListedPacket])
 
 def held_lines(stream: Stream) -> list[str]:
     """Where the stream is held, the line with the least listed channel that has bytes left."""
-    return [texts.held_line(min(stream.left))] if stream.left else []
+    return [texts.held_line(min(stream.left))] if stream.is_held else []
 
 
 def stream_answer(source: Source, stream: Stream, made: Sequence[tuple[str, bytes]]) -> Answer:
     """The answer of `burst` and `send`."""
     lines = stream_lines(source, stream, listed_packets(stream.words))
-    return Answer(HELD if stream.left else DONE, made, lines + held_lines(stream))
+    return Answer(HELD if stream.is_held else DONE, made, lines + held_lines(stream))
 
 
 def burst(name: str) -> Answer:
@@ -234,7 +234,7 @@ def link(name: str) -> Answer:
         *held_lines(stream),
     ]
     made += outcome_files(plan.out, outcome, plan.settings, plan.link_type)
-    return Answer(HELD if stream.left else DONE, made, lines)
+    return Answer(HELD if stream.is_held else DONE, made, lines)
 
 
 def generate(number: str, prefix: str) -> Answer:

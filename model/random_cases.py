@@ -70,7 +70,7 @@ def lane_length(d: Drawn) -> int:
 def channels_case(r: Random) -> Case:
     """`burst` or `link` of a thousand wide channels, or of as many narrow ones as there are."""
     wide = r.randrange(2) == 1
-    numbers = r.sample(range(65_536), r.randint(1_000, 1_024)) if wide else r.sample(range(256), 256)
+    numbers = r.sample(range(65_536), r.choice([1_000, 1_024, 1_024, 1_025])) if wide else r.sample(range(256), 256)
     files = {"%d.pcap" % n: drawn.capture(r, [drawn.packet(r, r.choice([1, 9, 65])) for _ in range(n)]) for n in range(3)}
     names = ["", "", "", ",0.pcap", ",1.pcap", ",2.pcap"]
     rows = ["lanes,%d" % r.randint(1, 4), "metaframe,%d" % r.randint(32, 64), "warmup,4", "out,o", "schedule,s.csv"]
@@ -202,8 +202,17 @@ def lose_sop(r: Random, words: list[Word], at: int) -> None:
         seal(words, at)
 
 
+def end_early(r: Random, words: list[Word], at: int) -> None:
+    """A packet ends where it goes on."""
+    at = next_control(words, at, lambda number: fields.begins_burst(number) and not fields.has_sop(number))
+    if at is not None:
+        words[at] = Word(CONTROL, words[at].number | 0b1000 << 57)
+        seal(words, at)
+
+
 MUTATIONS = (
-    change_fields, change_fields, change_end, change_end, change_end, lose_sop, invert_bit, change_kind, lose, repeat, put_control,
+    change_fields, change_fields, change_end, change_end, change_end, lose_sop, end_early, invert_bit, change_kind, lose, repeat,
+    put_control,
 )
 
 
@@ -389,7 +398,7 @@ def forged_words(r: Random, stream: Sequence[Word], link: Link) -> list[list]:
     wanted = list(stream)
     for _ in range(r.choice([1, 1, 3])):
         at = r.randrange(len(stream) // 2, len(stream))
-        r.choice([change_fields, change_end, forged_data])(r, wanted, at)
+        r.choice([change_fields, change_end, end_early, forged_data])(r, wanted, at)
     for slot, (old, new) in enumerate(zip(stream, wanted)):
         lane, number = slot % link.lanes, slot // link.lanes
         at = CODE_BITS * (number // link.rows * link.metaframe + 2 + link.skips + number % link.rows)
@@ -465,13 +474,13 @@ def assemble_case(r: Random) -> Case:
 
 def duplex_case(r: Random) -> Case:
     """`duplex`, with settings, plan and captures of both ends, one of them sometimes spoiled."""
-    d = Drawn(r)
+    d = Drawn(r, lanes=(1, 1, 1, 2))
     d.rows += r.choice([[], [["flow", "none"], ["schedule", "none"]]])
-    rows = [["plan", "p.plan"], ["delay", r.choice([1, 2, 10, 60, 400, 4_096])], ["mark", r.choice([1, 2, 8, 16, 40, 65_536])],
-            ["slots", r.choice([1, 100, 600, 900, 1_500])], ["out", "d"]]
-    rows += [["drain", r.choice([1, 2, 3, 4, 9, 1_024])]] if r.randrange(4) else []
+    rows = [["plan", "p.plan"], ["delay", r.choice([1, 1, 2, 10, 60, 400, 4_096])], ["mark", r.choice([1, 1, 2, 3, 8, 16, 65_536])],
+            ["slots", r.choice([1, 100, 600, 800, 800, 1_200])], ["out", "d"]]
+    rows += [["drain", r.choice([1, 2, 2, 3, 4, 9, 1_024])]] if r.randrange(8) else []
     back = r.sample(d.plan.channels, r.randint(0, len(d.plan.channels)))
-    files = {"b%d.pcap" % channel: drawn.capture(r, drawn.packets(r)) for channel in back}
+    files = {"b%d.pcap" % channel: drawn.capture(r, drawn.packets(r, 8)) for channel in back}
     rows += [["back", channel, "b%d.pcap" % channel] for channel in back]
     if r.randrange(16) == 0:
         rows.append(["back", r.choice([4, 65_535]), "b.pcap"])
@@ -510,6 +519,9 @@ def oobread_case(r: Random) -> Case:
     for _ in range(r.choice([0, 0, 1, 2, 5])):
         at = r.randrange(len(samples) + 1)
         samples[at:at + r.choice([0, 1, 1, 2, 30])] = bytes(r.randrange(8) for _ in range(r.choice([0, 1, 1, 2])))
+    if r.randrange(6) == 0:
+        # The first sample has its clock at 1, or the first frame is not whole.
+        del samples[:r.choice([1, 1, 3, 20])]
     if r.randrange(8) == 0:
         samples = bytearray(r.randrange(8) for _ in range(r.choice([0, 1, 300])))
     if r.randrange(12) == 0:
@@ -526,6 +538,13 @@ def oobread_case(r: Random) -> Case:
 
 def event_rows(r: Random) -> list[list]:
     """Events that bring some pieces over, with losses and repetitions, few or many at once."""
+    if r.randrange(6) == 0:
+        # A way is full, or just not.
+        count = r.choice([1_021, 1_022, 1_023, 1_024])
+        return r.choice([
+            [["send", 2], ["repeat", count], ["repeat", 1], ["send", 1], ["take", 1_023], ["take", r.randint(1, 2)]],
+            [["send", 3], ["take", 2], ["repeatback", count], ["take", 1], ["takeback", 1_023], ["takeback", r.randint(1, 2)]],
+        ])
     names = ["send", "take", "takeback"] * 3 + ["rewind", "lose", "repeat", "loseback", "repeatback"]
     if r.randrange(3) == 0:
         most = r.choice([60, 300, 1_100])

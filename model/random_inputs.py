@@ -9,9 +9,9 @@ import pcap
 from flow import FlowRow, LocalRow, packed
 from link import CODE_BITS, Link
 from plan import Plan, plan_of
-from stream import Source
+from stream import Source, payload_stream
 
-LENGTHS = (1, 7, 8, 9, 31, 32, 33, 60, 63, 64, 65, 100, 128, 200, 256, 257, 300, 500)
+LENGTHS = (1, 7, 8, 9, 32, 60, 63, 64, 65, 95, 96, 97, 100, 128, 160, 192, 200, 224, 256, 257, 288, 300, 320, 500)
 FRAMING = (0x78F678F678F678F6, 0x1E1E1E1E1E1E1E1E, 0x28F0000000000000)
 
 
@@ -66,8 +66,8 @@ def spelled(r: Random, rows: Sequence[Sequence[object]]) -> bytes:
 
 
 BAD_FIELDS = (
-    "", " 1", "+1", "-1", "1.0", "0x10", "9" * 15, "0" * 16, "1" * 16, "65536", "1025", "256", "16777216", "\u0661", "x" * 256,
-    "y" * 201, "on", "off ", "0", "33", "63", "4097", "81FFFF000018817", "81FFFF00001881770",
+    "", " 1", "+1", "-1", "1.0", "0x10", "9" * 15, "0" * 16, "1" * 16, "65536", "1025", "256", "16777216", "\u0661", "\uff11", "x" * 256,
+    "y" * 201, "9", "on", "off ", "0", "33", "63", "4097", "81FFFF000018817", "81FFFF00001881770",
 )
 
 
@@ -80,7 +80,8 @@ def spoiled(r: Random, rows: Sequence[Sequence[object]]) -> bytes:
         field = r.randrange(len(rows[at]))
         change = r.randrange(8)
         if change < 3:
-            rows[at][field] = r.choice(BAD_FIELDS)
+            for place in {field, r.choice([field, len(rows[at]) - 1])}:
+                rows[at][place] = r.choice(BAD_FIELDS)
         elif change == 3:
             rows[at][field:field + 1] = r.choice([[], [rows[at][field], "1"], [rows[at][field], ""]])
         elif change == 4:
@@ -104,13 +105,16 @@ def damaged_text(r: Random, data: bytes) -> bytes:
 
 # ---- plans
 
+LANES = (1, 1, 2, 2, 3, 4, 5)
+
+
 class Drawn:
     """A random plan that is right: its rows, the files that it names, and what it says."""
 
-    def __init__(self, r: Random, may_be_wide: bool = True, longest: int | None = None):
+    def __init__(self, r: Random, may_be_wide: bool = True, longest: int | None = None, lanes: Sequence[int] = LANES):
         self.r = r
         self.wide = may_be_wide and r.randrange(5) < 2
-        self.rows = self.numbers() + self.channel_rows()
+        self.rows = [["lanes", r.choice(lanes)]] + self.numbers() + self.channel_rows()
         self.packets = {row[1]: packets(r) for row in self.rows if row[0] == "channel" and len(row) == 3}
         self.rows += [["out", "o"]]
         self.plan: Plan = plan_of("".join(",".join(map(str, row)) + "\n" for row in self.rows).encode())
@@ -125,7 +129,7 @@ class Drawn:
         r = self.r
         metaframe = r.choice([32, 32, 32, 33, 40, 50])
         burst_max = r.choice([64, 64, 128, 256, 256, 512, 4096])
-        rows = [["lanes", r.choice([1, 1, 2, 2, 3, 4, 5])], ["metaframe", metaframe]]
+        rows = [["metaframe", metaframe]]
         rows += [["warmup", r.choice([4, 4, 4, 5, 6])]] if r.randrange(6) else []
         optional = [
             ["skips", r.randint(1, 4)], ["deskew", r.randint(1, (metaframe - 1) // 2)], ["link_type", r.choice([0, 1, 101, 65535])],
@@ -147,8 +151,13 @@ class Drawn:
         return rows + [["entry", r.choice(channels)] for _ in range(entries)]
 
     def add_flow(self) -> None:
-        """A flow file, by whose rows channels go off and on, and some stay off."""
+        """A flow file, by whose rows channels go off and on, and some stay off; or go on in the slot of a burst word."""
         self.flow = flow_rows(self.r, self.plan.entries)
+        if self.r.randrange(3) == 0:
+            self.flow = calendar_rows(self.r, 0, [self.r.randrange(2) == 1 for _ in self.plan.entries])
+            words = payload_stream(self.source()).words
+            slots = [slot for slot, (kind, number) in enumerate(words) if kind == fields.CONTROL and fields.begins_burst(number)]
+            self.flow += calendar_rows(self.r, self.r.choice(slots or [0]), [True] * len(self.plan.entries))
         self.add_rows("flow", "f.csv", [(row.slot, flow_text(self.r, row.number)) for row in self.flow])
 
     def add_local(self, most: int = 900) -> None:
@@ -184,7 +193,8 @@ class Drawn:
     def spoil(self) -> dict[str, bytes]:
         """All files, one of them spoiled or absent."""
         found = self.all_files()
-        name = self.r.choice(["p.plan", "p.plan", *found])
+        rows = [name for name in found if name.endswith(".csv")] or ["p.plan"]
+        name = self.r.choice(["p.plan", self.r.choice(rows), self.r.choice(rows), self.r.choice(sorted(found))])
         change = self.r.randrange(6)
         if change == 0:
             del found[name]
@@ -226,7 +236,12 @@ def flow_rows(r: Random, entries: Sequence[int]) -> list[FlowRow]:
             word = flow_word(r, at == 0, flow)
             rows.append(FlowRow(slot, spoiled_flow(r, word) if r.randrange(6) == 0 else word))
     # At the end all channels are on, or they stay as they are.
-    return rows + [FlowRow(slot, flow_word(r, at == 0, 0xFFFF)) for at in range(0, r.choice([0, 0, len(entries)]), 16)]
+    return rows + calendar_rows(r, slot, [True] * r.choice([0, 0, len(entries)]))
+
+
+def calendar_rows(r: Random, slot: int, states: Sequence[bool]) -> list[FlowRow]:
+    """A whole calendar at a slot."""
+    return [FlowRow(slot, flow_word(r, at == 0, packed(states[at:at + 16]))) for at in range(0, len(states), 16)]
 
 
 def flow_word(r: Random, reset: bool, flow: int) -> int:

@@ -38,7 +38,8 @@ def words_data(r: Random) -> bytes:
         data = data[:at] + bytes([r.choice([0, 4, 77, 255])]) + data[at + 1:]
     if kind == 1:
         data = data[:r.randrange(len(data) + 1)]
-    return data
+    # What is left of a last word may have a wrong tag.
+    return data + r.choice([b"", b"", b"", b"", b"\0", b"\4" + bytes(7)])
 
 
 def code(r: Random) -> str:

@@ -1,9 +1,10 @@
-"""Worked examples of the model, one or two small ones for each definition: `python3 model/selftest.py`."""
+"""Worked examples of the model, one or two small ones for each definition, and some laws: `python3 model/selftest.py`."""
 
 import os
 import tempfile
 import unittest
 from collections import Counter
+from random import Random
 
 import accidents
 import cases
@@ -21,6 +22,8 @@ import locks
 import oob
 import pcap
 import plan
+import random_inputs
+import random_listings
 import reassembly
 import resend
 import spans
@@ -451,6 +454,71 @@ class Files(unittest.TestCase):
         self.assertEqual(texts.span_table(spans_of), table)
         line = "dropped bad=0 crc=1 protocol=0 lost=0 end=0 toolong=0 unlisted=0 sender=0"
         self.assertEqual(texts.dropped_line(Counter(crc=1)), line)
+
+
+class Laws(unittest.TestCase):
+    """What is proved of the program, on a few random cases of the model."""
+
+    def linked(self, d):
+        """The packets that came over a damaged link, those that were sent, the spans, and the accidents."""
+        made, link = stream.payload_stream(d.source()), d.plan.link
+        sent = [lanes.lane_bits(made.words, link, lane) for lane in range(link.lanes)]
+        rows = random_inputs.schedule_rows(d.r, d.plan, len(sent[0]))
+        damages = inputs.schedule(random_inputs.spelled(d.r, rows), link.lanes)
+        found = [locks.searches(lanes.received(part, damage), link) for part, damage in zip(sent, damages)]
+        shown = epochs.epochs_of_lanes(found, link)
+        outcome = reassembly.reassembled(shown, d.plan.settings)
+        at = accidents.Sent(made.words, link, [damage.skew for damage in damages])
+        of = [(d.packets[packet.channel][packet.number], packet) for packet in stream.listed_packets(made.words)]
+        whole = [(data, packet.channel, at.place(packet.first), at.place(packet.last)) for data, packet in of if packet.last]
+        return outcome, whole, sum(accidents.accidents(at, found, shown))
+
+    def test_delivery(self):
+        """Without accidents each channel gets exactly the sent packets that meet no span, in order."""
+        tried = 0
+        for seed in range(30):
+            outcome, sent, count = self.linked(random_inputs.Drawn(Random(seed), longest=500))
+            if count:
+                continue
+            unmet = [(channel, data) for data, channel, first, last in sent
+                     if not any(span.meets(first, last) for span in outcome.spans)]
+            came = [(packet.channel, packet.data) for packet in outcome.packets]
+            self.assertEqual(sorted(came, key=lambda one: one[0]), sorted(unmet, key=lambda one: one[0]))
+            tried += bool(unmet)
+        self.assertGreater(tried, 9)
+
+    def test_peaks_are_bounded(self):
+        """No peak of a channel with a calendar entry is above mark + K (B + 1) + B + 2 delay + 2."""
+        for seed in range(12):
+            d = random_inputs.Drawn(Random(seed))
+            settings = plan.DuplexSettings("p", d.r.randint(1, 40), d.r.randint(1, 20), 900, d.r.choice([4, 1_024]), "o", [])
+            packets = d.source().packets
+            burst, calendar = d.plan.shape.burst_max // 8, -(-len(d.plan.entries) // 16)
+            bound = settings.mark + calendar * (burst + 1) + burst + 2 * settings.delay + 2
+            for end in duplex.duplex_run(d.plan, [packets, packets], settings):
+                for channel in d.plan.entries:
+                    self.assertLessEqual(end.peaks[channel], bound)
+
+    def test_status_is_read_back(self):
+        """By the rows of samples each channel is on exactly where it was on in the last frame."""
+        for seed in range(30):
+            d = random_inputs.Drawn(Random(seed))
+            rows = random_inputs.local_rows(d.r, d.plan.channels, 700)
+            shown, read = flow.Outgoing(d.plan.entries), flow.Incoming(d.plan.entries)
+            for row in rows:
+                shown.take(row)
+            for row in oob.rows_of_samples(oob.written(d.plan.entries, rows), len(d.plan.entries)):
+                list(read.take(row.number))
+            self.assertEqual([channel for channel in d.plan.entries if read.is_on(channel)],
+                             [channel for channel in d.plan.entries if shown.state[channel]])
+
+    def test_listings_undo(self):
+        """What is listed is assembled again."""
+        for seed in range(60):
+            r = Random(seed)
+            for name, data in (("x", random_listings.lane_data(r)), ("x.words", random_listings.words_data(r))):
+                if refusal(listing.listing, name, data) is None:
+                    self.assertEqual(listing.assembled(listing.text_of(listing.listing(name, data))), data)
 
 
 class Runs(unittest.TestCase):

@@ -65,8 +65,9 @@ class OpenStream:
         # The key of a channel: at the start by its number, which comes before every row and every burst word.
         self.keys = {channel: (-1, 0, channel, 0) for channel in source.channels}
         self.flow_rows, self.control_words = 0, 0
+        # No burst word stands so near below slot 0 that it would matter.
         self.last_burst = -self.shape.burst_short
-        # The data words that follow in the burst, the words since the last control word, and the end that is to be told.
+        # The data words that follow in the burst, those since the last control word, and the end that the next one tells.
         self.coming: deque[int] = deque()
         self.covered: list[int] = []
         self.end = NO_END
@@ -140,6 +141,11 @@ class Stream(NamedTuple):
     words: list[Word]
     finish: int
     left: list[int]
+
+    @property
+    def is_held(self) -> bool:
+        """The stream is held where some listed channel has bytes left at the finish slot."""
+        return bool(self.left)
 
 
 def payload_stream(source: Source) -> Stream:
