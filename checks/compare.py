@@ -3,7 +3,7 @@
     python3 compare.py PROGRAM [--kinds KIND,..] [--cases N] [--plans drawn|wide|narrow|both] [--seed S] [--jobs J] [--keep FOLDER]
 
 A case is a folder of input files and a list of words, which model/random_cases.py draws; both run in a copy of it. It agrees where
-the status, the text and every file are the same, and nothing came on standard error. Of each kind there are N cases, 80 by default,
+the status, the text and every file are the same, and nothing came on standard error. Of each kind there are N cases, 100 by default,
 with the seeds from S on, which is 0; of `generate` and `channels`, whose cases are large, a tenth of that. With --plans wide, or
 narrow, only seeds whose plan is that count, and with both there are N of each; some kinds have no wide plans, and N narrow ones
 alone. For each kind a line says how many were equal. J kinds run side by side, 1 by default. --keep leaves the inputs of the cases
@@ -63,7 +63,7 @@ def arguments():
     parser = argparse.ArgumentParser()
     parser.add_argument("program", type=os.path.abspath)
     parser.add_argument("--kinds", type=lambda text: text.split(","), default=list(KINDS))
-    parser.add_argument("--cases", type=int, default=80)
+    parser.add_argument("--cases", type=int, default=100)
     parser.add_argument("--plans", choices=["drawn", "wide", "narrow", "both"], default="drawn")
     parser.add_argument("--seed", type=int, default=0)
     parser.add_argument("--jobs", type=int, default=1)

@@ -14,7 +14,9 @@ import oob
 import random_inputs as drawn
 import random_listings
 import words_file
+from checksum import CRC24
 from fields import BAD, CONTROL, DATA, Word
+from inputs import MOST_EVENTS
 from link import CODE_BITS, Link
 from random_inputs import Drawn
 from stream import payload_stream
@@ -59,7 +61,7 @@ def link_case(r: Random) -> Case:
         d.add_local()
     if r.randrange(12):
         d.add_rows("schedule", "s.csv", drawn.schedule_rows(r, d.plan, lane_length(d)))
-    return Case(["link", "p.plan"], d.spoil() if r.randrange(5) == 0 else d.all_files(), d.wide)
+    return Case(["link", "p.plan"], d.spoil() if r.randrange(4) == 0 else d.all_files(), d.wide)
 
 
 def lane_length(d: Drawn) -> int:
@@ -407,10 +409,12 @@ def forged_words(r: Random, stream: Sequence[Word], link: Link) -> list[list]:
 
 
 def forged_data(r: Random, words: list[Word], at: int) -> None:
-    """A data word is another, and the control word after it has the CRC24 of that."""
+    """A data word is another, and the control word after it has the CRC24 of that; or is as it was, where the data
+    differ by a multiple of the polynomial."""
     at = next((place for place in range(at, len(words)) if words[place].kind == DATA), None)
     if at is not None:
-        words[at] = Word(DATA, words[at].number ^ r.choice([1, 1 << 63, r.getrandbits(64)]))
+        multiple = (1 << 24 | CRC24[1]) << r.randrange(40)
+        words[at] = Word(DATA, words[at].number ^ r.choice([1, multiple, r.getrandbits(64)]))
         seal(words, next(place for place in range(at, len(words)) if words[place].kind == CONTROL))
 
 
@@ -565,10 +569,10 @@ def resend_case(r: Random) -> Case:
     if r.randrange(16):
         d.add_rows("events", "e.csv", rows)
     found = d.spoil() if r.randrange(5) == 0 else d.all_files()
-    if "e.csv" in found and r.randrange(8) == 0:
-        # All events together are as many as may be, or a few more.
-        most = ["send", 4_194_304 - r.choice([0, 1, sum(row[1] for row in rows)])]
-        found["e.csv"] = drawn.spelled(r, rows + [most]) if r.randrange(3) == 0 else drawn.spoiled(r, rows)
+    if "e.csv" in found and r.randrange(6) == 0:
+        # All events together are one more than may be, or as many.
+        most = ["send", MOST_EVENTS + r.choice([1, 1, 1, 0]) - sum(row[1] for row in rows)]
+        found["e.csv"] = drawn.spelled(r, rows + [most]) if r.randrange(2) else drawn.spoiled(r, rows)
     return Case(["resend", "p.plan"], found, d.wide)
 
 

@@ -66,7 +66,8 @@ def spelled(r: Random, rows: Sequence[Sequence[object]]) -> bytes:
 
 
 BAD_FIELDS = (
-    "", " 1", "+1", "-1", "1.0", "0x10", "9" * 15, "0" * 16, "1" * 16, "65536", "1025", "256", "16777216", "\u0661", "\uff11", "x" * 256,
+    "", " 1", "+1", "-1", "1.0", "0x10", "9" * 15, "0" * 16, "1" * 16, "65536", "1025", "256", "16777216", "\u0661", "\uff11",
+    "x" * 256,
     "y" * 201, "9", "on", "off ", "0", "33", "63", "4097", "81FFFF000018817", "81FFFF00001881770",
 )
 
@@ -151,7 +152,8 @@ class Drawn:
         return rows + [["entry", r.choice(channels)] for _ in range(entries)]
 
     def add_flow(self) -> None:
-        """A flow file, by whose rows channels go off and on, and some stay off; or go on in the slot of a burst word."""
+        """A flow file, by whose rows channels go off and on, and some stay off; or go on in the slot of a burst
+        word."""
         self.flow = flow_rows(self.r, self.plan.entries)
         if self.r.randrange(3) == 0:
             self.flow = calendar_rows(self.r, 0, [self.r.randrange(2) == 1 for _ in self.plan.entries])
@@ -233,7 +235,7 @@ def flow_rows(r: Random, entries: Sequence[int]) -> list[FlowRow]:
         for at in range(0, len(entries), 16):
             slot += r.choice([0, 0, 1, 30, 90])
             flow = packed(states[at:at + 16])
-            word = flow_word(r, at == 0, flow)
+            word = flow_word(r, at == 0 and r.randrange(6) > 0, flow)
             rows.append(FlowRow(slot, spoiled_flow(r, word) if r.randrange(6) == 0 else word))
     # At the end all channels are on, or they stay as they are.
     return rows + calendar_rows(r, slot, [True] * r.choice([0, 0, len(entries)]))
@@ -318,8 +320,8 @@ def headers(r: Random, lane: int, link: Link, bits: int) -> list[list]:
 
 
 def framing(r: Random, lane: int, link: Link, bits: int) -> list[list]:
-    """Sync, Scrambler State or other words of framing of some metaframes, one after another or with right ones between: a bit of
-    each, or both of its header, which make it a data word."""
+    """Sync, Scrambler State or other words of framing of some metaframes, one after another or with right ones between:
+    a bit of each, or both of its header, which make it a data word."""
     position, turns = r.choice([
         (0, [[0, 1, 2, 3], [0, 1, 2, 3], [0, 1, 2, 4], [0, 1, 2]]),
         (1, [[0], [0, 1, 2], [0, 1], [0, 1, 3], [0, 1, 3, 4, 5]]),
