@@ -2,6 +2,7 @@
 """The whole program: `python3 model/interlaken.py WORDS..`, on files of the current folder. REFERENCE, "Commands" and
 "Statuses"."""
 
+import os
 import re
 import sys
 from typing import Sequence
@@ -45,9 +46,13 @@ def run(words: Sequence[str]) -> tuple[int, str]:
 
 
 def main() -> int:
-    """Runs the words of the command line."""
-    status, text = run(sys.argv[1:])
-    sys.stdout.write(text)
+    """Runs the words of the command line, each of which has to be UTF-8."""
+    try:
+        words = [os.fsencode(word).decode() for word in sys.argv[1:]]
+    except UnicodeDecodeError:
+        return files.NO_WORDS
+    status, text = run(words)
+    sys.stdout.buffer.write(text.encode())
     return status
 
 
