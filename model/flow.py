@@ -1,6 +1,6 @@
 """The calendar: what flow rows say, and what control words show. DEFINITIONS, "What is sent"."""
 
-from typing import Iterator, NamedTuple, Sequence
+from typing import NamedTuple, Sequence
 
 import fields
 
@@ -32,16 +32,23 @@ class Incoming:
         # The number of the last valid word from the last reset word on, if it carries entries.
         self.valid: int | None = None
 
-    def take(self, number: int) -> Iterator[tuple[int, int]]:
-        """Takes a row's word; gives the places of the entries, with their channels, by which a channel became on."""
+    def take(self, number: int) -> list[tuple[int, int]]:
+        """Takes a row's word, whose valid word number d carries entry 16 d + i in bit 55 - i; returns the places of the entries by
+        which a channel became on, with the channels."""
+        became_on = []
         self.valid = self.numbered(number)
-        if self.valid is None:
-            return
-        for place in range(16 * self.valid, min(16 * self.valid + 16, len(self.entries))):
-            channel, on = self.entries[place], fields.bits(number, 55 - place % 16, 55 - place % 16) == 1
+        for bit, place in zip(range(55, 39, -1), self.places()):
+            channel, on = self.entries[place], fields.bits(number, bit, bit) == 1
             if on and not self.state[channel]:
-                yield place, channel
+                became_on.append((place, channel))
             self.state[channel] = on
+        return became_on
+
+    def places(self) -> range:
+        """The places of the entries that the last word carries, for entries that there are."""
+        if self.valid is None:
+            return range(0)
+        return range(16 * self.valid, min(16 * self.valid + 16, len(self.entries)))
 
     def numbered(self, number: int) -> int | None:
         """Valid words are numbered from the last reset word at or before them, as 0, where no invalid word stands

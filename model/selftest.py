@@ -117,19 +117,20 @@ class SentStreams(unittest.TestCase):
 
     def test_incoming_calendar(self):
         calendar = flow.Incoming([1, 2])
-        self.assertEqual(list(calendar.take(0x81BFFF00004B8D9D)), [])
+        self.assertEqual(calendar.take(0x81BFFF00004B8D9D), [])
         self.assertEqual((calendar.is_on(1), calendar.is_on(2)), (True, False))
-        list(calendar.take(0))
+        calendar.take(0)
         self.assertFalse(calendar.is_on(2))
-        self.assertEqual(list(calendar.take(IDLE)), [(1, 2)])
+        self.assertEqual(calendar.take(IDLE), [(1, 2)])
 
     def test_words_without_a_reset_word_carry_nothing(self):
         calendar = flow.Incoming([1, 2])
         off = fields.sealed([], fields.control_number(False, False, 0, False, 0, 0, 0))
-        list(calendar.take(off))
+        calendar.take(off)
         self.assertTrue(calendar.is_on(1))
         # After a reset word the next one carries the entries from 16 on, of which there are none.
-        list(calendar.take(IDLE)), list(calendar.take(off))
+        calendar.take(IDLE)
+        calendar.take(off)
         self.assertTrue(calendar.is_on(1))
 
     def test_outgoing_calendar(self):
@@ -508,7 +509,7 @@ class Laws(unittest.TestCase):
             for row in rows:
                 shown.take(row)
             for row in oob.rows_of_samples(oob.written(d.plan.entries, rows), len(d.plan.entries)):
-                list(read.take(row.number))
+                read.take(row.number)
             self.assertEqual([channel for channel in d.plan.entries if read.is_on(channel)],
                              [channel for channel in d.plan.entries if shown.state[channel]])
 
