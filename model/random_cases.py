@@ -95,29 +95,31 @@ def generate_case(r: Random) -> Case:
 # ---- words of the command line
 
 def words_case(r: Random) -> Case:
-    """Words that are accepted or not, names at their limits, outputs in a folder that is not there, a file in the way
-    of one."""
+    """Words that are accepted or not, names at their limits, outputs in a folder that is not there."""
     d = Drawn(r)
     d.rows = [row for row in d.rows if row[0] != "out"] + [["out", r.choice(["o", "no/o", "o" * 200, "p", '"\u00fc,"', "-o"])]]
-    files = d.all_files()
-    if r.randrange(2):
-        # One word that is right, with an output that cannot be created or a name that is odd.
-        command = r.choice(["burst", "send", "link", "oobwrite", "join", "receive", "list"])
-        name = r.choice(["p.plan", "p.plan", "p.plan", "n" * 255, "\u00e9" * 127, "no/p.plan", ".plan", "o"])
-        return Case([command, name], files, d.wide)
-    name = r.choice(["p.plan", "p.plan", "q.plan", "-", "-p.plan", "", "n" * 256, "\u00e9" * 128, "c0.pcap"])
+    words = r.choice([accepted_words, accepted_words, odd_words, odd_words, words_of_generate])(r)
+    return Case(words, d.all_files(), d.wide)
+
+
+def accepted_words(r: Random) -> list[str]:
+    """A command with the name of the plan or an odd name, which is accepted."""
+    command = r.choice(["burst", "send", "link", "oobwrite", "join", "receive", "list"])
+    return [command, r.choice(["p.plan", "p.plan", "p.plan", "n" * 255, "\u00e9" * 127, "no/p.plan", ".plan", "o"])]
+
+
+def odd_words(r: Random) -> list[str]:
+    """Another command or name, or another number of words."""
     command = r.choice(["burst", "join", "receive", "resend", "list", "assemble", "Burst", "", "help", "link "])
-    words = r.choice([[command, name], [command, name], [command, name], [command, name, name], [command], [name, command], []])
-    if r.randrange(5) == 0:
-        number = r.choice(["0", "1" * 20, "18446744073709551616", "9" * 20, "0" * 21, "", "x1", "-1", " 1", "1.", "\u0661"])
-        words = ["generate", number, r.choice(["no/g", "", "-g", "g" * 181, "g"])]
-        words = r.choice([words, words, words[:2], words + ["x"]]) if not are_good(words) else ["generate", number, "no/g"]
-    return Case(words, files, d.wide)
+    name = r.choice(["p.plan", "p.plan", "q.plan", "-", "-p.plan", "", "n" * 256, "\u00e9" * 128, "c0.pcap"])
+    return r.choice([[command, name], [command, name], [command, name], [command, name, name], [command], [name, command], []])
 
 
-def are_good(words: Sequence[str]) -> bool:
-    """Whether a whole case would be generated, which takes long."""
-    return words[2] == "g"
+def words_of_generate(r: Random) -> list[str]:
+    """`generate` with an odd number or an odd prefix, so that no whole case is generated."""
+    number = r.choice(["0", "1" * 20, "18446744073709551616", "9" * 20, "0" * 21, "", "x1", "-1", " 1", "1.", "\u0661"])
+    words = ["generate", number, r.choice(["no/g", "", "-g", "g" * 181])]
+    return r.choice([words, words, words[:2], words + ["x"]])
 
 
 # ---- received words
