@@ -1,12 +1,8 @@
 #!/usr/bin/env bash
 # Processor seconds and peak memory of each command that the program knows, with md5sum over the same capture in the same run.
-# Words: the megabytes of the capture, 100 where none are given, and then the sizes of its packets, 1514 and 64.
+# Arguments: the megabytes of the capture, 100 where none are given, and then the sizes of its packets, 1514 and 64.
 # No part of the gate: the numbers depend on the machine.
 set -eu
 top=$(cd "$(dirname "$0")/.." && pwd)
-program=${INTERLAKEN_PROGRAM:-}
-if [ -z "$program" ]; then
-  "$top/interlaken" >/dev/null || true # with no words it only says how it is called
-  program=$top/crates/interlaken_main/out/interlaken_main
-fi
+program=${INTERLAKEN_PROGRAM:-$(INTERLAKEN_WHICH=1 "$top/interlaken")}
 exec python3 -B "$top/bench/measure.py" "$program" "$@"

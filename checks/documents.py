@@ -3,7 +3,7 @@
 A block between two lines of three backquotes has commands after '$ ', and below each the lines that it prints, both streams in
 one. The commands of a page run one after another in one copy of examples/, beside which the program and the tools stand. Where
 no line stands below a command, the page says in words what it prints. A command has to end in time, and with status 0 unless
-the next one is `echo $?`, below which the page has the status.
+the next one is `echo $?`, below which the page has the status. Where a tool of a block is missing the block is not tried.
 """
 
 import os
@@ -17,7 +17,10 @@ import tempfile
 from tally import Tally
 
 PROGRAM, TOP = os.path.abspath(sys.argv[1]), os.path.abspath(sys.argv[2])
-PAGES = ("README.md", "docs/TOUR.md", "tools/README.md")
+# The pages, with the folder of the first command of each.
+PAGES = {"README.md": "", "docs/TOUR.md": "examples", "tools/README.md": "", "examples/testbench/README.md": "examples/testbench"}
+# What the pages call that a machine may lack: the tool and its Debian package, by the command that needs it.
+TOOLS = {"iverilog": ("iverilog", "iverilog"), "vvp": ("vvp", "iverilog"), "verilator": ("verilator", "verilator"), "../tools/campaign": ("parallel", "parallel")}
 TELLS_STATUS = "echo $?"
 # A command has to end by then.
 SECONDS = 60
@@ -33,21 +36,26 @@ def blocks(page):
             yield first + 2, lines[first + 1:last]
 
 
-def commands(page):
-    """Each command with the number of its line and the lines below it."""
-    for number, lines in blocks(page):
-        at = [place for place, line in enumerate(lines) if line.startswith("$ ")]
-        for place, after in zip(at, at[1:] + [len(lines)]):
-            yield number + place, lines[place][2:], lines[place + 1:after]
+def commands(number, lines):
+    """Each command of a block with the number of its line and the lines below it."""
+    at = [place for place, line in enumerate(lines) if line.startswith("$ ")]
+    for place, after in zip(at, at[1:] + [len(lines)]):
+        yield number + place, lines[place][2:], lines[place + 1:after]
 
 
-def make_folder(top, found):
+def missing_tool(lines):
+    """The first tool that the commands of a block need and that is not there, with its package; or nothing."""
+    called = (line[2:].split()[0] for line in lines if line.startswith("$ "))
+    needed = (TOOLS[command] for command in called if command in TOOLS)
+    return next((needs for needs in needed if not shutil.which(needs[0])), None)
+
+
+def make_folder(top, page):
     """Puts the examples, the program and the tools into a folder, as the page has them; the folder of its first command."""
     shutil.copytree(os.path.join(TOP, "examples"), os.path.join(top, "examples"))
     os.symlink(PROGRAM, os.path.join(top, "interlaken"))
     os.symlink(os.path.join(TOP, "tools"), os.path.join(top, "tools"))
-    starts_at_top = any(command == "cd examples" for _, command, _ in found)
-    return top if starts_at_top else os.path.join(top, "examples")
+    return os.path.join(top, PAGES[page])
 
 
 class Shell:
@@ -85,17 +93,27 @@ def fault_of(text, wanted, status):
     return "status %d, which the page does not say\n%s" % (status, text) if status else ""
 
 
+def check_block(tally, shell, page, number, lines):
+    found = list(commands(number, lines))
+    for (place, command, wanted), after in zip(found, found[1:] + [None]):
+        text = shell.run(command)
+        is_told = after is not None and after[1] == TELLS_STATUS and after[2]
+        tally.count("%s, line %d: %s" % (page, place, command), fault_of(text, wanted, 0 if is_told else shell.status))
+
+
 def check_page(tally, page):
-    found = list(commands(page))
+    found = list(blocks(page))
     if not found:
         tally.count(page, "it has no command")
         return
     with tempfile.TemporaryDirectory(prefix="documents.") as top:
-        shell = Shell(make_folder(top, found))
-        for (number, command, wanted), after in zip(found, found[1:] + [None]):
-            text = shell.run(command)
-            is_told = after is not None and after[1] == TELLS_STATUS and after[2]
-            tally.count("%s, line %d: %s" % (page, number, command), fault_of(text, wanted, 0 if is_told else shell.status))
+        shell = Shell(make_folder(top, page))
+        for number, lines in found:
+            missing = missing_tool(lines)
+            if missing:
+                tally.not_tried(*missing, "%s, line %d and below" % (page, number))
+            else:
+                check_block(tally, shell, page, number, lines)
 
 
 def main():

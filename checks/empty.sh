@@ -4,12 +4,12 @@
 # checks, as rows, try these alone.
 set -u
 top=$(cd "$(dirname "${BASH_SOURCE[0]}")/.." && pwd)
+. "$top/checks/tally.bash"
 # A check has to fail by then.
 seconds=60
 usage='usage: interlaken COMMAND FILE, or interlaken generate NUMBER PREFIX'
 folder=$(mktemp -d)
 trap 'rm -rf "$folder"' EXIT
-passed=0 failed=0
 
 # Makes a program that does not work; its lines come on standard input.
 program() { # NAME
@@ -29,42 +29,38 @@ make_copy() {
 }
 
 # Whether a check that ended as it did was skipped for a tool that is missing.
-is_skipped() { # NAME STATUS LAST-LINE
+is_skipped() { # CHECK STATUS LAST-LINE
   local tool=${3#"$1: skipped, no "}
   [ "$2" -eq 77 ] && [ "$tool" != "$3" ] && ! command -v "${tool%% *}" >/dev/null 2>&1
 }
 
 # Runs a check that has to fail. Returns 1 where it cannot be tried.
-try() { # CHECK WHAT-IS-WRONG
-  local name status last
-  name=$(basename "$1" .sh)
+try() { # SCRIPT WHAT-IS-WRONG
+  local check status last
+  check=$(basename "$1" .sh)
   timeout "$seconds" bash "$1" >"$folder/told" 2>&1 </dev/null
   status=$?
-  last=$(tail -n 1 "$folder/told")
-  if [ "$status" -eq 1 ] && [[ $last =~ ^"$name: "[0-9]+" passed, "[0-9]+" failed"$ ]]; then
-    passed=$((passed + 1))
-  elif is_skipped "$name" "$status" "$last"; then
-    echo "empty: not tried, ${last#"$name: skipped, "}: $name"
+  # How many it counts does not matter.
+  last=$(tail -n 1 "$folder/told" | sed -E 's/[0-9]+ (passed|failed)/N \1/g')
+  if is_skipped "$check" "$status" "$last"; then
+    echo "$name: not tried, ${last#"$check: skipped, "}: $check"
     return 1
-  else
-    failed=$((failed + 1))
-    echo "$name, $2: it ends with status $status and the line: $last"
   fi
+  holds "$check, $2" "status $status, $last" "status 1, $check: N passed, N failed"
 }
 
 make_copy
 [ $# -gt 0 ] || set -- $(cd "$top/checks" && basename -s .sh -- *.sh)
-for name; do
-  check=$top/checks/$name.sh
-  if [ "$name" = empty ]; then
+for check; do
+  script=$top/checks/$check.sh
+  if [ "$check" = "$name" ]; then
     continue
-  elif grep -qs 'program\.bash' "$check"; then
+  elif grep -qs '^\. .*program\.bash' "$script"; then
     for wrong in fails does_nothing knows_no_command knows_help_alone; do
-      INTERLAKEN_PROGRAM=$folder/$wrong try "$check" "with a program that $wrong" || break
+      INTERLAKEN_PROGRAM=$folder/$wrong try "$script" "with a program that $wrong" || break
     done
   else
-    try "$folder/copy/checks/$name.sh" 'without crates and edits'
+    try "$folder/copy/checks/$check.sh" 'without crates and edits'
   fi
 done
-echo "empty: $passed passed, $failed failed"
-[ "$failed" -eq 0 ] && [ "$passed" -gt 0 ]
+ends

@@ -3,5 +3,6 @@
 # row in the page on them.
 set -u
 top=$(cd "$(dirname "${BASH_SOURCE[0]}")/.." && pwd)
-command -v python3 >/dev/null 2>&1 || { echo "house: skipped, no python3 (Debian package python3)"; exit 77; }
+. "$top/checks/tally.bash"
+wants python3 python3
 exec python3 -B "$top/checks/house.py" "$top"

@@ -7,11 +7,13 @@ import subprocess
 import sys
 import tempfile
 import xml.etree.ElementTree as xml
+from functools import partial
 
 PROGRAM, TOP = os.path.abspath(sys.argv[1]), os.path.abspath(sys.argv[2])
 sys.path.insert(0, os.path.join(TOP, "tools"))
 
 from drawing.svg import length_of
+from tally import Tally
 
 TOOL = os.path.join(TOP, "tools", "picture")
 SVG = "{http://www.w3.org/2000/svg}"
@@ -33,20 +35,30 @@ SPOILED = [
     ("damaged.words", lambda data: data[:18] + b"\7" + data[19:], "damaged.plan", "damaged.words: tag at 18"),
     ("damaged.words", lambda data: data[:900], "damaged.plan", "damaged.spans.csv: row 2: slot 169, and the words file has 100"),
     ("damaged.spans.csv", lambda data: b"after\n", "damaged.plan", "damaged.spans.csv: no table of fault spans"),
-    ("damaged.1.pcap", lambda data: data[:50], "damaged.plan", "damaged.1.pcap: record 0 is not whole"),
-    ("damaged.schedule", lambda data: b"flip,2,1\n", "damaged.plan", "damaged.schedule: row 1: 2 is not in 0 to 1"),
-    ("damaged.plan", lambda data: data + b"lane,1\n", "damaged.plan", "damaged.plan: row 8: unknown key 'lane'"),
+    ("damaged.1.pcap", lambda data: data[:50], "damaged.plan", "damaged.1.pcap: short at 24: record 0 is not whole: the file ends at byte 50"),
+    ("damaged.schedule", lambda data: b"flip,2,1\n", "damaged.plan", "damaged.schedule:1: flip: lane: 2 is not in 0 to 1"),
+    ("damaged.plan", lambda data: data + b"lane,1\n", "damaged.plan", "damaged.plan:8: unknown key 'lane': `lanes`?"),
     ("two_ends.a.2.pcap", lambda data: data[:24], "two_ends.duplex", "two_ends.a.2.pcap: computed "),
 ]
-
-
-class Results:
-    passed, failed = 0, 0
-
-    def expect(self, what, found, wanted):
-        self.passed, self.failed = self.passed + (found == wanted), self.failed + (found != wanted)
-        if found != wanted:
-            print("%s: %r, and not %r" % (what, found, wanted))
+# Plans of one `out`: what they send is another each time, of as many slots in the third, and in other bursts alone in the fourth.
+STALE_FILES = {"first.plan": "lanes,2\nmetaframe,32\nwarmup,4\nchannel,1,one.pcap\nchannel,2,two.pcap\nschedule,damaged.schedule\nout,stale\n",
+               "longer.plan": "lanes,2\nmetaframe,32\nwarmup,4\nchannel,1,one.pcap\nchannel,2,three.pcap\nschedule,damaged.schedule\nout,stale\n",
+               "turned.plan": "lanes,2\nmetaframe,32\nwarmup,4\nchannel,1,two.pcap\nchannel,2,one.pcap\nschedule,damaged.schedule\nout,stale\n",
+               "apart.plan": "lanes,2\nmetaframe,32\nwarmup,4\nburst_short,72\nchannel,1,one.pcap\nchannel,2,two.pcap\nschedule,damaged.schedule\nout,stale\n"}
+# The plan that is there, the files that are of another, the options, and what the tool says.
+STALE = [
+    ("first.plan", {}, [], ""),
+    ("first.plan", {}, ["--text", "printed"], ""),
+    ("first.plan", {"stale.words": "longer.plan"}, ["--text", "printed"], "stale.words: 504 slots, and the run printed 392: it is the stream of another run"),
+    ("first.plan", {"stale.words": "longer.plan"}, [], "stale.words: "),
+    ("first.plan", {"stale.words": "turned.plan"}, [], "stale.words: no span meets 1 packets of channel 1, and stale.1.pcap has others: it is the stream of another run"),
+    ("first.plan", {"stale.words": "turned.plan"}, ["--text", "printed"], "stale.words: no span meets 1 packets of channel 1, and stale.1.pcap has others"),
+    ("longer.plan", {"stale.words": "first.plan"}, ["--only", "stream"], "stale.spans.csv: row 4: slot "),
+    ("longer.plan", {"stale.spans.csv": "first.plan"}, [], "stale.words: "),
+    ("longer.plan", {"printed": "first.plan"}, ["--text", "printed"], "stale.words: 504 slots, and the run printed 392"),
+    ("first.plan", {"stale.words": "apart.plan"}, [], "stale.words: slot 300 is a control word, and in stale.lane.0 it is none: it is the stream of another run"),
+    ("first.plan", {"stale.lane.0": "longer.plan"}, [], "stale.words: its 392 slots fill 15008 bits of a lane, and stale.lane.0 has "),
+]
 
 
 def run(words, folder):
@@ -103,7 +115,7 @@ def check_examples(results, folder):
         results.expect(name, counts_of(folder, name), wanted)
     stream = xml.parse(os.path.join(folder, "damaged.stream.svg")).getroot()
     texts = [element.text for element in stream.iter(SVG + "text")]
-    for text in ("slot 230 is damaged", "span 1 of slots 224 to 290: crc"):
+    for text in ("slot 230 is damaged: lane 0, bit 9011", "span 1 of slots 224 to 290: crc"):
         results.expect("damaged, " + text, texts.count(text), 1)
     with open(os.path.join(folder, "printed"), "w", encoding="utf-8") as file:
         file.write(run([PROGRAM, "duplex", "two_ends.duplex"], folder).stdout)
@@ -144,6 +156,7 @@ def check_tour(results, folder):
         with open(os.path.join(target, name), "rb") as drawn, open(os.path.join(TOP, "docs", "tour", name), "rb") as kept:
             results.expect("tour, " + name, drawn.read() == kept.read(), True)
     results.expect("pictures of the tour", len(os.listdir(target)), 5)
+    check_pictures(results, target)
 
 
 def check_spoiled(results, folder):
@@ -162,19 +175,41 @@ def check_spoiled(results, folder):
             file.write(data)
 
 
+def check_stale(results, folder):
+    """Words, spans, captures and texts of another run than the rest are refused, where plan and `out` are the same."""
+    for name, data in STALE_FILES.items():
+        with open(os.path.join(folder, name), "w", encoding="utf-8") as file:
+            file.write(data)
+    kept = {}
+    for name in STALE_FILES:
+        shutil.copy(os.path.join(folder, name), os.path.join(folder, "stale.plan"))
+        words = run([PROGRAM, "burst", "stale.plan"], folder)
+        linked = run([PROGRAM, "link", "stale.plan"], folder)
+        results.expect("burst and link, " + name, (words.returncode, linked.returncode), (0, 0))
+        kept[name] = {file: open(os.path.join(folder, file), "rb").read() for file in os.listdir(folder) if file.startswith("stale.") and file != "stale.plan"}
+        kept[name]["printed"] = linked.stdout.encode()
+    for plan, from_other, words, told in STALE:
+        files = {**kept[plan], **{file: kept[other][file] for file, other in from_other.items()}}
+        for file, data in {**files, "stale.plan": STALE_FILES[plan].encode()}.items():
+            with open(os.path.join(folder, file), "wb") as changed:
+                changed.write(data)
+        done = run([TOOL, "stale.plan"] + words, folder)
+        wanted = (1, "picture: " + told, 1) if told else (0, "", 0)
+        found = (done.returncode, done.stderr[:len("picture: " + told)] if told else done.stderr, done.stderr.count("\n"))
+        results.expect("%s with %s" % (plan, from_other), found, wanted)
+
+
 def main():
-    results = Results()
+    results = Tally("pictures")
     with tempfile.TemporaryDirectory() as folder:
         shutil.copytree(os.path.join(TOP, "examples"), folder, dirs_exist_ok=True)
-        check_examples(results, folder)
-        check_spoiled(results, folder)
-        for number in CASES:
-            check_case(results, folder, number)
-        check_wide_link(results, folder)
-        check_pictures(results, folder)
-        check_tour(results, folder)
-    print("pictures: %d passed, %d failed" % (results.passed, results.failed))
-    return 1 if results.failed else 0
+        steps = [check_examples, check_spoiled, check_stale] + [partial(check_case, number=number) for number in CASES] + [check_wide_link, check_pictures, check_tour]
+        for step in steps:
+            try:
+                step(results, folder)
+            except (OSError, AttributeError, KeyError, xml.ParseError) as error:
+                results.count("a file or a line that should be there", "%s: %s" % (type(error).__name__, error))
+    return results.end()
 
 
 if __name__ == "__main__":

@@ -7,37 +7,21 @@ set -u
 . "$(dirname "$0")/program.bash"
 wants iverilog iverilog
 wants vvp iverilog
-program=$(readlink -f "$program")
 bench=$top/examples/testbench
 folder=$(mktemp -d)
 trap 'rm -rf "$folder"' EXIT
 cp "$top"/examples/{one,two}.pcap "$folder" && cd "$folder" || exit 1
-passed=0 failed=0
 
-end() { # as tally.py ends the other checks
-  echo "testbench: $passed passed, $failed failed"
-  [ "$failed" -eq 0 ] && [ "$passed" -gt 0 ]
-  exit
-}
-
-holds() { # WHAT FOUND WANTED
-  if [ "$2" = "$3" ]; then
-    passed=$((passed + 1))
-  else
-    failed=$((failed + 1))
-    printf '%s:\n  %s\nand not\n  %s\n' "$1" "$2" "$3"
-    if [ "$passed" -eq 0 ] && [ "$failed" -ge 20 ]; then
-      echo 'testbench: nothing passed so far, and the rest is not tried'
-      end
-    fi
-  fi
+# Passes where the program and a bench, or what is stated, have one text, which is not empty.
+agrees() { # WHAT FOUND WANTED
+  holds "$1" "$2" "${3:-some text}"
 }
 
 compile() { # BENCH OUTPUT PARAMETERS..
-  local name=$1 output=$folder/$2 parameters=() parameter
+  local kind=$1 output=$folder/$2 parameters=() parameter
   shift 2
-  for parameter; do parameters+=(-P "tb_$name.$parameter"); done
-  (cd "$bench" && iverilog -g2012 -f "$name.f" -s "tb_$name" "${parameters[@]}" -o "$output") || echo "$name $*: not compiled"
+  for parameter; do parameters+=(-P "tb_$kind.$parameter"); done
+  (cd "$bench" && iverilog -g2012 -f "$kind.f" -s "tb_$kind" "${parameters[@]}" -o "$output") || echo "$kind $*: not compiled"
 }
 
 # Every plan here has one lane, a metaframe of 32 words, one Skip word and a warm-up of 9 groups where its rows say nothing else.
@@ -66,9 +50,9 @@ damaged() { # WHAT STATED-LINE-OR-NOTHING ROWS..
   plan "${captures[@]}" schedule,s.csv
   "$program" link p.plan >linked 2>&1
   received=$(lines_of receive)
-  holds "$what, as link prints it" "$(grep '^lane ' linked)" "$received"
-  holds "$what, as the bench prints it" "$(bench_of check32 o.lane.0 0 | head -n 1)" "$received"
-  [ -z "$stated" ] || holds "$what, as stated" "$received" "$stated"
+  agrees "$what, as link prints it" "$(grep '^lane ' linked)" "$received"
+  agrees "$what, as the bench prints it" "$(bench_of check32 o.lane.0 0 | head -n 1)" "$received"
+  [ -z "$stated" ] || agrees "$what, as stated" "$received" "$stated"
 }
 
 # The number of a bit in a lane of metaframes of 32 words.
@@ -76,6 +60,9 @@ bit_of() { # METAFRAME WORD BIT
   echo $((67 * (32 * $1 + $2) + $3))
 }
 
+plan "${captures[@]}"
+"$program" send p.plan >sent 2>&1
+[ -s o.lane.0 ] || gives_up "send leaves no lane, and prints: $(cat sent)"
 compile check check32 METAFRAME=32
 compile check check40 METAFRAME=40
 compile make make32 METAFRAME=32 SKIPS=1
@@ -119,7 +106,7 @@ captures=(channel,1,one.pcap channel,2,two.pcap)
 
 plan "${captures[@]}"
 "$program" send p.plan >sent 2>&1
-holds 'the disparity of a lane as sent' "$(bench_of check32 o.lane.0 0 | grep -c 'unbalanced=0 ')" 1
+agrees 'the disparity of a lane as sent' "$(bench_of check32 o.lane.0 0 | grep -c 'unbalanced=0 ')" 1
 
 # 480 words, for a receiver that looks for metaframes of another length. It gives up at the word 239 and begins a bit after it, so
 # with the word 241; one that began with the word 240 would give up again at the last word.
@@ -127,21 +114,21 @@ plan warmup,13 channel,1
 "$program" send p.plan >sent 2>&1
 plan metaframe,40 channel,1
 unframed='lane 0 locks=0 first=- lost=0 unframed=1 bad=0 sync=0 state=0 diag=0'
-holds 'metaframes of another length, as receive prints it' "$(lines_of receive)" "$unframed"
-holds 'metaframes of another length, as the bench prints it' "$(bench_of check40 o.lane.0 0 | head -n 1)" "$unframed"
+agrees 'metaframes of another length, as receive prints it' "$(lines_of receive)" "$unframed"
+agrees 'metaframes of another length, as the bench prints it' "$(bench_of check40 o.lane.0 0 | head -n 1)" "$unframed"
 
 # Lanes that send made of no packets are those that the bench makes: a stream of no packets has two groups more than its warm-up.
 plan warmup,4 channel,1
 "$program" send p.plan >sent 2>&1
 timeout 30 vvp -n make32 +file=m.lane.0 +metaframes=6 >made 2>&1
-holds 'a made lane of metaframes of 32 words' "$(cksum <m.lane.0)" "$(cksum <o.lane.0)"
+agrees 'a made lane of metaframes of 32 words' "$(cksum <m.lane.0)" "$(cksum <o.lane.0)"
 plan lanes,2 metaframe,40 skips,3 warmup,8 channel,1
 "$program" send p.plan >sent 2>&1
 for lane in 0 1; do
   timeout 30 vvp -n "make40_$lane" "+file=m.lane.$lane" +metaframes=10 >made 2>&1
-  holds "made lane $lane of metaframes of 40 words" "$(cksum <"m.lane.$lane")" "$(cksum <"o.lane.$lane")"
+  agrees "made lane $lane of metaframes of 40 words" "$(cksum <"m.lane.$lane")" "$(cksum <"o.lane.$lane")"
   line=$(lines_of receive | sed -n "$((lane + 1))p")
-  holds "lane $lane of metaframes of 40 words" "$(bench_of check40 "m.lane.$lane" "$lane" | head -n 1)" "$line"
+  agrees "lane $lane of metaframes of 40 words" "$(bench_of check40 "m.lane.$lane" "$lane" | head -n 1)" "$line"
 done
 
 # What receive reports of a made lane; and of one in which nothing is sent inverted, which it does not look at and the bench does. The
@@ -151,19 +138,20 @@ got=$(printf '%s\n' "$clean" 'got channel=1 packets=0 bytes=0' 'spans 2' \
 cp "$bench/idle.plan" .
 for way in balanced plain; do
   timeout 30 vvp -n make32 +file=idle.lane.0 +metaframes=12 "+$way" >made 2>&1
-  holds "receive of a made lane, $way" "$("$program" receive idle.plan 2>&1)" "$got"
+  agrees "receive of a made lane, $way" "$("$program" receive idle.plan 2>&1)" "$got"
   bench_of check32 idle.lane.0 0 >told
-  holds "the bench of a made lane, $way" "$(head -n 1 told)" "$clean"
+  agrees "the bench of a made lane, $way" "$(head -n 1 told)" "$clean"
   wanted=$([ "$way" = plain ] && echo 0 || echo 1)
-  holds "the disparity of a made lane, $way" "$(grep -c 'unbalanced=0 ' told)" "$wanted"
+  agrees "the disparity of a made lane, $way" "$(grep -c 'unbalanced=0 ' told)" "$wanted"
 done
 
 case $(verilator --version 2>/dev/null) in
   'Verilator '[5-9]* | 'Verilator '[1-9][0-9]*)
-    for name in check make; do
-      holds "lint of $name" "$(cd "$bench" && verilator --lint-only -Wall --timing -f "$name.f" --top-module "tb_$name" 2>&1)" ''
+    for kind in check make; do
+      complaints=$(cd "$bench" && verilator --lint-only -Wall --timing -f "$kind.f" --top-module "tb_$kind" 2>&1)
+      holds "lint of $kind" "$? $complaints" '0 '
     done
     ;;
-  *) echo 'testbench: not tried, no verilator of version 5 or later (Debian package verilator): the lint of both benches' ;;
+  *) echo "$name: not tried, no verilator of version 5 or later (Debian package verilator): the lint of both benches" ;;
 esac
-end
+ends

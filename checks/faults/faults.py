@@ -4,8 +4,8 @@
 
 LIBRARY is failing.c, built. Each case is a command on a small link: two captures of a few packets, a plan with a flow file and a
 local file, what `burst` and `send` make of it, and a schedule; samples and events; and two ends that send to each other. The
-undisturbed run has to have status 0, print a text and write a file, and the library has to count calls of each kind in it. A run in
-which one call failed has to end by itself
+undisturbed run has to have status 0 and print a text, and the library has to count calls of each kind in it, writes of a file and of
+the text among them. A run in which one call failed has to end by itself
 
     with status 6 where memory was refused, 1 where an open or a read failed, 1 or 7 where a write failed; then each file that
     is not as it was holds a prefix of what the undisturbed run leaves there, no file is gone, and the text is the line of the
@@ -29,14 +29,18 @@ from captures import capture
 from runs import left_by
 from tally import Tally
 
+# The case with the most calls comes last: it has all the time that the others left.
 CASES = {
     "burst": ["burst", "one.pcap"], "burst with a plan": ["burst", "p.plan"], "join": ["join", "one.pcap.words"],
     "join with a plan": ["join", "p.plan"], "send": ["send", "p.plan"], "receive": ["receive", "p.plan"],
-    "link": ["link", "l.plan"], "generate": ["generate", "7", "g"], "list": ["list", "one.pcap.words"],
+    "link": ["link", "l.plan"], "list": ["list", "one.pcap.words"],
     "list of a lane": ["list", "p.lane.0"], "assemble": ["assemble", "one.txt"], "duplex": ["duplex", "d.csv"],
     "oobwrite": ["oobwrite", "p.plan"], "oobread": ["oobread", "r.plan"], "resend": ["resend", "r.plan"],
+    "generate": ["generate", "7", "g"],
 }
 KINDS = ("malloc", "read", "write", "open")
+# What each case makes of calls at least: a file is written, and the text.
+FEWEST = {"malloc": 1, "read": 1, "write": 2, "open": 1}
 STATUSES = {"malloc": (6,), "read": (1,), "write": (1, 7), "open": (1,)}
 PLAN = "lanes,2\nmetaframe,32\nwarmup,4\nchannel,1,one.pcap\nchannel,2,two.pcap\n"
 # A frame of a calendar of two entries, the second of them off.
@@ -95,20 +99,20 @@ class Case:
     def undisturbed(self):
         """The run without the library; None, and a failure, where it is not one in which something can fail."""
         right = left_by(self.program, self.words, self.before, SECONDS)
-        if right.status == 0 and right.text and not right.error and right.files != self.before:
+        if right.status == 0 and right.text and not right.error:
             return right
         self.tally.count(self.name, "undisturbed it ends with status %s, text %r and standard error %r" % (right.status, right.text[:80], right.error[:80]))
         return None
 
     def calls(self, right):
-        """Each call of the run, as the library counts them: its kind and its number. None where it does not see all kinds."""
+        """Each call of the run, as the library counts them: its kind and its number. None where it does not see enough of them."""
         with tempfile.NamedTemporaryFile() as file:
             file.write(bytes(8 * len(KINDS)))
             file.flush()
             counted = self.run(FAIL_COUNTS=file.name)
             with open(file.name, "rb") as counts:
                 found = struct.unpack("%dq" % len(KINDS), counts.read())
-        if counted != right or 0 in found:
+        if counted != right or any(count < FEWEST[kind] for kind, count in zip(KINDS, found)):
             told = ", ".join("%d of %s" % pair for pair in zip(found, KINDS))
             self.tally.count(self.name, "with the library it ends with status %s and %r, and makes calls: %s" % (counted.status, counted.text[:80], told))
             return None
@@ -143,7 +147,7 @@ def arguments():
     parser.add_argument("library", type=os.path.abspath)
     parser.add_argument("--seconds", type=float, default=120)
     parser.add_argument("cases", nargs="*", default=list(CASES), metavar="CASE")
-    return parser.parse_args()
+    return parser.parse_intermixed_args()
 
 
 def main():

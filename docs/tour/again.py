@@ -4,14 +4,16 @@ The paths are computed from the events file by the rules of both ends. The scrip
 printed and the words that it wrote are not those that come of it.
 """
 
-from drawing.files import must_agree
-from drawing.svg import COLOURS, Picture
+from drawing.svg import COLOURS, Picture, length_of
+from reading.files import must_agree
 
 PLAN = "again.plan"
 ROOM, CONTROL = 1024, 2
 MANY = 8  # a row of more events than these is drawn as one
 STEP, TOP = 25, 46
-EVENTS, SENDER, RECEIVER, WIDTH = 8, 290, 580, 900
+EVENTS, WAY, GAP = 8, 290, 10
+LEGEND = "blue: pieces; green: acknowledgements, which have the number of the piece that the receiver waits for; rows of more than %d events are one line" % MANY
+SENDER, RECEIVER = "sender", "receiver"
 LOST_AFTER = 0.7  # of the way that a lost thing would have gone
 
 
@@ -31,17 +33,17 @@ class Path:
     def sides(self):
         return (SENDER, RECEIVER) if self.is_piece else (RECEIVER, SENDER)
 
-    def start(self, last):
+    def start(self, columns, last):
         """Where it sets out: at its side, or, where it is a copy, on the way of the other."""
         y = height(self.begins)
         if self.copied is None:
-            return self.sides()[0], y
-        (from_x, from_y), (to_x, to_y) = self.copied.start(last), self.copied.aim(last)
+            return columns[self.sides()[0]], y
+        (from_x, from_y), (to_x, to_y) = self.copied.start(columns, last), self.copied.aim(columns, last)
         return from_x + (to_x - from_x) * (y - from_y) / (to_y - from_y), y
 
-    def aim(self, last):
+    def aim(self, columns, last):
         """Where it arrives, or would have where it is lost; what is still on its way arrives after the last moment."""
-        return self.sides()[1], height(last + 1 if self.ends is None else self.ends)
+        return columns[self.sides()[1]], height(last + 1 if self.ends is None else self.ends)
 
 
 class Link:
@@ -144,19 +146,31 @@ def span(numbers):
     return "%d" % numbers[0] if numbers[0] == numbers[-1] else "%d to %d" % (numbers[0], numbers[-1])
 
 
-def draw_notes(picture, link):
+def notes_of(link):
+    """What stands beside the two sides, as (moment, side, text)."""
     groups = {}
     for moment, side, pattern, numbers in link.notes:
         groups.setdefault((moment, side, pattern), []).append(numbers)
-    for (moment, side, pattern), lists in groups.items():
-        text = pattern % tuple(span(numbers) for numbers in zip(*lists))
-        colour = COLOURS["lost"] if "drops" in text or "lost" in text else "#17202a"
-        picture.text(side + (10 if side == RECEIVER else -10), height(moment) + 4, text, colour, "start" if side == RECEIVER else "end")
+    return [(moment, side, pattern % tuple(span(numbers) for numbers in zip(*lists))) for (moment, side, pattern), lists in groups.items()]
 
 
-def draw_path(picture, path, last):
+def columns_of(begins, notes):
+    """Where the sender and the receiver stand, and the width of the picture, by the longest texts beside them."""
+    longest = {side: max([length_of(text) for _, of, text in notes if of == side], default=0) for side in (SENDER, RECEIVER)}
+    sender = EVENTS + max(length_of(row) for _, row in begins) + 2 * GAP + longest[SENDER] + GAP
+    width = max(sender + WAY + GAP + longest[RECEIVER] + GAP, EVENTS + length_of(LEGEND) + GAP)
+    return {SENDER: sender, RECEIVER: sender + WAY}, width
+
+
+def draw_notes(picture, columns, notes):
+    for moment, side, text in notes:
+        colour = COLOURS["lost"] if "drops" in text or "lost" in text else COLOURS["ink"]
+        picture.text(columns[side] + (GAP if side == RECEIVER else -GAP), height(moment) + 4, text, colour, "start" if side == RECEIVER else "end")
+
+
+def draw_path(picture, path, columns, last):
     colour = COLOURS[1] if path.is_piece else COLOURS[2]
-    (x, y), (to_x, to_y) = path.start(last), path.aim(last)
+    (x, y), (to_x, to_y) = path.start(columns, last), path.aim(columns, last)
     if path.ends is not None and not path.is_lost:
         picture.arrow(x, y, to_x, to_y, colour)
         return
@@ -173,20 +187,22 @@ def draw(folder, path):
     printed = folder.run("resend", PLAN)
     begins, last = run_of(link, folder.rows(plan["events"]))
     check(link, folder.words(plan["out"] + ".words"), folder, printed)
-    picture = Picture(WIDTH, TOP + STEP * last + 40)
+    notes = notes_of(link)
+    columns, width = columns_of(begins, notes)
+    picture = Picture(width, TOP + STEP * last + 40)
     for moment, row in begins:
-        picture.line(EVENTS, height(moment) - STEP / 2, WIDTH - EVENTS, height(moment) - STEP / 2, COLOURS["grid"])
+        picture.line(EVENTS, height(moment) - STEP / 2, width - EVENTS, height(moment) - STEP / 2, COLOURS["grid"])
         picture.text(EVENTS, height(moment) + 4, row, COLOURS["note"])
-    for x, name in ((SENDER, "sender"), (RECEIVER, "receiver")):
+    for name, x in columns.items():
         picture.line(x, TOP - 8, x, height(last), COLOURS["sync"])
         picture.text(x, TOP - 16, name, anchor="middle")
     picture.text(EVENTS, TOP - 16, "events", COLOURS["note"])
     seen = set()
     for way in link.paths:
-        drawn = (way.start(last), way.aim(last), way.is_lost)
+        drawn = (way.start(columns, last), way.aim(columns, last), way.is_lost)
         if drawn not in seen:
             seen.add(drawn)
-            draw_path(picture, way, last)
-    draw_notes(picture, link)
-    picture.text(EVENTS, height(last) + 22, "blue: pieces; green: acknowledgements, which have the number of the piece that the receiver waits for; rows of more than %d events are one line" % MANY)
+            draw_path(picture, way, columns, last)
+    draw_notes(picture, columns, notes)
+    picture.text(EVENTS, height(last) + 22, LEGEND)
     picture.save(path)

@@ -19,7 +19,7 @@ sys.path.insert(0, os.path.join(HERE, "..", "..", "tools"))
 import again
 import status
 from drawing import command
-from drawing.files import Folder
+from reading.files import Folder
 
 # Each command of the tour, the file that it takes, and the pictures that are drawn after it: their kinds and names.
 PAGES = [("burst", "damaged.plan", []), ("link", "damaged.plan", [("lanes", "lanes"), ("stream", "stream")]), ("duplex", "two_ends.duplex", [("queues", "two_ends")])]

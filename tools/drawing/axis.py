@@ -3,19 +3,10 @@
 from bisect import bisect_right
 from collections import namedtuple
 
+from reading.intervals import merged
+
 # What stands from `first` up to, and not with, `last`, drawn from `x` on.
 Piece = namedtuple("Piece", "first last x width folded")
-
-
-def merged(intervals, apart=0):
-    """Intervals in order, those joined that are at most `apart` from each other."""
-    joined = []
-    for begin, end in sorted(intervals):
-        if joined and begin <= joined[-1][1] + apart:
-            joined[-1][1] = max(joined[-1][1], end)
-        else:
-            joined.append([begin, end])
-    return [(begin, end) for begin, end in joined]
 
 
 def folded(first, last, keep, least):

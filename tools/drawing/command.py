@@ -5,13 +5,14 @@ import os
 import sys
 import tempfile
 
-from drawing.files import Folder, Refused
-from drawing.lane_bits import read_lanes
+from reading.agreement import must_be_in_lanes, must_be_of_run, must_fill_lanes
 from drawing.lanes import draw_lanes
-from drawing.plans import Plan, Schedule, Settings, are_settings
 from drawing.queues import draw_queues
 from drawing.stream import draw_stream
-from drawing.words import Stream, read_spans
+from reading.files import Folder, Refused
+from reading.lane_bits import read_lanes
+from reading.plans import Plan, Schedule, Settings, are_settings
+from reading.words import Stream, read_spans
 
 
 def options_of(words):
@@ -92,24 +93,48 @@ def sent_prefix(work, plan, folder):
     return prefix
 
 
+def damage_of(by_lane):
+    """By slot its damaged places, (lane, first bit, last bit)."""
+    damaged = {}
+    for lane, slots in by_lane.items():
+        for slot, bits in slots.items():
+            damaged.setdefault(slot, []).append((lane, *bits))
+    return damaged
+
+
+def damage_by_schedule(plan, schedule):
+    """The same, of the bits that a schedule inverts."""
+    damaged = {}
+    for lane, flips in enumerate(schedule.flips):
+        for bit in flips:
+            slot, place = plan.slot_of(lane, bit), bit + schedule.skew[lane]
+            if slot is not None:
+                damaged.setdefault(slot, []).append((lane, place, place))
+    return damaged
+
+
 def draw_plan(work):
     folder = work.folder
     plan = Plan(folder, work.options.plan)
     schedule = Schedule(folder, plan)
     need_plan_files(work, plan)
-    damaged = {plan.slot_of(lane, bit) for lane in range(plan.lanes) for bit in schedule.flips[lane]} - {None}
-    skew = schedule.skew[0]
+    damaged, skew = damage_by_schedule(plan, schedule), schedule.skew[0]
     if work.wants("lanes"):
         with tempfile.TemporaryDirectory() as temporary:
             lanes, as_sent = read_lanes(folder, plan, schedule, sent_prefix(work, plan, temporary), work.text)
-        damaged = set().union(*(lane.damaged_slots(plan) for lane in lanes))
+        damaged = damage_of({lane.number: lane.damaged_slots(plan) for lane in lanes})
         skew = lanes[0].front
         work.save(lambda path: draw_lanes(lanes, plan, as_sent, path), plan.out, "lanes")
     if work.wants("stream"):
         stream = Stream(folder, plan.out + ".words", plan)
         spans = read_spans(folder, plan.out + ".spans.csv", plan, skew, stream.count)
         came = {channel: folder.packets("%s.%d.pcap" % (plan.out, channel)) for channel in plan.channels}
-        damaged = {slot for slot in damaged if slot < stream.count}
+        must_be_of_run(stream, plan.out + ".words", plan, spans, came, work.text)
+        if work.wants("lanes"):
+            sizes = [folder.size("%s.lane.%d" % (plan.out, lane)) for lane in range(plan.lanes)]
+            must_fill_lanes(stream, plan.out + ".words", plan, sizes, schedule.skew)
+            must_be_in_lanes(stream, plan.out + ".words", plan, lanes, spans)
+        damaged = {slot: places for slot, places in damaged.items() if slot < stream.count}
         work.save(lambda path: draw_stream(stream, plan, spans, damaged, came, path), plan.out, "stream")
 
 

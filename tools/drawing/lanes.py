@@ -1,9 +1,10 @@
 """Draws lanes from their first bit: the ones of their skews, their Sync words, their first locks, the groups and the damaged bits."""
 
-from drawing.axis import best_scale, folded, merged, rows_of
-from drawing.lane_bits import groups_of
-from drawing.plans import CODE
+from drawing.axis import best_scale, folded, rows_of
 from drawing.svg import COLOURS, LINE, Labels, Picture, length_of, wrapped
+from reading.intervals import merged
+from reading.lane_bits import groups_of
+from reading.plans import CODE
 
 LEFT, WIDTH, SCALE = 66, 900, 0.052
 FEW_LANES, FEW_FRAMES, MOST_PARTS, FOLD, FRAME = 6, 14, 40, 36, 16

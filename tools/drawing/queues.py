@@ -2,9 +2,10 @@
 
 from bisect import bisect_left, bisect_right
 
-from drawing.axis import Piece, Row, best_scale, folded, merged, rows_of
+from drawing.axis import Piece, Row, best_scale, folded, rows_of
 from drawing.svg import COLOURS, LINE, Labels, Picture, channel_colours, length_of, wrapped
 from drawing.two_ends import Link, check, run_of
+from reading.intervals import merged
 
 LEFT, RIGHT, WIDTH = 130, 885, 900
 FOLD, LEAST_QUIET = 60, 60

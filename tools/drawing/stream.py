@@ -2,7 +2,7 @@
 
 from drawing.axis import best_scale, folded, rows_of
 from drawing.svg import COLOURS, LINE, Labels, Picture, channel_colours, length_of, wrapped
-from drawing.words import meets
+from reading.words import meets
 
 LEFT, WIDTH, FOLD = 104, 900, 48
 ROOM = WIDTH - LEFT - 30
@@ -12,6 +12,7 @@ MOST_ROWS, LEAST_SCALE = 30, 3
 MOST_STRIPS = 6  # channels of a row that have strips of their own where none of their packets is lost
 STRIP, EDGE = 36, 5
 MOST_LINES = 3  # of texts of spans over a row
+MOST_NAMED = 4  # lanes that are named in the text of damaged slots
 
 
 def marks_of(stream, spans, damaged, lost):
@@ -49,7 +50,7 @@ class Strip:
 
 class Drawing:
     def __init__(self, stream, plan, spans, damaged, came):
-        self.stream, self.spans, self.damaged, self.came = stream, spans, sorted(damaged), came
+        self.stream, self.spans, self.damaged, self.places, self.came = stream, spans, sorted(damaged), damaged, came
         self.lost = [packet for packet in stream.packets if any(meets(span, packet) for span in spans)]
         self.colours = channel_colours(plan.channels)
         self.parts = parts_of(stream, spans, self.damaged, self.lost)
@@ -66,7 +67,8 @@ class Drawing:
         for first, last, count in self.damaged_places(row):
             few = {1: "slot %d is damaged" % first, 2: "slots %d and %d are damaged" % (first, last)}
             text = few.get(count, "%d of slots %d to %d are damaged" % (count, first, last))
-            under.place(row.x(first) + 4, text, COLOURS["lost"])
+            places = [place for slot in self.damaged if first <= slot <= last for place in self.places[slot]]
+            under.place(row.x(first) + 4, "%s: %s" % (text, places_text(places)), COLOURS["lost"])
         return over, under, self.strips_of(row)
 
     def shown_part(self, row, span):
@@ -125,7 +127,7 @@ class Drawing:
         for channel in sorted({packet.channel for packet in self.stream.packets} | set(self.came)):
             sent = [packet for packet in self.stream.packets if packet.channel == channel and packet.last is not None]
             met = sum(packet in self.is_lost for packet in sent)
-            right = [packet.data for packet in sent if packet not in self.is_lost]
+            right = [packet.data for packet in sent if packet not in self.is_lost and packet.end & 8]
             came = self.came.get(channel, [])
             if met or right != came:
                 notes.append(("channel %d: %d packets sent, %d met by spans, %d came" % (channel, len(sent), met, len(came)), right == came))
@@ -243,6 +245,17 @@ class Drawing:
         return "; ".join(parts)
 
 
+def places_text(places):
+    """The lanes of damaged places, (lane, first bit, last bit) each, and their bits where they are of one lane."""
+    lanes = sorted({lane for lane, _, _ in places})
+    if len(lanes) > MOST_NAMED:
+        return "%d lanes" % len(lanes)
+    if len(lanes) > 1:
+        return "lanes %s" % ", ".join("%d" % lane for lane in lanes)
+    first, last = min(first for _, first, _ in places), max(last for _, _, last in places)
+    return "lane %d, bit%s" % (lanes[0], " %d" % first if first == last else "s %d to %d" % (first, last))
+
+
 def span_text(number, span):
     if span.after is None and span.before is None:
         return "span %d of all slots: %s" % (number, span.why)
@@ -263,7 +276,8 @@ def spans_text(spans):
 
 
 def draw_stream(stream, plan, spans, damaged, came, path):
-    """Draws a stream; `came` has the packets of the captures by channel. Returns how many words, packets, lost packets and spans there are."""
+    """Draws a stream; `damaged` has by slot its damaged places, (lane, first bit, last bit), and `came` the packets of the captures by
+    channel. Returns how many words, packets, lost packets and spans there are."""
     drawing = Drawing(stream, plan, spans, damaged, came)
     drawing.draw().save(path)
     return {"words": stream.count, "packets": len(stream.packets), "lost": len(drawing.lost), "spans": len(spans)}

@@ -5,8 +5,8 @@ The program tells packets, bytes and peaks alone. What is computed here is compa
 
 from collections import deque, namedtuple
 
-from drawing.files import Refused, must_agree
-from drawing.plans import Plan, Settings
+from reading.files import Refused, must_agree
+from reading.plans import Plan, Settings
 
 TURN_ENTRIES = 16
 
@@ -29,15 +29,13 @@ class Link:
         self.turns = -(-len(self.entries) // TURN_ENTRIES)
         self.burst_max, self.burst_min, self.apart = plan.burst_max, plan.burst_min, plan.burst_short // 8
         self.first_burst = plan.warmup * plan.group
-        strange = [channel for channel in settings.back if channel not in plan.captures]
-        if strange:
-            raise Refused("%s: a capture of end b for channel %d, which is not listed" % (name, strange[0]))
+        settings.must_fit(plan)
         self.packets = {"a": {c: folder.packets(name) for c, name in plan.captures.items() if name}, "b": {c: folder.packets(name) for c, name in settings.back.items()}}
         longest = self.burst_max // 8
         self.bound = self.mark + self.turns * (longest + 1) + longest + 2 * self.delay + 2
 
     def size(self, left):
-        """The bytes of the next burst of a packet with so many left."""
+        """The bytes of the next burst of a packet that has this many left."""
         if self.burst_max < left < self.burst_max + self.burst_min:
             return self.burst_max - self.burst_min
         return min(left, self.burst_max)

@@ -3,12 +3,13 @@
 import re
 from collections import Counter
 
-from drawing.axis import merged
-from drawing.files import must_agree
-from drawing.plans import CODE
+from reading.intervals import merged
+from reading.files import must_agree
+from reading.lane_words import words_of
+from reading.metaframes import STATE, STATE_BITS, STATE_MARK, SYNC
+from reading.plans import CODE
 
-SYNC = 0x78F678F678F678F6
-HEADERS, ILLEGAL, SEARCHED = 64, 16, 6
+FIRST_STATE = STATE  # of lane 0; that of lane i is less by i
 
 
 def bits_of(data):
@@ -27,48 +28,19 @@ def sync_words(bits):
     return sorted(found)
 
 
-def first_lock(bits, syncs, metaframe):
-    """The bit of the Sync word that declares the first lock, or None: by the rules, for the bits and their Sync words."""
-    if len(bits) < CODE * HEADERS:
-        return None
-    number = int(bits, 2)
-    legal = number ^ number << 1  # bit q of the text is 1 where header bits q and q + 1 differ
-    legal = bin(1 << len(bits) | legal & (1 << len(bits)) - 1)[3:]  # each stands one place further left in the text
-    run, reach = int(legal, 2), 1
-    while reach < HEADERS:
-        run, reach = run & run << CODE * reach, 2 * reach
-    full = bin(1 << len(bits) | run & (1 << len(bits)) - 1)[3:]
-    start = 0
-    while True:
-        # The phase p has its header's bits in p + 1 and p + 2.
-        phase = full.find("1", start + 1) - 1
-        if phase < start or phase + CODE * HEADERS > len(bits):
-            return None
-        lost, declared = headers_lost(legal, phase), declaring(syncs, phase, metaframe)
-        if declared is not None and (lost is None or declared < lost):
-            return declared
-        given_up = phase + CODE * SEARCHED * metaframe
-        start = lost + CODE if lost is not None and lost <= given_up - CODE else given_up + 1
-        if start > len(bits):
-            return None
-
-
-def headers_lost(legal, phase):
-    """The bit of the word, of those from a phase on, at which a block of 64 has its 16th illegal header; None where there is none."""
-    headers = legal[phase + 1:len(legal) - CODE + 2:CODE]
-    for block in range(0, len(headers), HEADERS):
-        wrong = [place for place in range(block, min(block + HEADERS, len(headers))) if headers[place] == "0"]
-        if len(wrong) >= ILLEGAL:
-            return phase + CODE * wrong[ILLEGAL - 1]
+def first_state(bits):
+    """The state that the Scrambler State word after the first Sync word carries, or None."""
+    for at in sync_words(bits)[:1]:
+        code = bits[at + CODE:at + 2 * CODE]
+        payload = int(code[3:] or "0", 2) ^ ((1 << 64) - 1 if code[:1] == "1" else 0)
+        if len(code) == CODE and code[1:3] == "10" and payload >> STATE_BITS == STATE_MARK:
+            return payload & STATE
     return None
 
 
-def declaring(syncs, phase, metaframe):
-    """The bit of the fourth of four Sync words a metaframe apart, of the words from a phase on, before the search is given up."""
-    period, there = CODE * metaframe, set(syncs)
-    last = phase + CODE * SEARCHED * metaframe
-    return next((at + 3 * period for at in syncs if at >= phase and (at - phase) % CODE == 0 and at + 3 * period < last
-                 and all(at + n * period in there for n in (1, 2, 3))), None)
+def first_lock(bits, syncs, plan):
+    """The bit of the Sync word that declares the first lock, or None."""
+    return next((word.bit for word in words_of(bits, syncs, plan) if word.lock == "declared"), None)
 
 
 class Lane:
@@ -78,7 +50,7 @@ class Lane:
     def __init__(self, number, data, plan):
         self.number, self.bits = number, bits_of(data)
         self.syncs = sync_words(self.bits)
-        self.lock = first_lock(self.bits, self.syncs, plan.metaframe)
+        self.lock = first_lock(self.bits, self.syncs, plan)
         self.front, self.inverted, self.dark, self.other, self.changed = 0, [], [], [], None
         self.report, self.note = {}, ""
 
@@ -125,14 +97,20 @@ class Lane:
         return sorted([(bit, bit + 1, "inverted") for bit in self.inverted] + [(a, b, "dark") for a, b in self.dark] + [(bit, bit + 1, "changed") for bit in self.other])
 
     def damaged_slots(self, plan):
-        """The slots of the stream whose words are damaged in this lane."""
-        found = set()
+        """The slots of the stream whose words are damaged in this lane, each with the first and the last of its damaged bits."""
+        found = {}
         for first, end, _ in self.damaged():
             for word in range((first - self.front) // CODE, (end - 1 - self.front) // CODE + 1):
-                found.add(word)
+                begin = self.front + CODE * word
+                part = max(first, begin), min(end, begin + CODE) - 1
+                least, most = found.get(word, part)
+                found[word] = min(least, part[0]), max(most, part[1])
         if self.changed is not None:
-            found &= {(bit - self.front) // CODE for bit in self.changed}
-        return {slot for slot in (plan.slot_of(self.number, CODE * word) for word in found) if slot is not None}
+            changed = {(bit - self.front) // CODE for bit in self.changed}
+            found = {word: bits for word, bits in found.items() if word in changed}
+        slots = {plan.slot_of(self.number, CODE * word): bits for word, bits in found.items()}
+        slots.pop(None, None)
+        return slots
 
 
 def read_lanes(folder, plan, schedule, sent=None, text=""):

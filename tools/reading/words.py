@@ -4,12 +4,21 @@ import re
 from bisect import bisect_right
 from collections import namedtuple
 
-from drawing.files import Refused
+from reading.files import Refused
 
-# A packet of a channel by its number there, from the slot of its SOP word to that of its end word, or None; and its bytes.
-Packet = namedtuple("Packet", "channel number first last data")
-# A fault span between two slots, each None at an end of the stream; why; and whether its groups are the sender's.
-Span = namedtuple("Span", "after before why exact")
+
+class Packet(namedtuple("Packet", "channel number first last data end")):
+    """A packet of a channel by its number there, from the slot of its SOP word to that of its end word, or None; its bytes; and its end
+    format."""
+
+    def is_good(self, longest):
+        """Whether a receiver delivers it where no span meets it."""
+        return self.last is not None and self.end & 8 != 0 and len(self.data) <= longest
+
+
+# A fault span between two slots, each None at an end of the stream; why; whether its groups are the sender's; and its two places as
+# the table has them, (group, index) or None.
+Span = namedtuple("Span", "after before why exact places")
 
 
 def kind_of(tag, first):
@@ -70,16 +79,17 @@ class Stream:
         first, parts = begun
         data = b"".join(self.data[9 * at + 1:9 * at + 9] for begin, end in parts for at in range(begin, end))
         unused = 8 - (end_format & 7 or 8) if end_format & 8 else 0
-        return Packet(channel, number, first, last, data[:len(data) - unused])
+        return Packet(channel, number, first, last, data[:len(data) - unused], end_format)
 
     def runs(self, letters, least):
-        """The runs of at least so many words of these letters."""
+        """The runs of at least this many words of these letters."""
         return [match.span() for match in re.finditer("[%s]{%d,}" % (letters, least), self.kinds)]
 
 
-def read_spans(folder, name, plan, skew, count):
-    """The fault spans of a table, by slots. A group is named by the bit at which lane 0's Sync word begins; all words of a words
-    file are group 0. Where the groups do not fit the skew of lane 0 and fit none, the lanes were received as they were sent."""
+def read_spans(folder, name, plan, skew, count=None):
+    """The fault spans of a table, by slots, which are below `count`. A group is named by the bit at which lane 0's Sync word begins;
+    all words of a words file are group 0. Where the groups do not fit the skew of lane 0 and fit none, the lanes were received as they
+    were sent."""
     rows = folder.rows(name)
     if not rows or rows[0] != "after_group,after_index,before_group,before_index,why".split(","):
         raise Refused("%s: no table of fault spans" % name)
@@ -90,13 +100,23 @@ def read_spans(folder, name, plan, skew, count):
         if row[4] not in REASONS:
             raise Refused("%s: row %d: %r is no reason of a span" % (name, number, row[4][:20]))
         places.append([place_of("%s: row %d" % (name, number), part) for part in (row[:2], row[2:4])])
-    groups = [place[0] for pair in places for place in pair if place and place[0]]
-    begin = next((front for front in (skew, 0) if all((group - front) % plan.period == 0 for group in groups)), skew)
+    begin = begin_of(places, plan, skew)
     spans = []
     for number, (pair, row) in enumerate(zip(places, rows[1:]), 2):
         slots = [slot_of("%s: row %d" % (name, number), place, plan, begin, count) for place in pair]
-        spans.append(Span(*slots, row[4], all(not place or not place[0] or (place[0] - begin) % plan.period == 0 for place in pair)))
+        spans.append(Span(*slots, row[4], all(not place or is_sent(place[0], plan, begin) for place in pair), pair))
     return spans
+
+
+def begin_of(places, plan, skew):
+    """The bit of lane 0 at which its first Sync word begins: its skew, or 0 where the groups fit that alone."""
+    groups = [place[0] for pair in places for place in pair if place and place[0]]
+    return next((begin for begin in (skew, 0) if all(is_sent(group, plan, begin) for group in groups)), skew)
+
+
+def is_sent(group, plan, begin):
+    """Whether a group is named by a bit at which a sent Sync word begins, or is that of a words file."""
+    return group == 0 or (group - begin) % plan.period == 0
 
 
 def place_of(where, fields):
@@ -113,7 +133,7 @@ def slot_of(where, place, plan, begin, count):
         return None
     group, index = place
     slot = max(0, group - begin) // plan.period * plan.group + index if group else index
-    if slot >= count:
+    if count is not None and slot >= count:
         raise Refused("%s: slot %d, and the words file has %d" % (where, slot, count))
     return slot
 

@@ -1,0 +1,278 @@
+"""What checks/explain.sh does, with the program and the repository as its words.
+
+Files of rows, captures, words files and samples are spoiled at random, by the same seeds each time. Of each, the tools' readers have to
+find what the program finds: the same file, the same row and the same cause, or none. Then `tools/explain` is called with the mistakes
+of MISTAKES, and has to pass on what the program printed and to say what stands there.
+"""
+
+import os
+import random
+import shutil
+import subprocess
+import sys
+import tempfile
+from collections import Counter
+
+from tally import Tally
+
+PROGRAM, TOP = os.path.abspath(sys.argv[1]), os.path.abspath(sys.argv[2])
+sys.path.insert(0, os.path.join(TOP, "tools"))
+
+from explaining.inputs import Inputs
+from reading.files import Folder
+
+# The files that are spoiled: which command reads each, how it is named there, and how many are tried.
+PLAN = """lanes,2
+metaframe,32
+skips,1
+deskew,7
+warmup,4
+burst_max,256
+burst_short,64
+burst_min,64
+channel,1,one.pcap
+channel,2,two.pcap
+channel,7
+entry,1
+entry,2
+entry,7
+max_packet,2000
+link_type,1
+flow,a.flow
+local,a.local
+schedule,a.schedule
+events,a.events
+oob,a.oob
+window,20
+wide,0
+out,a
+"""
+SETTINGS = "plan,a.plan\ndelay,10\nmark,8\nslots,600\ndrain,2\nback,1,one.pcap\nback,2,three.pcap\nout,b\n"
+FILES = {
+    "a.plan": PLAN, "a.duplex": SETTINGS, "a.schedule": "skew,0,11\nskew,1,200\nflip,0,9000\nflip,1,3\ndark,1,2000,30\ndark,0,5,1\n",
+    "a.flow": "0,81BFFF00004B8D9D\n150,81FFFF0000188177\n150,80FFFF0000000000\n", "a.local": "0,1,off\n5,2,on\n5,7,off\n40,1,on\n",
+    "a.events": "send,20\ntake,10\nlose,1\nrewind,1\nsend,30\ntake,4\nrepeat,1\ntakeback,5\nloseback,1\nrepeatback,1\n"}
+CASES = (("a.plan", "link", "a.plan", 500), ("a.duplex", "duplex", "a.duplex", 120), ("a.schedule", "link", "a.plan", 120), ("a.flow", "link", "a.plan", 100), ("a.local", "link", "a.plan", 120),
+         ("a.events", "resend", "a.plan", 100), ("a.plan", "resend", "a.plan", 30), ("a.plan", "duplex", "a.duplex", 30), ("a.plan", "oobread", "a.plan", 30))
+BYTES = (("two.pcap", "link", "a.plan", 60), ("one.pcap", "duplex", "a.duplex", 40), ("one.pcap", "burst", "one.pcap", 40), ("a.words", "join", "a.plan", 40), ("a.oob", "oobread", "a.plan", 40),
+         ("a.words", "list", "a.words", 30))
+FIELDS = ("", "0", "1", "2", "3", "7", "8", "16", "31", "32", "33", "48", "64", "65", "96", "128", "255", "256", "257", "300", "1024", "4096", "4097", "65535", "65536", "262145", "16777215", "16777216",
+          "4194304", "4194305", "999999999999", "1000000000000", "000000000000007", "0000000000000007", "-1", "+1", " 1", "1 ", "1.5", "0x10", "1e3", "on", "off", "On", "x", "one.pcap", "81FFFF0000188177",
+          "81ffff0000188177", "81FFFF000018817", "81FFFF000018817G", "\u00e9", "\u0661", "\udcff", "a\udc80", "y" * 200, "y" * 201, "y" * 255, "y" * 256)
+KEYS = ("lanes", "metaframe", "skips", "deskew", "warmup", "burst_max", "burst_short", "burst_min", "channel", "entry", "wide", "window", "out", "plan", "delay", "drain", "back", "skew", "flip", "dark",
+        "send", "take", "lose", "Lanes", "lane", "# x", "", "lanes ", "\ufefflanes")
+
+TOOL = os.path.join(TOP, "tools", "explain")
+# Mistakes: the files that are written, by their text or by the name of a file that is copied; the words; and what the tool says of
+# them, of a fault of usage its first line.
+LINK = "lanes,2\nmetaframe,32\nchannel,1,one.pcap\nchannel,2,two.pcap\nout,m\n"
+MISTAKES = [
+    ({"m.plan": "lane,2\n" + LINK}, "link m.plan", ["m.plan:1: unknown key 'lane': `lanes`?"]),
+    ({"m.plan": "Lanes,2\n" + LINK}, "link m.plan", ["m.plan:1: unknown key 'Lanes': write `lanes`, in small letters and without blanks"]),
+    ({"m.plan": "# a link\n" + LINK}, "link m.plan", ["m.plan:1: unknown key '# a link': there are no comments"]),
+    ({"m.plan": "\n\nlanes,2\n\n\nmetaframe,16\n"}, "link m.plan", ["m.plan:6: metaframe: 16 is not in 32 to 8192 (row 2: empty lines are not counted)"]),
+    ({"m.plan": "lanes,2\nchannel,1\nout,m\n"}, "link m.plan", ["m.plan: no row `metaframe`, which a plan needs"]),
+    ({"m.plan": "lanes,2\nmetaframe,32\nchannel,1,zwei.pcap\nout,m\n"}, "send m.plan", ["m.plan:3: channel 1: zwei.pcap: no such file; two.pcap is there"]),
+    ({"m.plan": "lanes,2\nmetaframe,32\nchannel,1, one.pcap\nout,m\n"}, "send m.plan", ["m.plan:3: channel 1: ' one.pcap': no such file; the name begins with a blank or an invisible character; one.pcap is there"]),
+    ({"m.plan": "lanes,2\nmetaframe,32\nchannel,one.pcap,1\nout,m\n"}, "send m.plan", ["m.plan:3: channel: 'one.pcap' is no number (1 to 15 decimal digits)"]),
+    ({"m.plan": LINK + "schedule,m.schedule\n", "m.schedule": "skew,0,11\nskew,1,200\nflip,9000,0\n"}, "link m.plan", ["m.schedule:3: flip: lane: 9000 is not in 0 to 1"]),
+    ({"m.schedule": "skew,0,11\n\nskew, 1,200\n"}, "link m.plan", ["m.schedule:3: skew: lane: ' 1' is no number (1 to 15 decimal digits; it has a blank before or after it) (row 2: empty lines are not counted)"]),
+    ({"m.plan": "lanes,0x2\nmetaframe,32\nchannel,1\nout,m\n"}, "send m.plan", ["m.plan:1: lanes: '0x2' is no number (1 to 15 decimal digits; it is not hexadecimal)"]),
+    ({"m.plan": "lanes,65\nmetaframe,32\nchannel,1\nout,m\n"}, "send m.plan", ["m.plan:1: lanes: 65 is not in 1 to 64"]),
+    ({}, "m.plan link", ["explain: the command comes first: `interlaken link m.plan`"]),
+    ({}, "lnik m.plan", ["explain: unknown command lnik: `link`?"]),
+    ({}, "", ["explain: no words: a command and what it takes are wanted"]),
+    ({}, "link -x", ["explain: FILE: -x begins with a dash; write ./-x"]),
+    ({}, "generate 18446744073709551616 m", ["explain: NUMBER: 18446744073709551616 is not below 2^64"]),
+    ({"m.plan": LINK + "deskew,16\n"}, "link m.plan", ["m.plan:6: deskew: 16 clashes with metaframe,32 of line 2: metaframe must be more than 2 * deskew"]),
+    ({"m.plan": "lanes,2\nmetaframe,32\nchannel,1,one.pcap\nchannel,300\nout,m\n"}, "link m.plan", ["m.plan:4: channel: 300 clashes with the default wide,0: channel 300 needs wide,1"]),
+    ({"m.plan": "lanes,2\nmetaframe,32\nchannel,1,o.pcapng\nout,m\n", "o.pcapng": b"\n\r\r\n\x1c\0\0\0"}, "link m.plan", [
+        "o.pcapng: a pcapng capture, which is not read; `editcap -F pcap o.pcapng o.pcap` makes a classic one of it (named in m.plan:3)"]),
+    ({"d.txt": LINK}, "burst d.txt", ["d.txt is a plan, and a capture is wanted here: `burst` takes FILE as a plan only where its name ends in .plan"]),
+    ({}, "link one.pcap", ["one.pcap is a capture, and a plan is wanted here, whose rows `channel,c,FILE` name captures"]),
+    ({}, "link two_ends.duplex", ["two_ends.duplex is a settings file of two ends, and a plan is wanted here: `interlaken duplex two_ends.duplex` takes it",
+                                  "two_ends.duplex:1: unknown key 'plan': it is a key of a settings file of two ends, and this is read as a plan"]),
+    ({"m.duplex": "plan,two_ends.plan\ndelay,10\nmark,99999\nslots,500\nout,m\n"}, "duplex m.duplex", ["m.duplex:3: mark: 99999 is not in 1 to 65536"]),
+    ({"m.duplex": "plan,two_end.plan\ndelay,10\nmark,99\nslots,500\nout,m\n"}, "duplex m.duplex", ["m.duplex:1: plan: two_end.plan: no such file; two_ends.plan is there"]),
+    ({"m.duplex": "plan,two_ends.plan\ndelay,10\nmark,99\nslots,500\nback,9,one.pcap\nout,m\n"}, "duplex m.duplex", ["m.duplex:5: back: two_ends.plan does not list channel 9"]),
+    ({"m.plan": "lanes,2\nmetaframe,32\nchannel,1\nout,x/y/z\n"}, "send m.plan", ["x/y/z.lane.0: the folder x/y is not there; `mkdir -p x/y` makes it"]),
+    ({"m.plan": "lanes,2\nmetaframe,32\nchannel,1\nout,one.pcap/z\n"}, "send m.plan", ["one.pcap/z.lane.0: one.pcap is no folder"]),
+    ({"m.plan": "lanes,2\nmetaframe,32\nchannel,1\nout,full\n"}, "burst m.plan", ["full.words: it is /dev/full, which is no file of a disk"]),
+    ({"m.plan": LINK}, "receive m.plan", ["m.lane.0: no such file; `interlaken link m.plan` writes it"]),
+    ({"m.txt": "words\ndata 0001020304050607\ndata 00010203040506\n"}, "assemble m.txt", [
+        "m.txt:3: 'data 00010203040506' is no line of a listing: 14 digits, and not 16; the lines after `words` are `data X`, `bad X`, `control X` (X: 16 digits of 0 to 9 and A to F), "
+        "`idle sop=..` or `burst sop=..`"]),
+    ({"m.plan": LINK + "schedule,m.schedule\nflow,m.flow\n", "m.schedule": "skew,0,11\nskew,1,700\nflip,0,9000\nflip,1,90000\nflip,0,9000\n", "m.flow": "0,81BFFF00004B8D9E\n"}, "link m.plan", [
+        "m.flow:1: warning: word: 81BFFF00004B8D9E changes nothing: its CRC24 is wrong: 81BFFF00004B8D9D has the right one",
+        "m.schedule:2: warning: skew: lanes 0 and 1 lie 689 bits apart, more than deskew,7 aligns, 469 bits (7 words of 67): the lanes will not align",
+        "m.schedule:5: warning: flip: bit 9000 of lane 0 is named 2 times, first in line 3, and stays as it was",
+        "m.schedule:4: warning: flip: bit 90000 is after the end of lane 1, which has bits 0 to 23583: it strikes nothing",
+        "m: warning: all lanes are locked, and do not align: their Sync words lie 689 bits apart, and deskew,7 aligns 469"]),
+    ({"m.flow": "0,81BFFF00004B8D9D\n", "m.schedule": "skew,0,11\ndark,1,21000,1000\nflip,1,21001\n"}, "link m.plan", [
+        "m.schedule:3: warning: flip: bit 21001 of lane 1 is dark, and stays 0",
+        "m.schedule:2: warning: dark: bits 21000 to 21999 go beyond the end of lane 1, which has bits 0 to 21439: it strikes 440 bits of 1000",
+        "m.flow:1: warning: channel 2 is turned off here and not turned on again: 2 of its packets are left"]),
+    ({}, "link damaged.plan", []),
+    ({}, "receive damaged.plan", []),
+    ({"x.lane.0": "damaged.lane.1", "x.lane.1": "damaged.lane.0", "x.plan": LINK.replace("out,m", "out,x")}, "receive x.plan", [
+        "x.lane.0: warning: it begins with the scrambler state of lane 1: are the files of lanes exchanged?",
+        "x.lane.1: warning: it begins with the scrambler state of lane 0: are the files of lanes exchanged?"]),
+]
+
+
+def spoil_row(chance, row):
+    """A row with one of its fields changed, left out or added."""
+    row = list(row)
+    place = chance.randrange(len(row))
+    how = chance.random()
+    if how < 0.15:
+        row.pop(place)
+    elif how < 0.3:
+        row.insert(place, chance.choice(FIELDS))
+    elif place == 0:
+        row[0] = chance.choice(KEYS + FIELDS if how < 0.6 else FIELDS)
+    else:
+        row[place] = chance.choice(FIELDS)
+    return row
+
+
+def spoil_rows(chance, rows):
+    """Rows of which one is changed, left out, repeated, moved or added, or many of one key are added."""
+    place, how = chance.randrange(len(rows)), chance.random()
+    if how < 0.55:
+        rows[place] = spoil_row(chance, rows[place])
+    elif how < 0.65:
+        rows.pop(place)
+    elif how < 0.75:
+        rows.insert(chance.randrange(len(rows)), list(rows[place]))
+    elif how < 0.83:
+        rows.append(rows.pop(place))
+    elif how < 0.9:
+        rows.insert(place, [chance.choice(KEYS), chance.choice(FIELDS)])
+    elif how < 0.93:
+        rows[place:place] = [[chance.choice(("entry", "channel", "back", "flip", "send")), "%d" % n, "1"][:chance.choice((2, 2, 3))] for n in range(chance.choice((3, 300, 1030)))]
+    else:
+        rows.insert(place, [chance.choice(("", " ", "#"))])
+    return rows or [["x"]]
+
+
+def spelled(chance, field):
+    if chance.random() < 0.03 or set(field) & set(',"\r\n'):
+        return '"%s"' % field.replace('"', '""')
+    return field
+
+
+def text_of(chance, rows):
+    """Rows as bytes, with one of the ends of lines, empty lines here and there, and a byte order mark now and then."""
+    end = chance.choice(("\n", "\n", "\r\n", "\r"))
+    lines = [",".join(spelled(chance, field) for field in row) + end * (1 + (chance.random() < 0.05)) for row in rows]
+    text = ("\ufeff" if chance.random() < 0.1 else "") + "".join(lines)
+    return text.encode("utf-8", "surrogateescape")
+
+
+def spoil_bytes(chance, data):
+    """Bytes of which one is changed, left out or added, or which end early."""
+    at, how = chance.randrange(len(data) + 1), chance.random()
+    some = bytes([chance.choice((0, 1, 2, 3, 8, 10, 13, 34, 44, 48, 57, 255, chance.randrange(256)))])
+    if chance.random() < 0.3:
+        at = min(at, 9 * chance.randrange(12))
+    return data[:at] + (some + data[at + 1:] if how < 0.5 else data[at + 1:] if how < 0.65 else some + data[at:] if how < 0.8 else b"" if how < 0.95 else data)
+
+
+def refusal_of(folder, command, name):
+    """What the tools' readers find, in the program's words."""
+    refused = Inputs(folder, command, name, True).refused
+    if refused is None:
+        return None
+    if refused.told is None:
+        return "status 1: store fault: %s" % refused.name
+    return "plan refused: %s" % refused.told if refused.is_plan else "input refused: %s: %s" % (refused.name, refused.told)
+
+
+def told_by(folder, words):
+    """The refusal that the program prints, or nothing."""
+    done = subprocess.run([PROGRAM] + words, cwd=folder.folder, stdin=subprocess.DEVNULL, capture_output=True)
+    text = done.stdout.decode("utf-8", "replace").rstrip("\n")
+    return text if done.returncode in (4, 5) else None if done.returncode in (0, 3) else "status %d: %s" % (done.returncode, text)
+
+
+def compare(tally, folder, what, command, name, causes):
+    wanted = told_by(folder, [command, name])
+    tally.expect("%s, %s" % (what, command), refusal_of(folder, command, name), wanted)
+    causes[(command, "accepted" if wanted is None else wanted.split(": ")[-1].split(" ")[0])] += 1
+
+
+def check_spoiled(tally, folder, causes):
+    """Files that are spoiled, one at a time."""
+    for file, command, name, count in CASES + BYTES:
+        with open(folder.path(file), "rb") as kept:
+            data = kept.read()
+        for number in range(count):
+            chance = random.Random("%s %s %d" % (file, command, number))
+            spoiled = data
+            if file in FILES and chance.random() < 0.88:
+                rows = [line.split(",") for line in data.decode().splitlines()]
+                for _ in range(chance.choice((1, 1, 2, 3))):
+                    rows = spoil_rows(chance, rows)
+                spoiled = text_of(chance, rows)
+            else:
+                for _ in range(chance.choice((1, 1, 2))):
+                    spoiled = spoil_bytes(chance, spoiled)
+            with open(folder.path(file), "wb") as changed:
+                changed.write(spoiled)
+            compare(tally, folder, "%s, spoiled %d" % (file, number), command, name, causes)
+            for other in os.listdir(folder.folder):
+                if ".lane." in other:
+                    os.remove(folder.path(other))
+        with open(folder.path(file), "wb") as changed:
+            changed.write(data)
+
+
+def check_causes(tally, causes):
+    """That what was tried has each cause that the program names of rows, and files that are accepted."""
+    for command, wanted in (("link", ("text", "key", "fields", "number", "range", "repeat", "clash", "missing", "no", "accepted")), ("duplex", ("key", "fields", "number", "range", "repeat", "clash", "missing", "accepted")),
+                            ("resend", ("key", "fields", "number", "range"))):
+        for cause in wanted:
+            tally.count("`%s` with the cause %s" % (command, cause), "" if causes[(command, cause)] else "was not tried")
+
+
+def check_mistakes(tally, folder):
+    """That the tool passes on what the program prints, and says what each mistake is."""
+    os.symlink("/dev/full", folder.path("full.words"))
+    for files, command, wanted in MISTAKES:
+        for name, data in files.items():
+            is_copy = isinstance(data, str) and folder.has(data)
+            with open(folder.path(name), "wb") as file:
+                file.write(folder.content(data) if is_copy else data if isinstance(data, bytes) else data.encode())
+        words = command.split(" ") if command else []
+        alone = subprocess.run([PROGRAM] + words, cwd=folder.folder, capture_output=True)
+        done = subprocess.run([TOOL, "--program", PROGRAM] + words, cwd=folder.folder, capture_output=True)
+        tally.expect("explain %s, text and status" % command, (done.stdout, done.returncode), (alone.stdout, alone.returncode))
+        lines = done.stderr.decode().splitlines()
+        tally.expect("explain %s" % command, lines[:1] if alone.returncode == 2 else lines, wanted)
+    with open("/dev/full", "w") as full:
+        statuses = [subprocess.run(words + ["burst", "one.pcap"], cwd=folder.folder, stdout=full, stderr=subprocess.DEVNULL).returncode for words in ([PROGRAM], [TOOL, "--program", PROGRAM])]
+    tally.expect("explain with a standard output that is full", statuses, [7, 7])
+
+
+def main():
+    tally = Tally("explain")
+    with tempfile.TemporaryDirectory() as path:
+        shutil.copytree(os.path.join(TOP, "examples"), path, dirs_exist_ok=True)
+        folder = Folder(PROGRAM, path)
+        for name, text in FILES.items():
+            with open(folder.path(name), "w", encoding="utf-8") as file:
+                file.write(text)
+        for command in ("oobwrite", "burst"):
+            done = subprocess.run([PROGRAM, command, "a.plan"], cwd=path, capture_output=True)
+            if done.returncode or not (folder.has("a.oob") if command == "oobwrite" else folder.has("a.words")):
+                tally.give_up("%s a.plan" % command, "status %d, and no file to spoil" % done.returncode)
+        causes = Counter()
+        check_spoiled(tally, folder, causes)
+        check_causes(tally, causes)
+        check_mistakes(tally, folder)
+    return tally.end()
+
+
+if __name__ == "__main__":
+    sys.exit(main())

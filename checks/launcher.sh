@@ -1,0 +1,235 @@
+#!/usr/bin/env bash
+# Runs the launcher in a small tree, with programs that print who they are and an rt that proves nothing: which program is run
+# where, what is built and when; and there tools/release, the check of the release, checks/run with checks that end in each way, and
+# the gate.
+set -u
+top=$(cd "$(dirname "${BASH_SOURCE[0]}")/.." && pwd)
+. "$top/checks/tally.bash"
+[ -x "$top/interlaken" ] || gives_up 'there is no launcher'
+wants python3 python3
+folder=$(mktemp -d)
+trap 'rm -rf "$folder"' EXIT
+tree=$folder/a\ tree
+mkdir -p "$tree"/{release,checks,tools,.ci} "$folder"/{bin,elsewhere} "$tree"/crates/{low,interlaken,interlaken_main,beside}/src
+cp "$top/interlaken" "$tree"
+cp -r "$top"/tools/{sources.bash,build,building,release} "$tree/tools/"
+cp "$top"/checks/{run,release.sh,*.bash} "$tree/checks/"
+cp "$top/.ci/run" "$tree/.ci/"
+printf '%s\n' 'low:' 'interlaken: low' 'interlaken_main: interlaken low' 'beside: low' >"$tree/crates.txt"
+echo 'Handles allowed: none.' >"$tree/HANDLES"
+for crate in low interlaken interlaken_main beside; do
+  echo "$crate as released" >"$tree/crates/$crate/src/lib.rt"
+done
+
+# A program that prints who it is, and its words one a line.
+program_of() { # NAME
+  printf '%s\n' '#!/bin/sh' '[ $# -gt 0 ] || { echo usage: none; exit 2; }' "printf '%s\n' '$1' \"\$@\"" "echo odd >&2" 'exit 5'
+}
+
+# The rt that is tried with: a crate whose source says wrong is not proved. A file `meanwhile` names one that is changed during the build.
+cat >"$folder/bin/rt" <<'RT'
+#!/usr/bin/env bash
+[ "$1" = ci ] || { echo a kit; exit; }
+here=$(dirname "$0")/..
+echo "$* jobs=${RT_JOBS:-}" >>"$here/calls"
+[ ! -f "$here/meanwhile" ] || echo changed >>"$(cat "$here/meanwhile")"
+status=0
+for crate in low interlaken interlaken_main; do
+  echo "== $crate"
+  if grep -q wrong "crates/$crate/src/lib.rt"; then
+    echo 'goal: open' && echo "rt: $crate NOT PROVED" && status=1
+  else
+    echo "rt: $crate proved"
+  fi
+done
+mkdir -p crates/interlaken_main/out
+[ "$status" -ne 0 ] || install "$here/built" crates/interlaken_main/out/interlaken_main
+exit "$status"
+RT
+chmod +x "$folder/bin/rt"
+program_of release >"$tree/release/interlaken-x86_64-linux"
+program_of built >"$folder/built"
+chmod +x "$tree/release/interlaken-x86_64-linux" "$folder/built"
+
+# Sets text, errors and status to what the launcher gives, with or without an rt that can be found. settings are put before it.
+launch() { # [with|without] WORDS..
+  local path=/usr/bin:/bin
+  [ "$1" = without ] || path=$folder/bin:$path
+  shift
+  text=$(cd "$folder/elsewhere" && env -i XDG_CACHE_HOME="$folder/cache" PATH="$path" "${settings[@]}" "$tree/interlaken" "$@" 2>"$folder/errors")
+  status=$?
+  errors=$(cat "$folder/errors")
+}
+
+# A launch, in one line: the program's name, or nothing where none was run.
+ran() { # WHAT WANTED [with|without] WORDS..
+  local what=$1 wanted=$2
+  shift 2
+  launch "$@"
+  holds "$what" "$status $(head -n 1 <<<"$text")" "$wanted"
+}
+
+calls() {
+  grep -c . "$folder/calls" 2>/dev/null
+}
+
+say() { # CRATE TEXT
+  echo "$2" >"$tree/crates/$1/src/lib.rt"
+}
+
+settings=()
+release=$(cd "$tree/release" && pwd)/interlaken-x86_64-linux
+(. "$top/tools/sources.bash" && sum_of_sources "$tree" >"$tree/release/sources.sha256")
+(cd "$tree/release" && sha256sum interlaken-x86_64-linux >interlaken-x86_64-linux.sha256)
+cp -a "$tree" "$folder/old"
+from=$EPOCHSECONDS
+before=$(cd "$tree" && find . -printf '%p %T@ %s\n' | sort)
+
+# The release.
+ran 'the release' '5 release' without one 'two words' ''
+holds 'words' "$text" "$(printf '%s\n' release one 'two words' '' && echo)"
+holds 'the error output' "$errors" odd
+ln -s "$tree/interlaken" "$folder/link"
+holds 'through a link, with no home' "$(cd / && env -i PATH=/usr/bin:/bin "$folder/link" x 2>/dev/null)" "$(printf 'release\nx')"
+settings=(INTERLAKEN_WHICH=1)
+ran 'which program' "0 $tree/release/interlaken-x86_64-linux" without
+settings=()
+say beside changed
+ran 'a change of a crate that the program does not stand on' '5 release' without x
+say beside 'beside as released'
+
+# A change.
+touch -r "$tree/crates/low/src/lib.rt" "$folder/time"
+say low 'low as chagned '
+touch -r "$folder/time" "$tree/crates/low/src/lib.rt"
+ran 'a change that keeps length and time, and no rt' '70 ' without x
+ran 'help, of changed sources' '5 release' without --help
+holds 'help does not look like the program of these sources' "$(grep -c '^interlaken: ' <<<"$errors")" 1
+ran 'a change' '5 built' with x
+holds 'builds' "$(calls)" 1
+holds 'crates that are done' "$(grep -c '^interlaken: . of 3 crates done after 0 min, about 1 min left: ' <<<"$errors")" 2
+ran 'a second start' '5 built' without x
+holds 'what a second start says' "$errors" odd
+say low 'low as released'
+ran 'the sources of the release again' '5 release' without x
+mv "$tree/crates/low/src/lib.rt" "$tree/crates/low/src/bil.rt"
+ran 'another name of a file' '70 ' without x
+mv "$tree/crates/low/src/bil.rt" "$tree/crates/low/src/lib.rt"
+
+# What is proved here.
+settings=(INTERLAKEN_PROVE=1 INTERLAKEN_JOBS=3)
+ran 'proved here' '5 built' with x
+holds 'jobs' "$(tail -n 1 "$folder/calls")" 'ci jobs=3'
+ran 'proved here before' '5 built' without x
+settings=()
+ran 'what was proved here, from then on' '5 built' without x
+settings=(INTERLAKEN_PROVE=anew)
+ran 'proved anew' '5 built' with x
+holds 'rt is told' "$(tail -n 1 "$folder/calls")" 'ci --anew jobs='
+settings=()
+
+# Builds that fail, that change under way, and that are asked for twice.
+say low wrong
+ran 'a crate that is not proved' '70 ' with x
+holds 'what is said of it' "$(grep -c -e '^goal: open' -e '^rt: low NOT PROVED' -e 'the program was not built' <<<"$errors")" 3
+say low 'low once more'
+echo "$tree/crates/low/src/lib.rt" >"$folder/meanwhile"
+ran 'sources that change meanwhile' '5 built' with x
+rm "$folder/meanwhile"
+ran 'what was built is of the sources before that' '70 ' without x
+asked=$(calls)
+for _ in 1 2; do (launch with x; echo "$status $(head -n 1 <<<"$text")" >>"$folder/both") & done
+wait
+holds 'two at once' "$(cat "$folder/both")" "$(printf '5 built\n5 built')"
+holds 'of which one builds' "$(($(calls) - asked))" 1
+
+# A release that is damaged, or does not start.
+say low 'low as released'
+rm -r "$folder/cache"
+holds 'the tree is as it was' "$(cd "$tree" && find . -printf '%p %T@ %s\n' | grep -v crates | sort)" "$(grep -v crates <<<"$before")"
+echo '# longer' >>"$release"
+ran 'a damaged release' '70 ' without x
+printf '#!/bin/no-such-loader\n' >"$release"
+(cd "$tree/release" && sha256sum interlaken-x86_64-linux >interlaken-x86_64-linux.sha256)
+ran 'a release that does not start' '5 built' with x
+
+# A sum that is remembered, which takes files that are some seconds old.
+tree=$folder/old
+sleep $((from + 5 - EPOCHSECONDS > 0 ? from + 5 - EPOCHSECONDS : 0))
+rm -r "$folder/cache"
+settings=(XDG_CACHE_HOME=/dev/null/none)
+ran 'a start where nothing can be remembered' '5 release' without x
+settings+=(INTERLAKEN_PROVE=1)
+ran 'a build where nothing can be written' '70 ' with x
+settings=()
+ran 'a first start' '5 release' without x
+holds 'the sum is remembered' "$(cat "$folder"/cache/interlaken/*/sum | tail -n 1)" "$(cat "$tree/release/sources.sha256")"
+ran 'a start by the sum that is remembered' '5 release' without x
+touch -r "$tree/crates/low/src/lib.rt" "$folder/time"
+say low 'low as chagned '
+touch -r "$folder/time" "$tree/crates/low/src/lib.rt"
+ran 'a change, then, that keeps length and time' '70 ' without x
+tree=$folder/a\ tree
+
+# tools/release and its check.
+checked() { # WHAT WANTED
+  holds "$1" "$(cd "$tree" && PATH=$folder/bin:$PATH INTERLAKEN_BUILT=crates/interlaken_main/out/interlaken_main bash checks/release.sh 2>&1 | tail -n 1)" "$2"
+}
+holds 'a release without a built program' "$("$tree/tools/release" 2>&1 | grep -c absent)" 1
+mkdir "$tree/crates/interlaken_main/out"
+install "$folder/built" "$tree/crates/interlaken_main/out/interlaken_main"
+holds 'a release' "$(PATH=$folder/bin:$PATH "$tree/tools/release" | wc -l)" 3
+checked 'the release that was made' 'release: 5 passed, 0 failed'
+ran 'what was released' '5 built' without x
+say low 'low of tomorrow'
+checked 'a changed source' 'release: 4 passed, 1 failed'
+holds 'a release of an older program' "$(PATH=$folder/bin:$PATH "$tree/tools/release" 2>&1 | grep -c older)" 1
+echo '# other' >>"$tree/crates/interlaken_main/out/interlaken_main"
+checked 'another program, and a changed source' 'release: 3 passed, 2 failed'
+
+# checks/run and the gate. The name of the file is cut in two here, since a check that has it is one that tries the program.
+begin='. "$(dirname "$0")"/program'.bash
+rm "$tree/checks/release.sh"
+check() { # NAME, and its lines
+  local file=$tree/checks/$1.sh
+  shift
+  printf '%s\n' "$@" >"$file"
+}
+
+run_checks() { # WHAT WANTED WORDS..
+  local what=$1 wanted=$2
+  shift 2
+  text=$(env -i PATH=/usr/bin:/bin INTERLAKEN_PROGRAM="$folder/built" "$tree/checks/run" "$@" 2>&1)
+  holds "$what" "$? $(tail -n 1 <<<"$text")" "$wanted"
+}
+
+check good "$begin" 'holds program "$program" "$INTERLAKEN_PROGRAM"' 'ends'
+run_checks 'a check that passes' '0 checks: 1 passed, 0 failed, 0 skipped'
+check wanting "$begin" 'wants no-such-tool a-package'
+run_checks 'a check that is skipped' '0 checks: 1 passed, 0 failed, 1 skipped'
+holds 'why it is skipped' "$(grep -c '^wanting: skipped, no no-such-tool (Debian package a-package)$' <<<"$text")" 1
+run_checks 'nothing but a skip' '1 checks: 0 passed, 0 failed, 1 skipped' wanting
+check bad 'echo in full' "$begin" 'holds one 1 2' ends
+check silent
+check none 'echo none: 0 passed, 0 failed'
+check late 'echo late: 1 passed, 0 failed' 'exit 3'
+check odd 'echo 1 passed'
+check killed 'kill -9 $$ $PPID'
+check part "$begin" 'lacks no-such-tool another all-of-it' 'holds one 1 1' ends
+run_checks 'checks that fail in each way' '1 checks: 2 passed, 6 failed, 1 skipped' --jobs 3
+holds 'what a check printed that failed' "$(grep -c '^in full$' <<<"$text")" 1
+holds 'a part that was not tried' "$(grep -c '^part: not tried, no no-such-tool (Debian package another): all-of-it$' <<<"$text")" 1
+run_checks 'a check that is not there' '2 checks: there is no check absent' absent
+rm "$tree"/checks/{bad,silent,none,late,odd,killed}.sh
+gate() { # WHAT WANTED
+  text=$(cd / && PATH=$folder/bin:/usr/bin:/bin "$tree/.ci/run" 2>/dev/null)
+  holds "$1" "$? $(tail -n 1 <<<"$text")" "$2"
+}
+gate 'a gate' '0 checks: 2 passed, 0 failed, 1 skipped'
+holds 'what rt is asked' "$(tail -n 1 "$folder/calls")" 'ci jobs='
+check bad "$begin" 'holds program "$program" "$INTERLAKEN_BUILT"' 'holds one 1 2' ends
+gate 'a gate with a check that fails' '1 checks: 2 passed, 1 failed, 1 skipped'
+rm "$tree/checks/bad.sh"
+say low wrong
+gate 'a gate with a crate that is not proved' '1 checks: 2 passed, 0 failed, 1 skipped'
+ends

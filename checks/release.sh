@@ -1,0 +1,33 @@
+#!/usr/bin/env bash
+# Whether release/ is that of this tree: its program is whole, runs, and is byte for byte what the gate has built; its sum of sources
+# is that of the sources, and its kit the one that is here. INTERLAKEN_BUILT names the program that the gate has built, which then
+# has to be there; without it, one that was built in this checkout counts where it is not older than its sources.
+set -u
+top=$(cd "$(dirname "${BASH_SOURCE[0]}")/.." && pwd)
+. "$top/checks/tally.bash"
+. "$top/tools/sources.bash" || gives_up 'there is no tools/sources.bash'
+cd "$top" || exit 1
+built=${INTERLAKEN_BUILT:-}
+if [ -z "$built" ] && [ -x "crates/$main/out/$main" ] && ! is_older "crates/$main/out/$main" .; then
+  built=crates/$main/out/$main
+fi
+
+holds 'the SHA-256 of the program' "$(cd release && sha256sum "${release##*/}" 2>&1)" "$(cat "$release.sha256" 2>&1)"
+holds 'the sum of the sources (after a change tools/release makes another)' "$(sum_of_sources .)" "$(cat release/sources.sha256 2>&1)"
+if command -v rt >/dev/null 2>&1; then
+  holds 'the version of the kit' "$(rt version)" "$(cat release/kit 2>&1)"
+else
+  echo "release: not tried, no rt (of the kit): the version of the kit"
+fi
+if [ "$(uname -sm)" != 'Linux x86_64' ]; then
+  echo "release: not tried, no Linux on x86-64: the program of the release"
+  ends
+fi
+text=$("$release" 2>&1 </dev/null)
+holds 'the program without words, which prints its usage' "$? ${text%%:*}" '2 usage'
+if [ -n "$built" ]; then
+  holds 'the program that was built, beside that of the release' "$(cmp "$built" "$release" 2>&1)" ''
+else
+  echo "release: not tried, no program that the gate has built here: whether the release is that program"
+fi
+ends

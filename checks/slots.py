@@ -1,0 +1,156 @@
+"""What checks/slots.sh does, with the program and the repository as its words.
+
+Of each link: every slot of the stream stands where `tools/slots` says by its formula (the sent lane has there a control word exactly
+where the words file has one); the ends of each span are control words that arrived as they were sent; the lost packets are those that
+`link` printed, at the places of their words, and meet the span that is named and none before; the damaged bits differ from the sent
+ones, and lie in the spans that are named.
+"""
+
+import csv
+import io
+import os
+import random
+import re
+import shutil
+import subprocess
+import sys
+import tempfile
+
+from captures import capture
+from tally import Tally
+
+PROGRAM, TOP = os.path.abspath(sys.argv[1]), os.path.abspath(sys.argv[2])
+sys.path.insert(0, os.path.join(TOP, "tools"))
+
+from reading.files import Folder, Refused
+from reading.lane_bits import bits_of
+from reading.plans import CODE, Plan, Schedule
+
+TOOL = os.path.join(TOP, "tools", "slots")
+EXAMPLES, LINKS = ("damaged", "two", "wide", "again", "status"), 40
+CONTROL, CONTROL_TAG = "10", 2
+
+
+def random_link(chance, name):
+    """The files of a link with skews that align, inverted bits and dark stretches."""
+    lanes, metaframe, skips = chance.choice((1, 2, 3, 5, 8, 12)), chance.choice((32, 33, 40, 64)), chance.randrange(1, 5)
+    files, rows = {}, ["lanes,%d" % lanes, "metaframe,%d" % metaframe, "skips,%d" % skips, "warmup,4", "out,%s" % name, "schedule,%s.schedule" % name]
+    for channel in chance.sample(range(256), chance.randrange(1, 5)):
+        files["%s.in.%d" % (name, channel)] = capture(["%d" % chance.choice((1, 40, 64, 300, 1500)) for _ in range(chance.randrange(1, 9))])
+        rows.append("channel,%d,%s.in.%d" % (channel, name, channel))
+    group = CODE * metaframe
+    schedule = ["skew,%d,%d" % (lane, chance.randrange(7 * CODE + 1)) for lane in range(lanes)]
+    schedule += ["flip,%d,%d" % (chance.randrange(lanes), chance.randrange(3 * group, 9 * group)) for _ in range(chance.randrange(1, 9))]
+    schedule += ["dark,%d,%d,%d" % (chance.randrange(lanes), chance.randrange(4 * group, 9 * group), chance.choice((1, 30, 200, 3000))) for _ in range(chance.randrange(3))]
+    files[name + ".plan"], files[name + ".schedule"] = ("\n".join(lines + [""]).encode() for lines in (rows, schedule))
+    return files
+
+
+class Link:
+    """A link that was run: its plan, the words of its stream, its lanes as they were sent and as they came, and the tables of the tool."""
+
+    def __init__(self, tally, folder, name):
+        self.tally, self.folder, self.name = tally, folder, name
+        self.plan = plan = Plan(folder, name + ".plan")
+        self.schedule = Schedule(folder, plan)
+        folder.run("burst", name + ".plan")
+        self.tags = [tag for tag, _ in folder.words(plan.out + ".words")]
+        folder.run("send", name + ".plan")
+        self.sent = self.lanes()
+        self.text = folder.run("link", name + ".plan")
+        self.came = self.lanes()
+        with open(folder.path("printed"), "w", encoding="utf-8") as file:
+            file.write(self.text)
+        self.spans, self.missing, self.damage = (self.table(words) for words in ([], ["--missing", "--text", "printed"], ["--damage"]))
+
+    def lanes(self):
+        return [bits_of(self.folder.content("%s.lane.%d" % (self.plan.out, lane))) for lane in range(self.plan.lanes)]
+
+    def table(self, words):
+        """A table of the tool, each row by its columns, with numbers as numbers."""
+        done = subprocess.run([TOOL, self.name + ".plan"] + words, cwd=self.folder.folder, capture_output=True, encoding="utf-8")
+        self.tally.expect("%s: slots %s" % (self.name, " ".join(words)), (done.returncode, done.stderr), (0, ""))
+        return [{key: int(value) if value.isdigit() else value for key, value in row.items()} for row in csv.DictReader(io.StringIO(done.stdout))]
+
+    def expect(self, what, found, wanted):
+        self.tally.expect("%s: %s" % (self.name, what), found, wanted)
+
+    def sent_code(self, lane, bit):
+        """The code that was sent where the received one begins at a bit."""
+        begin = bit - self.schedule.skew[lane]
+        return self.sent[lane][begin:begin + CODE]
+
+    def check_formula(self):
+        """The kinds of all words of the stream, in the lanes and in the words file."""
+        places = (self.plan.place_of(slot) for slot in range(len(self.tags)))
+        headers = [self.sent[lane][bit + 1:bit + 3] for lane, _, bit in places]
+        self.expect("control words by the formula", [header == CONTROL for header in headers], [tag == CONTROL_TAG for tag in self.tags])
+        back = [self.plan.slot_of(lane, bit) for lane, _, bit in map(self.plan.place_of, range(len(self.tags)))]
+        self.expect("slots of the places", back, list(range(len(self.tags))))
+
+    def check_spans(self):
+        self.expect("spans", len(self.spans), int(re.search(r"^spans (\d+)$", self.text, re.MULTILINE).group(1)))
+        for number, row in enumerate(self.spans):
+            self.expect("number of a span", row["span"], number)
+            for end in ("after", "before"):
+                if row[end + "_slot"] != "":
+                    lane, bit = row[end + "_lane"], row[end + "_bit"]
+                    came = self.came[lane][bit:bit + CODE]
+                    self.expect("span %d, %s" % (number, end), (self.tags[row[end + "_slot"]], came[1:3], came == self.sent_code(lane, bit)), (CONTROL_TAG, CONTROL, True))
+                    self.expect("span %d, metaframe" % number, row[end + "_metaframe"], (bit - self.schedule.skew[lane]) // self.plan.period)
+
+    def meets(self, span, first, last):
+        return (span["after_slot"] == "" or span["after_slot"] < last) and (span["before_slot"] == "" or first < span["before_slot"])
+
+    def check_missing(self):
+        printed = [tuple(map(int, line)) for line in re.findall(r"^missing channel=(\d+) packet=(\d+) first=(\d+) last=(\d+) span=(\d+)$", self.text, re.MULTILINE)]
+        self.expect("lost packets", [tuple(row[key] for key in ("channel", "packet", "first_slot", "last_slot", "span")) for row in self.missing], printed)
+        for row in self.missing:
+            met = [number for number, span in enumerate(self.spans) if self.meets(span, row["first_slot"], row["last_slot"])]
+            self.expect("the first span of a lost packet", met[:1], [row["span"]])
+            codes = [self.sent_code(row[end + "_lane"], row[end + "_bit"])[1:3] for end in ("first", "last")]
+            self.expect("the words of a lost packet", codes, [CONTROL, CONTROL])
+
+    def check_damage(self):
+        for row in self.damage:
+            lane, first, last = row["lane"], row["first_bit"], row["last_bit"]
+            skew = self.schedule.skew[lane]
+            if row["key"] == "flip":
+                self.expect("the bit of line %d" % row["line"], self.came[lane][first] == self.sent[lane][first - skew], False)
+            else:
+                self.expect("the dark bits of line %d" % row["line"], set(self.came[lane][first:last + 1]), {"0"})
+            self.expect("the slot of line %d" % row["line"], row["first_slot"] == "" and row["key"] == "flip", row["key"] == "flip" and self.plan.slot_of(lane, first - skew) is None)
+            if row["first_slot"] != "" and self.came[lane][first:last + 1] != self.sent[lane][first - skew:last - skew + 1]:
+                inside = [span["span"] for span in self.spans if self.meets(span, row["first_slot"], row["last_slot"])]
+                self.expect("the spans of line %d" % row["line"], (inside[:1], inside[-1:]), ([row["first_span"]], [row["last_span"]]))
+
+    def check(self):
+        self.check_formula()
+        self.check_spans()
+        self.check_missing()
+        self.check_damage()
+        return len(self.missing), len(self.damage)
+
+
+def main():
+    tally, lost, struck = Tally("slots"), 0, 0
+    with tempfile.TemporaryDirectory() as path:
+        shutil.copytree(os.path.join(TOP, "examples"), path, dirs_exist_ok=True)
+        folder = Folder(PROGRAM, path)
+        for number in range(LINKS):
+            for name, data in random_link(random.Random(number), "random%d" % number).items():
+                with open(folder.path(name), "wb") as file:
+                    file.write(data)
+        for name in EXAMPLES + tuple("random%d" % number for number in range(LINKS)):
+            try:
+                missing, damage = Link(tally, folder, name).check()
+            except Refused as refused:
+                tally.count(name, str(refused))
+                continue
+            lost, struck = lost + missing, struck + damage
+    tally.count("lost packets and damaged bits", "" if lost > 50 and struck > 100 else "too few: %d and %d" % (lost, struck))
+    return tally.end()
+
+
+if __name__ == "__main__":
+    sys.exit(main())

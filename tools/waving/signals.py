@@ -1,0 +1,104 @@
+"""The signals of a lane and of the stream. A bit of a lane is a nanosecond, and bit 0 of the files is time 0."""
+
+from heapq import merge
+from operator import itemgetter
+
+from reading.agreement import HINT
+from reading.files import Refused
+from reading.lane_words import words_of
+from reading.plans import CODE
+from waving.vcd import Scope, Signal
+
+NONE = "-"
+LANE = [Signal("string", 1, "lock"), Signal("string", 1, "role"), Signal("integer", 32, "place"), Signal("wire", 64, "word"), Signal("wire", 1, "wrong"),
+        Signal("wire", 1, "header_bad"), Signal("wire", 1, "inverted"), Signal("real", 64, "disparity")]
+SEARCH = ("search", NONE, None, None, None, None, None, 0)
+STREAM = [Signal("integer", 32, "slot"), Signal("string", 1, "kind"), Signal("wire", 64, "word"), Signal("integer", 32, "channel"), Signal("integer", 32, "span")]
+NO_SLOT = (None, NONE, None, None)
+KINDS = {"i": "idle", "e": "idle", "b": "burst", "d": "data", "x": "bad"}
+
+
+class LaneWaves:
+    """The signals of a lane; `words` and `locks` count what was read when the changes have been taken. The stream, where there is one,
+    has to be that of the lane."""
+
+    def __init__(self, lane, plan, stream):
+        self.lane, self.plan, self.stream = lane, plan, stream
+        self.words = self.locks = 0
+        self.received = []
+        self.scope = Scope("lane_%d" % lane.number, LANE, self.changes())
+
+    def changes(self):
+        """Each word from its first bit on; between locks, and after the last whole word, a search."""
+        yield 0, SEARCH
+        end, was_declared = 0, False
+        for word in words_of(self.lane.bits, self.lane.syncs, self.plan):
+            if word.bit > end:
+                yield end, SEARCH
+            yield word.bit, values_of(word)
+            end = word.bit + CODE
+            self.words += 1
+            self.locks += word.lock == "declared" and not was_declared
+            was_declared = word.lock == "declared"
+            if self.stream and word.framed:
+                self.compare(word.bit - self.lane.front, word.framed)
+        yield end, SEARCH
+
+    def compare(self, bit, framed):
+        """Compares the payload words of a metaframe, from their sent bits on, with the stream where its Diagnostic word is right."""
+        if framed.place == 0:
+            self.received = []
+        slot = self.plan.slot_of(self.lane.number, bit)
+        if slot is not None and 0 <= slot < self.stream.count and bit == self.plan.place_of(slot)[2]:
+            self.received.append((slot, framed.word))
+        if framed.role == "diagnostic" and not framed.wrong:
+            wrong = next((slot for slot, word in self.received if word != self.stream.word(slot)), None)
+            if wrong is not None:
+                raise Refused("%s.words: slot %d is another word than lane %d has, whose Diagnostic word after it is right: %s" % (self.plan.out, wrong, self.lane.number, HINT))
+
+
+def values_of(word):
+    """The values of a lane's signals in a word, in their order."""
+    framed = word.framed
+    said = (framed.role, framed.place, framed.word, framed.wrong) if framed else (NONE, None, None, None)
+    return (word.lock,) + said + (word.header in (0, 3), word.inverted, word.disparity)
+
+
+class StreamWaves:
+    """The signals of the sent stream and of the fault spans, at the words of lane 0: the words of a row, one of each lane, share the
+    67 bits of lane 0's. `front` is the first sent bit of lane 0."""
+
+    def __init__(self, stream, spans, plan, front):
+        self.stream, self.spans, self.plan, self.front = stream, spans, plan, front
+        self.scope = Scope("stream", STREAM, self.changes())
+
+    def time(self, slot, after=0):
+        """Where a slot begins, or with 1 after it where it ends."""
+        lane, _, bit = self.plan.place_of(slot)
+        return self.front + bit + CODE * (lane + after) // self.plan.lanes
+
+    def changes(self):
+        values, span = NO_SLOT, None
+        for time, is_span, value in merge(self.word_changes(), self.span_changes(), key=itemgetter(0)):
+            values, span = (values, value) if is_span else (value, span)
+            yield time, values + (span,)
+
+    def word_changes(self):
+        """Each word; no slot in the framing words of lane 0."""
+        yield 0, False, NO_SLOT
+        for slot in range(self.stream.count):
+            yield self.time(slot), False, self.values_at(slot)
+            if (slot + 1) % self.plan.group == 0:
+                yield self.time(slot, after=1), False, NO_SLOT
+
+    def values_at(self, slot):
+        kind = self.stream.kinds[slot]
+        burst = self.stream.burst_at(slot) if kind in "bd" else None
+        return slot, KINDS[kind], self.stream.word(slot), burst[2] if burst else None
+
+    def span_changes(self):
+        """A span from the end of its first word up to its last word."""
+        for number, span in enumerate(self.spans):
+            yield 0 if span.after is None else self.time(span.after, after=1), True, number
+            if span.before is not None:
+                yield self.time(span.before), True, None
