@@ -1,21 +1,31 @@
-"""Runs of the independent model, in the form in which rows.py has those of the program."""
+"""Runs of the model in model/, in the form in which runs.py has those of the program; and what two runs differ in."""
 
 import os
+import sys
 import tempfile
 
-from rows import files_in
+from runs import Run, files_in, write_files
+
+sys.path.append(os.path.join(os.path.dirname(os.path.dirname(os.path.abspath(__file__))), "model"))
+import interlaken
 
 
-def left_by_model(reference, words, before, stage):
-    """The status, the text, nothing on standard error, and the files that stand after the model's run at this stage."""
+def left_by_model(words, before):
+    """The run of the model with these words in a folder with these files."""
+    here = os.getcwd()
     with tempfile.TemporaryDirectory() as folder:
-        for name, data in before.items():
-            with open(os.path.join(folder, name), "wb") as file:
-                file.write(data)
-        here = os.getcwd()
+        write_files(folder, before)
         os.chdir(folder)
         try:
-            status, text = reference.run(words, stage)
+            status, text = interlaken.run(words)
         finally:
             os.chdir(here)
-        return status, text.encode(), b"", files_in(folder)
+        return Run(status, text.encode(), b"", files_in(folder))
+
+
+def differences(mine, model):
+    """What a run of the program and one of the model differ in, or nothing."""
+    told = ["%s: program %r, model %r" % (part, getattr(mine, part), getattr(model, part)) for part in ("status", "text", "error")
+            if getattr(mine, part) != getattr(model, part)]
+    names = sorted({*mine.files, *model.files})
+    return "; ".join(told + ["file %s differs" % name for name in names if mine.files.get(name) != model.files.get(name)])
