@@ -54,7 +54,6 @@ OTHERS = [
 ]
 # The lane that `receive` gets another in place of. One of `m.plan` has another metaframe, so it gives word locks and no lock.
 REPLACED = 3
-MISUSED = 2
 RUNS = 3
 
 
@@ -133,8 +132,7 @@ def table(program, megabytes, size):
                 cut_words(folder)
             status, seconds, peak = least([program] + words, folder)
             ratio = "" if (name, what, words) in OTHERS else "%.1f" % (seconds / base)
-            if status != MISUSED:
-                row("`%s`" % name, what, "%.2f" % seconds, ratio, "%.0f" % peak if status == 0 else "status %d" % status)
+            row("`%s`" % name, what, "%.2f" % seconds, ratio, "%.0f" % peak if status == 0 else "status %d" % status)
 
 
 def main():
