@@ -1,5 +1,5 @@
 #!/usr/bin/env bash
-# Processor seconds and peak memory of each command that the program knows, with md5sum over the same capture in the same run.
+# Processor seconds and peak memory of each command, with md5sum over the same capture in the same run.
 # Arguments: the megabytes of the capture, 100 where none are given, and then the sizes of its packets, 1514 and 64.
 # No part of the gate: the numbers depend on the machine.
 set -eu
