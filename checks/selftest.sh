@@ -1,0 +1,12 @@
+#!/usr/bin/env bash
+# The worked examples of the model in model/, by its own test.
+set -u
+top=$(cd "$(dirname "${BASH_SOURCE[0]}")/.." && pwd)
+. "$top/checks/tally.bash"
+wants python3 python3
+told=$(python3 -B "$top/model/selftest.py" 2>&1)
+status=$?
+number=$(sed -n 's/^Ran \([0-9]*\) tests.*/\1/p' <<<"$told")
+[ "$status" -eq 0 ] || gives_up "$told"
+passed=${number:-0}
+ends
