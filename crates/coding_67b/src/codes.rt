@@ -1,10 +1,51 @@
-ghost use Rattle.std.specs.Prelude.{◌≡◌, ◌≢◌, ◌+◌, ◌*◌, ◌^◌, ◌<◌, ◌≤ℤ◌, ◌&&◌, ◌||◌, ◌↔◌, ◌⊎◌, ◌-ℤ◌, ◌+ℤ◌, if◌then◌else◌, pos, negsuc, int_le, int_lt};
+ghost use Rattle.std.specs.Prelude.{◌≡◌, ◌≢◌, ◌+◌, ◌*◌, ◌/◌, ◌^◌, ◌<◌, ◌==◌, ◌≤ℤ◌, ◌&&◌, ◌||◌, ◌↔◌, ◌⊎◌, ◌-ℤ◌, ◌+ℤ◌, if◌then◌else◌, pos, negsuc, int_le, int_lt};
 ghost use Rattle.lk_base.specs.declared.word.RxWord.TheVariants as received;
 ghost use Rattle.lk_base.specs.Words.{payload as payload_of};
 ghost use Rattle.lk_base.specs.Checksum.{digit};
-ghost use Rattle.lane_model.specs.Coding.{code_of, header_for, header_in, inverse_of, weight, word_of_code};
+ghost use Rattle.lane_model.specs.Coding.{code_of, header_for, header_in, inverse_of, payload_in, weight, word_of_code};
 
 use lk_base::{RxWord, Word};
+
+/// Whether the payload of a code stands inverted: bit 66.
+pub fn inversion_of(code: u128) -> bool
+    requires { code < 2 ^ 67 }
+    ensures { result ≡ (code / 2 ^ 66 == 1) }
+{
+    code >> 66 == 1
+}
+
+/// The header of a code: bits 65:64.
+pub fn header_of(code: u128) -> u8
+    requires { code < 2 ^ 67 }
+    ensures value { result ≡ header_in code }
+    ensures below { result < 4 }
+{
+    (code >> 64 & 3) as u8
+}
+
+/// The payload of a code as it is meant: bits 63:0, or their complement where bit 66 is 1.
+pub fn payload_of(code: u128) -> u64
+    requires { code < 2 ^ 67 }
+    ensures { result ≡ payload_in code }
+{
+    let low = (code & u64::MAX as u128) as u64;
+    if inversion_of(code) { !low } else { low }
+}
+
+/// The code with this inversion, this header and this payload.
+pub fn code_with(inverted: bool, header: u8, payload: u64) -> u128
+    requires { header < 4 }
+    ensures below { result < 2 ^ 67 }
+    ensures inversion { (result / 2 ^ 66 == 1) ≡ inverted }
+    ensures header { header_in result ≡ header }
+    ensures payload { payload_in result ≡ payload }
+{
+    if inverted {
+        (4 | header as u128) << 64 | !payload as u128
+    } else {
+        (header as u128) << 64 | payload as u128
+    }
+}
 
 /// The word that a code of 67 bits means: the word whose header it has, with the payload complemented where bit 66 is 1.
 /// It is Bad exactly where the header, bits 65:64, is 00 or 11.
@@ -14,9 +55,8 @@ pub fn decode(code: u128) -> RxWord
     ensures value { result ≡ word_of_code code }
     ensures bad { (result ≡ received.Bad) ↔ ((header_in code ≡ 0) ⊎ (header_in code ≡ 3)) }
 {
-    let low = (code & u64::MAX as u128) as u64;
-    let payload = if code >> 66 == 1 { !low } else { low };
-    match code >> 64 & 3 {
+    let payload = payload_of(code);
+    match header_of(code) {
         1 => RxWord::Data(payload),
         2 => RxWord::Control(payload),
         _ => RxWord::Bad,

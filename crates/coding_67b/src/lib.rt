@@ -7,7 +7,7 @@ mod encoder;
 mod reader;
 mod writer;
 
-pub use codes::decode;
+pub use codes::{code_with, decode, header_of, inversion_of, payload_of};
 pub use eight::bytes_of_eight;
 pub use encoder::Encoder;
 pub use reader::BitReader;

@@ -1,12 +1,14 @@
 -- A word that arrives is heard.
-use Rattle.std.proofs.Common.{◌≡◌, inl, inr, ℕ, suc, ◌+◌, ◌-◌, ◌<◌, ◌≤◌, Bool, true, false, ◌&&◌, List, [], ◌∷◌, ◌++◌, length, take, drop, nat_lt, if◌then◌else◌, Option, Some, None, refl, sym, ap, ap₂, ◌∙◌, subst, arith, append-nil, lt-ltb, le-ltb, le-leb}
+use Rattle.std.proofs.Common.{◌≡◌, inl, inr, ℕ, suc, ◌+◌, ◌-◌, ◌<◌, ◌≤◌, Bool, true, false, ◌&&◌, ◌==◌, cond, List, [], ◌∷◌, ◌++◌, length, take, drop, nat_lt, if◌then◌else◌, Option, Some, None, refl, sym, ap, ap₂, ◌∙◌, subst, arith, append-nil, lt-ltb, le-ltb, le-leb}
 use Rattle.std.proofs.lemmas.Bool.{cases_lt, lt-leb}
 use Rattle.std.proofs.lemmas.List.{length_push, length-take-le, take_more}
 use Rattle.std.proofs.lemmas.List.Sums.{sum_by-cons}
 use Rattle.std.proofs.Math.Seq.{take-append_seam, get_or-append_seam}
+use Rattle.lk_base.specs.Fields.{channel_number, has_burst}
 use Rattle.lk_base.specs.Words.{is_data, is_control, word_at}
 use Rattle.lk_base.specs.declared.word.Word.{Word}
 use Rattle.lk_base.specs.declared.word.Word.TheVariants.{Data, Control}
+use Rattle.control_words.specs.ControlWord.{burst_channel}
 use Rattle.stream_model.specs.BurstStream.{Source, is_burst_on, controls_in}
 use Rattle.stream_model.specs.declared.rows.FlowRow.{FlowRow}
 use Rattle.burst_scheduler.specs.Asked.{Asked, with_flow, flow_added}
@@ -53,12 +55,19 @@ one_control arrived x =
     let n : controls_in (arrived ++ Control x ∷ []) ≡ controls_in arrived + 1 = controls_push arrived (Control x) in
     sym (lt-ltb 0 (controls_in (arrived ++ Control x ∷ [])) (omega (arith, n)))
 
+named_burst : (x channel : ℕ) → names (burst_channel true x) channel ≡ is_burst_on channel (Control x)
+named_burst x channel = by (has_burst x)
+  where
+    by : (b : Bool) → names (cond b (Some (channel_number true x)) None) channel ≡ (b && (channel_number true x == channel))
+    by true = refl
+    by false = refl
+
 pub hears_control : (old new : Side) (source : Source) (own arrived : List Word) (x : ℕ) → Hears old source own arrived
-    → (Asks new.scheduler (hearing source (length own) arrived (Control x)) own) → ((channel : ℕ) → names new.burst channel ≡ is_burst_on channel (Control x)) → new.heard ≡ true
+    → (Asks new.scheduler (hearing source (length own) arrived (Control x)) own) → new.burst ≡ burst_channel true x → new.heard ≡ true
     → Hears new (hearing source (length own) arrived (Control x)) own (arrived ++ Control x ∷ [])
 hears_control old new source own arrived x h asks burst heard = record {
   asks = asks;
-  burst = λ channel. burst channel ∙ ap (is_burst_on channel) (sym (last_push arrived (Control x)));
+  burst = λ channel. ap (λ (o : Option ℕ). names o channel) burst ∙ named_burst x channel ∙ ap (is_burst_on channel) (sym (last_push arrived (Control x)));
   heard = heard ∙ one_control arrived x;
 }
 

@@ -5,11 +5,12 @@ ghost use Rattle.stream_model.specs.BurstStream.{Source};
 ghost use Rattle.duplex_model.specs.DuplexRun.{Settings, AreSettings, Ends};
 ghost use Rattle.duplex.specs.Sides.{IsFresh, Hears, IsSideAt, HasTaken, AreListed, joins, hearing, KeepsQueues};
 
-use crate::hearing::{burst_channel, heard};
+use crate::hearing::heard;
 use crate::queue::Queues;
 use crate::way::first_word;
 use burst_scheduler::Scheduler;
 use circular_buffer::HeapCircularBuffer;
+use control_words::ControlWord;
 use lk_base::{OutOfMemory, Shape, Word};
 use std::alloc::Global;
 
@@ -74,7 +75,7 @@ impl<'a> Side<'a> {
             self.scheduler.flow(heard(word));
         }
         self.heard = true;
-        self.burst = burst_channel(word);
+        self.burst = ControlWord(word).burst_channel(true);
     }
 
     // A word arrives. It joins the queue of the channel of its burst.

@@ -1,5 +1,5 @@
 -- Words that come one after another for an open packet.
-use Rattle.std.proofs.Common.{ℕ, ◌≡◌, ◌+◌, ◌<◌, ◌≤◌, refl, sym, ap, ap₂, ◌∙◌, subst, Bool, true, ◌&&◌, nat_lt, List, [], ◌∷◌, ◌++◌, length, set, take, get_or, get_or-set_same, Option, None, arith}
+use Rattle.std.proofs.Common.{ℕ, ◌≡◌, ◌+◌, ◌<◌, refl, sym, ap, ap₂, ◌∙◌, subst, Bool, true, ◌&&◌, nat_lt, List, [], ◌∷◌, ◌++◌, length, take, get_or, get_or-set_same, Option, None}
 use Rattle.std.proofs.lemmas.List.{length-set, set-get_or, take_more}
 use Rattle.cell_pool.specs.Stored.{bytes_at}
 use Rattle.reassembly.specs.Folds.{are_kept, grown_by}

@@ -2,7 +2,6 @@
 use Rattle.std.proofs.Common.{ℕ, ◌≡◌, refl, sym, ap, ◌∙◌, ◌^◌, ◌-◌, Bool, false, not, List, [], ◌∷◌, length, Some, arith, ◌==◌}
 use Rattle.std.proofs.lemmas.Bool.{ne_eqb}
 use Rattle.receive_model.specs.Stretches.{fault_from, has_some}
-use Rattle.reassembly.specs.declared.word_at.WordAt.{WordAt}
 use Rattle.reassembly.specs.declared.stretch.Stretch.{Stretch}
 use Rattle.reassembly.specs.Carries.{register_of}
 use Rattle.reassembly.specs.Steps.{fault_by}

@@ -1,5 +1,5 @@
 -- A channel that is not listed stays as it is when data words come.
-use Rattle.std.proofs.Common.{ℕ, ◌≡◌, refl, sym, ap, ◌∙◌, List, set, get_or, Option, None}
+use Rattle.std.proofs.Common.{ℕ, ◌≡◌, sym, ap, ◌∙◌, List, set, get_or, Option, None}
 use Rattle.std.proofs.lemmas.List.{set-get_or}
 use Rattle.reassembly.specs.declared.channel.Channel.{Channel}
 use Rattle.reassembly.specs.Folds.{with_words}

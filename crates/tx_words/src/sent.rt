@@ -4,7 +4,8 @@ ghost use Rattle.tx_words.specs.Sent.{ends};
 ghost use Rattle.tx_words.specs.Places.{channel_behind, ended_channel, fresh_place, start_channel};
 ghost use Rattle.tx_words.specs.declared.sent.Place.{Place};
 
-use crate::bursts::{NUMBERS, burst_channel, channel_number};
+use crate::bursts::{NUMBERS, burst_channel};
+use control_words::ControlWord;
 use lk_base::{OutOfMemory, Word};
 use std::alloc::Global;
 
@@ -57,7 +58,7 @@ pub fn start_channel(word: Word) -> Option<usize>
     ensures within { IfSome result (λ channel. channel < 65536) }
 {
     match word {
-        Word::Control(x) if (x >> 62) % 2 == 1 && (x >> 61) % 2 == 1 => { Some(channel_number(x)) }
+        Word::Control(x) if ControlWord(x).starts_packet() => burst_channel(word),
         _ => None,
     }
 }
@@ -67,7 +68,7 @@ fn ends(word: Word) -> bool
     ensures { result ≡ ends word }
 {
     match word {
-        Word::Control(x) => (x >> 57) % 16 >= 1,
+        Word::Control(x) => ControlWord(x).ends_packet(),
         Word::Data(_) => false,
     }
 }

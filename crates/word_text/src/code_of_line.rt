@@ -1,28 +1,20 @@
 ghost use Rattle.std.specs.Prelude.{◌≡◌, ◌<◌, ◌+◌, ◌*◌, ◌^◌, ◌==◌, ℕ, IfOk, MatchOption};
-ghost use Rattle.lane_model.specs.Coding.{header_in, payload_in};
 ghost use Rattle.lk_base.specs.Checksum.{digit};
 ghost use Rattle.word_text.specs.Read.{byte_at};
-ghost use Rattle.word_text.specs.CodeLines.{inversion_in, IsCodeLine};
+ghost use Rattle.word_text.specs.CodeLines.{IsCodeLine};
 
-use crate::cut::{behind, byte_at};
+use crate::cut::{after_start, behind, byte_at};
 use crate::digits::number_of;
-use crate::line_of_code::code_line;
-use lane_model::SYNC;
+use crate::line_of_code::{CONTROL, STATE_BITS, code_line};
+use coding_67b::code_with;
+use lane_model::{SCRAMBLER_STATE, SYNC};
 use lk_base::OutOfMemory;
 
-// The code with this inversion, this header and this payload.
-fn code_with(inverted: bool, header: u8, payload: u64) -> u128
-    requires { header < 4 }
-    ensures below { result < 2 ^ 67 }
-    ensures inversion { inversion_in result ≡ inverted }
-    ensures header { header_in result ≡ header }
-    ensures payload { payload_in result ≡ payload }
+// Whether the character at a place is that of the bit 1.
+fn is_one(text: &[u8], place: usize) -> bool
+    ensures { result ≡ (byte_at text.now place == 49) }
 {
-    if inverted {
-        (4 | header as u128) << 64 | !payload as u128
-    } else {
-        (header as u128) << 64 | payload as u128
-    }
+    byte_at(text, place) == b'1'
 }
 
 // The header that two characters give.
@@ -30,28 +22,28 @@ fn header_at(text: &[u8]) -> u8
     ensures value { result ≡ 2 * digit (byte_at text.now 0 == 49) + digit (byte_at text.now 1 == 49) }
     ensures below { result < 4 }
 {
-    2 * (byte_at(text, 0) == b'1') as u8 + (byte_at(text, 1) == b'1') as u8
+    2 * is_one(text, 0) as u8 + is_one(text, 1) as u8
 }
 
-// The code that a line can be the line of, and no other.
+// The code that a line can be the line of, and no other. A line is `sync I`, `state I S` or `code I HH P`, with the inversion I,
+// the header HH, and the state S or the payload P in hexadecimal digits. What stands between them is not looked at: `code_of`
+// spells the code again and compares.
 fn code_candidate(line: &[u8]) -> u128
     ensures below { result < 2 ^ 67 }
     ensures only { (code : ℕ) → code < 2 ^ 67 → IsCodeLine code line.now → result ≡ code }
 {
-    let second = byte_at(line, 1);
-    if second == b'y' {
-        code_with(byte_at(line, 5) == b'1', 2, SYNC)
-    } else if second == b't' {
-        let state = number_of(behind(line, 8), 16) % 0x400_0000_0000_0000;
-        code_with(byte_at(line, 6) == b'1', 2, 0x2800_0000_0000_0000 + state)
-    } else {
-        let payload = number_of(behind(line, 10), 16);
-        code_with(
-            byte_at(line, 5) == b'1',
-            header_at(behind(line, 7)),
-            payload,
-        )
+    if let Some(fields) = after_start(line, b"sync ") {
+        return code_with(is_one(fields, 0), CONTROL, SYNC);
     }
+    if let Some(fields) = after_start(line, b"state ") {
+        let state = number_of(behind(fields, 2), 16) % (1 << STATE_BITS);
+        return code_with(is_one(fields, 0), CONTROL, SCRAMBLER_STATE + state);
+    }
+    // after "code "
+    let fields = behind(line, 5);
+    let header = header_at(behind(fields, 2));
+    let payload = number_of(behind(fields, 5), 16);
+    code_with(is_one(fields, 0), header, payload)
 }
 
 // The code of which this is the line. `None` exactly where it is the line of no code. A code is spelled in the buffer.

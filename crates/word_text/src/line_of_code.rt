@@ -4,34 +4,15 @@ ghost use Rattle.word_text.specs.Digits.{bit_text};
 ghost use Rattle.word_text.specs.CodeLines.{inversion_in, IsSync, IsState, sync_text, state_text, other_text, IsCodeLine};
 
 use crate::digits::{bit_text, put, put_bit, put_digits};
-use lane_model::SYNC;
+use coding_67b::{header_of, inversion_of, payload_of};
+use lane_model::{SCRAMBLER_STATE, SYNC};
 use lk_base::OutOfMemory;
 
-// Whether the payload of a code stands inverted.
-pub fn inversion_of(code: u128) -> bool
-    requires { code < 2 ^ 67 }
-    ensures { result ≡ inversion_in code }
-{
-    code >> 66 == 1
-}
+// A header of control.
+pub const CONTROL: u8 = 2;
 
-// The header of a code.
-pub fn header_of(code: u128) -> u8
-    requires { code < 2 ^ 67 }
-    ensures value { result ≡ header_in code }
-    ensures below { result < 4 }
-{
-    (code >> 64 & 3) as u8
-}
-
-// The payload of a code as it is meant.
-pub fn payload_of(code: u128) -> u64
-    requires { code < 2 ^ 67 }
-    ensures { result ≡ payload_in code }
-{
-    let low = (code & u64::MAX as u128) as u64;
-    if code >> 66 == 1 { !low } else { low }
-}
+// The bits of the state in the payload of a word that carries the state of the key; the mark of that word stands above them.
+pub const STATE_BITS: u32 = 58;
 
 // Whether a code is that of a word by which a receiver finds the metaframe.
 fn is_sync(code: u128) -> bool
@@ -39,7 +20,7 @@ fn is_sync(code: u128) -> bool
     ensures is { result ≡ true → IsSync code }
     ensures only { IsSync code → result ≡ true }
 {
-    header_of(code) == 2 && payload_of(code) == SYNC
+    header_of(code) == CONTROL && payload_of(code) == SYNC
 }
 
 // Whether a code is that of a word that carries the state of the key.
@@ -48,7 +29,7 @@ fn is_state(code: u128) -> bool
     ensures is { result ≡ true → IsState code }
     ensures only { IsState code → result ≡ true }
 {
-    header_of(code) == 2 && payload_of(code) >> 58 == 10
+    header_of(code) == CONTROL && payload_of(code) >> STATE_BITS == SCRAMBLER_STATE >> STATE_BITS
 }
 
 // Makes the line that of a word by which a receiver finds the metaframe.
@@ -97,7 +78,7 @@ pub fn code_line(line: &mut Vec<u8>, code: u128) -> Result<(), OutOfMemory>
         return sync_line(line, inverted);
     }
     if is_state(code) {
-        return state_line(line, inverted, payload % 0x400_0000_0000_0000);
+        return state_line(line, inverted, payload % (1 << STATE_BITS));
     }
     other_line(line, inverted, header, payload)
 }

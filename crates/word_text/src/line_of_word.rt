@@ -6,7 +6,7 @@ ghost use Rattle.word_text.specs.WordLines.{kind_text, end_text, control_text, I
 
 use crate::digits::{put, put_bit, put_decimal, put_digits};
 use crate::word::FileWord;
-use control_words::{Control, Eop, from_word};
+use control_words::{Control, ControlWord, Eop};
 use lk_base::OutOfMemory;
 
 // The name of a control word.
@@ -63,8 +63,8 @@ fn number_line(line: &mut Vec<u8>, name: &[u8], x: u64) -> Result<(), OutOfMemor
 fn control_line(line: &mut Vec<u8>, x: u64) -> Result<(), OutOfMemory>
     ensures { OnOk result (IsControlLine x line.new.items) }
 {
-    match from_word(x) {
-        Ok((c, crc)) => fields_line(line, c, crc),
+    match ControlWord(x).control() {
+        Ok(c) => fields_line(line, c, ControlWord(x).crc()),
         Err(_) => number_line(line, b"control ", x),
     }
 }

@@ -1,7 +1,6 @@
 -- The open packet goes on with the words; another piece stays.
-use Rattle.std.proofs.Common.{ℕ, ◌≡◌, ◌∙◌, sym, ap, List, refl}
-use Rattle.std.proofs.lemmas.List.{set-get_or}
-use Rattle.reassembly.specs.Packets.{Packets, with_kept}
+use Rattle.std.proofs.Common.{◌∙◌, sym, ap}
+use Rattle.reassembly.specs.Packets.{with_kept}
 use Rattle.reassembly.specs.States.{Row}
 use Rattle.reassembly.specs.Tables.{channel_as}
 use Rattle.reassembly.proofs.Adding.{kept-same}

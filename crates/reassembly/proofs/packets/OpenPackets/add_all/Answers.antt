@@ -1,9 +1,9 @@
 -- Cells are free for words that all are kept.
-use Rattle.std.proofs.Common.{ℕ, ◌≡◌, ◌<◌, ◌≤◌, ◌-◌, ◌+◌, ◌/◌, ◌∙◌, ◌++◌, length, sym, ap, subst, arith, true, set, flat_map}
+use Rattle.std.proofs.Common.{◌≡◌, ◌<◌, ◌∙◌, ◌++◌, length, sym, ap, subst, arith, true, set, flat_map}
 use Rattle.std.specs.Int.{w64, to_be_bytes}
 use Rattle.cell_pool.specs.Stored.{bytes_at}
 use Rattle.reassembly.specs.Folds.{are_kept, grown_by}
-use Rattle.reassembly.specs.Packets.{Packets, delivered_bytes, with_kept}
+use Rattle.reassembly.specs.Packets.{Packets, with_kept}
 use Rattle.reassembly.proofs.Delivered.{open_length, shown}
 use Rattle.reassembly.proofs.Many.{many_kept, many_room, many_roomy, many_shown}
 use Rattle.reassembly.proofs.packets.OpenPackets.add_all.Goals as goal

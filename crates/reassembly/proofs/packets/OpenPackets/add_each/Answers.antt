@@ -1,6 +1,6 @@
 -- One word more came.
 use Rattle.std.proofs.Common.{◌≡◌, ◌&&◌, ◌∙◌, refl, sym, ap, Bool, slice_index}
-use Rattle.reassembly.proofs.Adding.{adding-more, adding-none, adding-place}
+use Rattle.reassembly.proofs.Adding.{adding-more}
 use Rattle.reassembly.proofs.packets.OpenPackets.add_each.Goals.{then-all, else-all}
 use Rattle.reassembly.proofs.packets.OpenPackets.add_each.Goals as goal
 

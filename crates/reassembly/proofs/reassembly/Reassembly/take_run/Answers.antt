@@ -1,8 +1,6 @@
 -- More of the run was taken.
-use Rattle.std.proofs.Common.{◌≡◌, ◌∙◌, ◌++◌, ◌≤◌, sym, ap, subst, List, length, take, drop}
-use Rattle.lk_base.specs.declared.word.RxWord.{RxWord}
-use Rattle.reassembly.specs.Runs.{after_words, run_of}
-use Rattle.reassembly.proofs.Runs.{running-ends, running-more}
+use Rattle.std.proofs.Common.{◌≡◌, drop}
+use Rattle.reassembly.proofs.Runs.{running-more}
 use Rattle.reassembly.proofs.reassembly.Reassembly.take_run.Goals as goal
 
 pub loop-goes_on-preserved : goal.loop-goes_on-preserved
