@@ -5,12 +5,7 @@ ghost use Rattle.std.specs.List.{list_all};
 ghost use Rattle.csv_rows.specs.Fields.{decimal_from};
 ghost use Rattle.command_words.specs.Arguments.{number_of_word};
 
-// Whether there are digits alone.
-fn are_digits(bytes: &[u8]) -> bool
-    ensures { result ≡ list_all is_ascii_digit bytes.now }
-{
-    bytes.iter().all(|b| b.is_ascii_digit())
-}
+use csv_rows::are_digits;
 
 // What at most 20 digits spell.
 fn decimal(bytes: &[u8]) -> u128
