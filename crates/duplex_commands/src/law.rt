@@ -17,8 +17,8 @@ pub fn peaks_are_bounded()
     ensures { PeaksAreBounded }
 {}
 
-/// What is made: the captures have exactly the packets that arrived, and the queues of channels with a calendar entry were
-/// never above the bound.
+/// What is made: where the files hold bytes, the captures have exactly the packets that arrived; and the queues of channels with
+/// a calendar entry were never above the bound, whatever the files hold.
 pub fn ends_hold_back()
     ensures { EndsHoldBack }
 {}
