@@ -1,5 +1,6 @@
 //! Laws on what `duplex` makes.
 ghost use Rattle.duplex_commands.specs.HeldBack.{EndsHoldBack};
+ghost use Rattle.duplex_commands.specs.PremisesMet.{TwoEndsMeet};
 ghost use Rattle.duplex_commands.specs.Laws.{DuplexIsWork, CapturesAreSent, PeaksAreBounded};
 
 /// What is read for `duplex` comes to one outcome; where the files hold bytes it comes to one; and no stream is held.
@@ -21,4 +22,10 @@ pub fn peaks_are_bounded()
 /// a calendar entry were never above the bound, whatever the files hold.
 pub fn ends_hold_back()
     ensures { EndsHoldBack }
+{}
+
+/// The premises of these laws are met by settings with a plan of one lane and a packet of eight bytes at end a: they are read so,
+/// and come to an outcome.
+pub fn premises_are_met()
+    ensures { TwoEndsMeet }
 {}
