@@ -5,6 +5,7 @@ pub mod HeldBack
 mod Parts
 mod CapturesSent
 mod PeaksWithin
+mod PremisesHold
 mod ReadParts
 mod Backs
 mod Begins

@@ -3,7 +3,7 @@ use Rattle.std.proofs.Common.{◌≡◌, ℕ, List, ap, subst, Result, Ok, Err}
 use Rattle.lk_base.specs.Limits.{capture_limit, plan_limit}
 use Rattle.lk_outside.specs.Files.{Files, AreBytes}
 use Rattle.csv_rows.specs.Rows.{rows_of}
-use Rattle.link_plan.specs.Plan.{PlanValue, plan_of}
+use Rattle.link_plan.specs.Plan.{Listed, PlanValue, plan_of}
 use Rattle.plan_errors.specs.declared.error.PlanError.{PlanError}
 use Rattle.duplex_plan.specs.Duplex.{DuplexValue, duplex_of}
 use Rattle.duplex_plan.specs.Ranges.{AreInRange}
@@ -35,7 +35,30 @@ plan_keeps files name plan e =
     let (bytes, had, is) = behind_ok (bytes_in files name plan_limit) (λ b. rows_by name (plan_of (rows_of b))) plan e in
     rows_keep (rows_of bytes) plan (rows_by_ok name (plan_of (rows_of bytes)) plan is)
 
--- what is known of what was read
+-- each part was read from the files
+record AreRead (files : Files) (name : List ℕ) (r : DuplexReading) : Type 0 where
+  settings : settings_in files name ≡ Ok r.settings
+  plan : shared_plan_in files r.settings.plan ≡ Ok r.plan
+  back : List Listed
+  a : packets_in files r.plan.settings.max_packet capture_limit r.plan.channels ≡ Ok r.packets_of_a
+  b : packets_in files r.plan.settings.max_packet (room_behind files r.plan.channels) back ≡ Ok r.packets_of_b
+
+are_read : (files : Files) (name : List ℕ) (r : DuplexReading) → duplex_in files name ≡ Ok r → AreRead files name r
+unfolding duplex_in
+are_read files name r e =
+    let (settings, had, next) = behind_ok (settings_in files name) (with_settings files) r e in
+    let (plan, planned, then) = behind_ok (shared_plan_in files settings.plan) (with_plan files settings) r next in
+    let (back, listed, last) = behind_ok (back_channels plan settings.back) (with_captures files settings plan) r then in
+    let (a, first, behind_a) = behind_ok (packets_in files plan.settings.max_packet capture_limit plan.channels) (λ x. behind (packets_in files plan.settings.max_packet (room_behind files plan.channels) back) (λ y. Ok (record { settings = settings; plan = plan; packets_of_a = x; packets_of_b = y }))) r last in
+    let (b, second, all) = behind_ok (packets_in files plan.settings.max_packet (room_behind files plan.channels) back) (λ y. Ok (record { settings = settings; plan = plan; packets_of_a = a; packets_of_b = y })) r behind_a in
+    let same : record { settings = settings; plan = plan; packets_of_a = a; packets_of_b = b } ≡ r = cc all in
+    subst (AreRead files name) same (record { settings = had; plan = planned; back = back; a = first; b = second })
+
+-- the plan that was read keeps what plans keep, whatever the files hold
+pub plan_part : (files : Files) (name : List ℕ) (r : DuplexReading) → duplex_in files name ≡ Ok r → Keeps r.plan
+plan_part files name r e = let read = are_read files name r e in plan_keeps files r.settings.plan r.plan read.plan
+
+-- what is known of what was read, where the files hold bytes
 pub record AreParts (r : DuplexReading) : Type 0 where
   pub settings : AreInRange r.settings
   pub plan : Keeps r.plan
@@ -43,17 +66,9 @@ pub record AreParts (r : DuplexReading) : Type 0 where
   pub b : AreFit r.plan.settings.max_packet r.packets_of_b
 
 pub parts_of : (files : Files) (name : List ℕ) (r : DuplexReading) → AreBytes files → duplex_in files name ≡ Ok r → AreParts r
-unfolding duplex_in
-parts_of files name r are e =
-    let (settings, had, next) = behind_ok (settings_in files name) (with_settings files) r e in
-    let (plan, planned, then) = behind_ok (shared_plan_in files settings.plan) (with_plan files settings) r next in
-    let (back, listed, last) = behind_ok (back_channels plan settings.back) (with_captures files settings plan) r then in
-    let (a, first, behind_a) = behind_ok (packets_in files plan.settings.max_packet capture_limit plan.channels) (λ x. behind (packets_in files plan.settings.max_packet (room_behind files plan.channels) back) (λ y. Ok (record { settings = settings; plan = plan; packets_of_a = x; packets_of_b = y }))) r last in
-    let (b, second, all) = behind_ok (packets_in files plan.settings.max_packet (room_behind files plan.channels) back) (λ y. Ok (record { settings = settings; plan = plan; packets_of_a = a; packets_of_b = y })) r behind_a in
-    let same : record { settings = settings; plan = plan; packets_of_a = a; packets_of_b = b } ≡ r = cc all in
-    subst AreParts same (record {
-      settings = settings_fit files name settings had;
-      plan = plan_keeps files settings.plan plan planned;
-      a = channels_fit files are plan.settings.max_packet capture_limit plan.channels a first;
-      b = channels_fit files are plan.settings.max_packet (room_behind files plan.channels) back b second;
-    })
+parts_of files name r are e = let read = are_read files name r e in record {
+  settings = settings_fit files name r.settings read.settings;
+  plan = plan_keeps files r.settings.plan r.plan read.plan;
+  a = channels_fit files are r.plan.settings.max_packet capture_limit r.plan.channels r.packets_of_a read.a;
+  b = channels_fit files are r.plan.settings.max_packet (room_behind files r.plan.channels) read.back r.packets_of_b read.b;
+}

@@ -6,6 +6,7 @@ pub mod Laws
 pub mod Values
 pub mod HeldBack
 pub mod Loaded
+pub mod PremisesMet
 -- needed by private functions and proofs alone
 pub mod Captures
 pub mod Slots

@@ -1,5 +1,6 @@
 //! Laws on what `duplex` makes.
 ghost use Rattle.duplex_commands.specs.HeldBack.{EndsHoldBack};
+ghost use Rattle.duplex_commands.specs.PremisesMet.{TwoEndsMeet};
 ghost use Rattle.duplex_commands.specs.Laws.{DuplexIsWork, CapturesAreSent, PeaksAreBounded};
 
 /// What is read for `duplex` comes to one outcome; where the files hold bytes it comes to one; and no stream is held.
@@ -17,8 +18,14 @@ pub fn peaks_are_bounded()
     ensures { PeaksAreBounded }
 {}
 
-/// What is made: the captures have exactly the packets that arrived, and the queues of channels with a calendar entry were
-/// never above the bound.
+/// What is made: where the files hold bytes, the captures have exactly the packets that arrived; and the queues of channels with
+/// a calendar entry were never above the bound, whatever the files hold.
 pub fn ends_hold_back()
     ensures { EndsHoldBack }
+{}
+
+/// The premises of these laws are met by settings with a plan of one lane and a packet of eight bytes at end a: they are read so,
+/// and come to an outcome.
+pub fn premises_are_met()
+    ensures { TwoEndsMeet }
 {}

@@ -38,7 +38,7 @@ use Rattle.link_commands.specs.Delivery.{DeliversUnmet, sent_on}
 use Rattle.link_commands.specs.Linked.{IsLinkedBy, missing_among, missing_lines, sent_over}
 use Rattle.link_commands.specs.PremisesMet.{one_to_eight, plan_name}
 use Rattle.link_commands.specs.TwoPacketsMet.{OneOfTwoArrives, eight_more, second_packet, two_entries, two_epoch, two_files, two_packets, two_reading, two_words}
-use Rattle.link_commands.proofs.CleanRuns.{HaveBytes, files_of_bytes}
+use Rattle.plan_inputs.proofs.ListedFiles.{HaveBytes, files_of_bytes}
 use Rattle.link_commands.proofs.DamagedGroups.{events_are, lose_none, none_there, one_epoch, setting_is}
 use Rattle.link_commands.proofs.Delivers.{delivers}
 use Rattle.link_commands.proofs.LinkWork.{lawful_link}

@@ -6,3 +6,4 @@ mod PlanResent
 mod Accepting
 mod Filling
 mod ResendRead
+mod PremisesHold

@@ -5,3 +5,4 @@ pub mod Reading
 pub mod Values
 pub mod Command
 pub mod Accepted
+pub mod PremisesMet

@@ -1,5 +1,6 @@
 //! Laws on what `resend` makes.
 ghost use Rattle.resend_commands.specs.Accepted.{ResendIsWork, ResentInOrder};
+ghost use Rattle.resend_commands.specs.PremisesMet.{ResentMeets};
 
 /// What is read for `resend` comes to one outcome; where the files hold bytes it comes to one; and no stream is held.
 pub fn resend_is_work()
@@ -10,4 +11,10 @@ pub fn resend_is_work()
 /// accepted once, in order; what is acknowledged was accepted, and what was accepted was sent.
 pub fn resent_in_order()
     ensures { ResentInOrder }
+{}
+
+/// The premises of these laws are met by a plan with a packet of eight bytes, whose events send three pieces, lose one and take
+/// one: it is read so, and comes to an outcome.
+pub fn premises_are_met()
+    ensures { ResentMeets }
 {}

@@ -10,6 +10,6 @@ mod words;
 mod write;
 
 pub use command::ResendPlan;
-pub use law::{resend_is_work, resent_in_order};
+pub use law::{premises_are_met, resend_is_work, resent_in_order};
 pub use reading::{ResendInputs, read_resend};
 pub use write::write_plan;
