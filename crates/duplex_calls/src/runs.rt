@@ -86,12 +86,14 @@ fn tell(rt: &HostRuntime, duplex: &mut Duplex, slots: u32) -> io::Result<()>
     let (at_a, at_b) = run(duplex, slots);
     let peak_a = duplex.peak(End::A, 1);
     let peak_b = duplex.peak(End::B, 1);
+    let queue_a = duplex.queue(End::A, 1);
+    let queue_b = duplex.queue(End::B, 1);
     println!(rt;
-        "end a channel=1 packets={} bytes={} peak={peak_a}",
+        "end a channel=1 packets={} bytes={} peak={peak_a} queue={queue_a}",
         at_a.packets, at_a.bytes
     )?;
     println!(rt;
-        "end b channel=1 packets={} bytes={} peak={peak_b}",
+        "end b channel=1 packets={} bytes={} peak={peak_b} queue={queue_b}",
         at_b.packets, at_b.bytes
     )?;
     println!(rt; "slots {slots}")

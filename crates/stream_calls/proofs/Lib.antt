@@ -1,1 +1,2 @@
 mod TwoChannels
+mod OnePacket

@@ -10,6 +10,6 @@ change-requires-clause-file c =
 pub change-requires-clause-skew : goal.change-requires-clause-skew
 change-requires-clause-skew c = c.requires.skew
 
-pub returns : goal.returns
-returns c =
-    c.in_ok-change.ensures {u = tt} (take c.args.bits (bits_of_bytes c.args.bytes.now.items)) c.requires.file (sent-bits c.args.bytes.now.items c.args.bits c.requires.bits)
+pub returns-clause-damaged : goal.returns-clause-damaged
+returns-clause-damaged c =
+    c.in_ok-change.ensures.changed (take c.args.bits (bits_of_bytes c.args.bytes.now.items)) c.requires.file (sent-bits c.args.bytes.now.items c.args.bits c.requires.bits)
