@@ -6,7 +6,7 @@ ghost use Rattle.lane_model.specs.Coding.{code_of, header_for, header_in, invers
 
 use lk_base::{RxWord, Word};
 
-/// Whether the payload of a code stands inverted: bit 66.
+/// Bit 66 of a code, the inversion bit: whether its payload is inverted.
 pub fn inversion_of(code: u128) -> bool
     requires { code < 2 ^ 67 }
     ensures { result ≡ (code / 2 ^ 66 == 1) }
@@ -32,7 +32,7 @@ pub fn payload_of(code: u128) -> u64
     if inversion_of(code) { !low } else { low }
 }
 
-/// The code with this inversion, this header and this payload.
+/// The code with this inversion bit, this header and this payload, which is given before inversion.
 pub fn code_with(inverted: bool, header: u8, payload: u64) -> u128
     requires { header < 4 }
     ensures below { result < 2 ^ 67 }

@@ -45,14 +45,16 @@ impl ControlWord {
         self.bits(61, 1) == 1
     }
 
-    /// Bits 60:57, the end format: a packet ends before the word, rightly or with an error.
+    /// Whether the end format, bits 60:57, is not 0000: a packet ends before the word, rightly or with an error. It is true of 0010 to
+    /// 0111, too, which no receiver accepts.
     pub fn ends_packet(self) -> bool
         ensures { result ≡ has_end self.0 }
     {
         1 <= self.bits(57, 4)
     }
 
-    /// Bits 60:57, the end format: how the data before the word end. Of a number that is not accepted it says nothing.
+    /// Bits 60:57, the end format: how the data before the word end. For 0010 to 0111, which stand for no end, it is `End(0)`, which no
+    /// accepted word has. It does not look at bit 63.
     pub fn end_format(self) -> Eop
         ensures { result ≡ end_of self.0 }
     {

@@ -25,7 +25,7 @@ abbrev pub plan_text : List ℕ
 plan_text = codes "lanes,1\nmetaframe,32\nwarmup,4\nchannel,1,a\nout,o\nevents,e\n"
 
 abbrev pub events_text : List ℕ
-events_text = codes "send,3\nlose,1\ntake,1\n"
+events_text = codes "send,3\ntake,1\nlose,1\ntake,1\n"
 
 abbrev pub resent_entries : List (List ℕ × List ℕ)
 resent_entries = (plan_name, plan_text) ∷ (codes "a", one_capture) ∷ (codes "e", events_text) ∷ []
@@ -52,7 +52,7 @@ resent_plan = record {
 }
 
 abbrev pub resent_rows : List (Event × ℕ)
-resent_rows = (Send, 3) ∷ (Lose, 1) ∷ (Take, 1) ∷ []
+resent_rows = (Send, 3) ∷ (Take, 1) ∷ (Lose, 1) ∷ (Take, 1) ∷ []
 
 abbrev pub resent_reading : ResendReading
 resent_reading = record {

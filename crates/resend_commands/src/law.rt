@@ -13,8 +13,8 @@ pub fn resent_in_order()
     ensures { ResentInOrder }
 {}
 
-/// The premises of these laws are met by a plan with a packet of eight bytes, whose events send three pieces, lose one and take
-/// one: it is read so, and comes to an outcome.
+/// The premises of these laws are met by a plan with a packet of eight bytes, whose events send three pieces, deliver one,
+/// lose one and deliver one out of turn: it is read so, and comes to an outcome.
 pub fn premises_are_met()
     ensures { ResentMeets }
 {}

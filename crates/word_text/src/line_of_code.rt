@@ -8,7 +8,7 @@ use coding_67b::{header_of, inversion_of, payload_of};
 use lane_model::{SCRAMBLER_STATE, SYNC};
 use lk_base::OutOfMemory;
 
-// A header of control.
+// The header of a control word, 10.
 pub const CONTROL: u8 = 2;
 
 // The bits of the state in the payload of a word that carries the state of the key; the mark of that word stands above them.

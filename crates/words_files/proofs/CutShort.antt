@@ -6,10 +6,10 @@ use Rattle.lk_base.specs.declared.word.Word.{Word}
 use Rattle.words_files.specs.WordsFile.{IsCutShort, word_bytes, words_file}
 
 pub none_came : (old more new : List ℕ) → 1 ≤ length more → new ≡ old → IsCutShort old more new
-none_came old more new some same = record { first = []; rest = more; parts = refl; some = some; now = same ∙ sym (append-nil old) }
+none_came old more new not_all same = record { first = []; rest = more; parts = refl; not_all = not_all; now = same ∙ sym (append-nil old) }
 
 pub one_came : (first : ℕ) (old more new : List ℕ) → 1 ≤ length more → new ≡ old ++ first ∷ [] → IsCutShort old (first ∷ more) new
-one_came first old more new some same = record { first = first ∷ []; rest = more; parts = refl; some = some; now = same }
+one_came first old more new not_all same = record { first = first ∷ []; rest = more; parts = refl; not_all = not_all; now = same }
 
 -- the words before the one that is cut short came whole
 pub words_came : (words : List Word) (i : ℕ) (d : Word) (start old new : List ℕ) → i < length words → old ≡ start ++ words_file (take i words) → IsCutShort old (word_bytes (get_or words i d)) new → IsCutShort start (words_file words) new
@@ -26,6 +26,6 @@ words_came words i d start old new lt before cut =
       first = front ++ cut.first;
       rest = cut.rest ++ later;
       parts = file;
-      some = (let some = cut.some in let long = length-append cut.rest later in omega (arith, some, long));
+      not_all = (let left = cut.not_all in let long = length-append cut.rest later in omega (arith, left, long));
       now = cut.now ∙ ap (λ (bs : List ℕ). bs ++ cut.first) before ∙ append_assoc start front cut.first;
     }
