@@ -35,17 +35,17 @@ pub enum Request<'w> {
     /// The lane files of a plan become captures and a span table.
     Receive(WithFile<'w, Receive>),
     /// A plan is sent over the lanes of its link, and received.
-    Link(LinkPlan<'w>),
+    Link(WithFile<'w, LinkPlan>),
     /// A case of a number is written, sent and received.
     Generate(GenerateCase<'w>),
     /// Two ends that hold each other back become the captures of what each got.
-    Duplex(DuplexFile<'w>),
+    Duplex(WithFile<'w, DuplexFile>),
     /// The calendar of a plan and its local rows become samples.
     OobWrite(WithFile<'w, OobWrite>),
     /// The samples of a plan become a flow file.
     OobRead(WithFile<'w, OobRead>),
     /// The stream of a plan is carried over a link that loses, repeats and delays.
-    Resend(ResendPlan<'w>),
+    Resend(WithFile<'w, ResendPlan>),
     /// A words file or a lane file becomes its listing.
     ListFile(WithFile<'w, ListFile>),
     /// A text becomes the file of which it is the listing.
@@ -116,12 +116,12 @@ fn request_for<'w>(command: Name, arguments: &Arguments<'w>) -> Request<'w>
         Name::Join => join_of(arguments.file),
         Name::Send => Request::SendPlan(WithFile::new(arguments.file)),
         Name::Receive => Request::Receive(WithFile::new(arguments.file)),
-        Name::Link => Request::Link(LinkPlan::make(arguments.file)),
+        Name::Link => Request::Link(WithFile::new(arguments.file)),
         Name::Generate => Request::Generate(GenerateCase::make(arguments.number, arguments.file)),
-        Name::Duplex => Request::Duplex(DuplexFile::make(arguments.file)),
+        Name::Duplex => Request::Duplex(WithFile::new(arguments.file)),
         Name::OobWrite => Request::OobWrite(WithFile::new(arguments.file)),
         Name::OobRead => Request::OobRead(WithFile::new(arguments.file)),
-        Name::Resend => Request::Resend(ResendPlan::make(arguments.file)),
+        Name::Resend => Request::Resend(WithFile::new(arguments.file)),
         Name::List => Request::ListFile(WithFile::new(arguments.file)),
         Name::Assemble => Request::AssembleText(WithFile::new(arguments.file)),
     }
