@@ -3,7 +3,7 @@ ghost use Rattle.std.specs.Prelude.{◌<◌, ◌^◌};
 
 use lk_base::OutOfMemory;
 use lk_outside::MemStore;
-use run_shell::Command;
+use run_shell::FileCommand;
 use run_stops::{Fault, Stop, fault_line};
 use std::alloc::Global;
 
@@ -18,15 +18,15 @@ fn fault_of(alloc: Global, stop: Stop) -> Result<Fault, OutOfMemory> {
     }
 }
 
-/// The text of a command, or the line of what stopped it.
-pub fn obeyed<C: Command>(
+/// The text of a command of the file of this name, or the line of what stopped it.
+pub fn obeyed<C: FileCommand>(
     alloc: Global,
-    command: &C,
     store: &mut MemStore,
+    name: &str,
 ) -> Result<Vec<u8>, OutOfMemory>
     requires { store.old.faults < 2 ^ 60 }
 {
-    match command.obey(alloc, store) {
+    match C::obey(alloc, store, name) {
         Ok(finished) => Ok(finished.text),
         Err(stop) => {
             let mut line = Vec::new(alloc);

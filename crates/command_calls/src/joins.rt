@@ -61,7 +61,7 @@ fn with_size(
 fn join_words(alloc: Global, store: &mut MemStore) -> Result<Vec<u8>, OutOfMemory>
     requires { store.old.faults < 2 ^ 60 }
 {
-    let mut out = obeyed(alloc, &JoinWords::make("a.words"), store)?;
+    let mut out = obeyed::<JoinWords>(alloc, store, "a.words")?;
     with_size(alloc, &mut out, store, "a.words.0.pcap")?;
     with_text(&mut out, store, "a.words.spans.csv")?;
     Ok(out)
@@ -75,7 +75,7 @@ fn words_joined(alloc: Global) -> Result<Vec<u8>, OutOfMemory> {
 fn join_plan(alloc: Global, store: &mut MemStore) -> Result<Vec<u8>, OutOfMemory>
     requires { store.old.faults < 2 ^ 60 }
 {
-    let mut out = obeyed(alloc, &JoinPlan::make("p"), store)?;
+    let mut out = obeyed::<JoinPlan>(alloc, store, "p")?;
     with_size(alloc, &mut out, store, "o.0.pcap")?;
     with_size(alloc, &mut out, store, "o.3.pcap")?;
     with_text(&mut out, store, "o.spans.csv")?;

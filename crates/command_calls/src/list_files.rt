@@ -49,7 +49,7 @@ fn list(
 ) -> Result<Vec<u8>, OutOfMemory>
     requires { store.old.faults < 2 ^ 60 }
 {
-    let mut out = obeyed(alloc, &ListFile::make(name), store)?;
+    let mut out = obeyed::<ListFile>(alloc, store, name)?;
     with_text(&mut out, store, output)?;
     Ok(out)
 }
@@ -67,7 +67,7 @@ fn assemble(
 ) -> Result<Vec<u8>, OutOfMemory>
     requires { store.old.faults < 2 ^ 60 }
 {
-    let mut out = obeyed(alloc, &AssembleText::make(name), store)?;
+    let mut out = obeyed::<AssembleText>(alloc, store, name)?;
     with_bytes(alloc, &mut out, store, output)?;
     Ok(out)
 }

@@ -14,7 +14,7 @@ use lk_outside::Store;
 use oob_commands::{OobRead, OobWrite};
 use receive_commands::Receive;
 use resend_commands::ResendPlan;
-use run_shell::{Command, Finished};
+use run_shell::{Command, Finished, WithFile};
 use run_stops::Stop;
 use std::alloc::Global;
 use stream_commands::{BurstCapture, BurstPlan, SendPlan};
@@ -23,33 +23,33 @@ use stream_commands::{BurstCapture, BurstPlan, SendPlan};
 #[derive(Drop)]
 pub enum Request<'w> {
     /// A capture becomes a words file.
-    BurstCapture(BurstCapture<'w>),
+    BurstCapture(WithFile<'w, BurstCapture>),
     /// A plan becomes a words file.
-    BurstPlan(BurstPlan<'w>),
+    BurstPlan(WithFile<'w, BurstPlan>),
     /// A words file becomes a capture and a span table.
-    JoinWords(JoinWords<'w>),
+    JoinWords(WithFile<'w, JoinWords>),
     /// The words file of a plan becomes captures and a span table.
-    JoinPlan(JoinPlan<'w>),
+    JoinPlan(WithFile<'w, JoinPlan>),
     /// A plan becomes lane files.
-    SendPlan(SendPlan<'w>),
+    SendPlan(WithFile<'w, SendPlan>),
     /// The lane files of a plan become captures and a span table.
-    Receive(Receive<'w>),
+    Receive(WithFile<'w, Receive>),
     /// A plan is sent over the lanes of its link, and received.
-    Link(LinkPlan<'w>),
+    Link(WithFile<'w, LinkPlan>),
     /// A case of a number is written, sent and received.
     Generate(GenerateCase<'w>),
     /// Two ends that hold each other back become the captures of what each got.
-    Duplex(DuplexFile<'w>),
+    Duplex(WithFile<'w, DuplexFile>),
     /// The calendar of a plan and its local rows become samples.
-    OobWrite(OobWrite<'w>),
+    OobWrite(WithFile<'w, OobWrite>),
     /// The samples of a plan become a flow file.
-    OobRead(OobRead<'w>),
+    OobRead(WithFile<'w, OobRead>),
     /// The stream of a plan is carried over a link that loses, repeats and delays.
-    Resend(ResendPlan<'w>),
+    Resend(WithFile<'w, ResendPlan>),
     /// A words file or a lane file becomes its listing.
-    ListFile(ListFile<'w>),
+    ListFile(WithFile<'w, ListFile>),
     /// A text becomes the file of which it is the listing.
-    AssembleText(AssembleText<'w>),
+    AssembleText(WithFile<'w, AssembleText>),
 }
 
 impl Command for Request<'_> {
@@ -89,9 +89,9 @@ fn burst_of<'w>(file: &'w str) -> Request<'w>
     ensures { result ≡ burst_of file.now }
 {
     if is_plan_name(file) {
-        Request::BurstPlan(BurstPlan::make(file))
+        Request::BurstPlan(WithFile::new(file))
     } else {
-        Request::BurstCapture(BurstCapture::make(file))
+        Request::BurstCapture(WithFile::new(file))
     }
 }
 
@@ -100,9 +100,9 @@ fn join_of<'w>(file: &'w str) -> Request<'w>
     ensures { result ≡ join_of file.now }
 {
     if is_plan_name(file) {
-        Request::JoinPlan(JoinPlan::make(file))
+        Request::JoinPlan(WithFile::new(file))
     } else {
-        Request::JoinWords(JoinWords::make(file))
+        Request::JoinWords(WithFile::new(file))
     }
 }
 
@@ -114,16 +114,16 @@ fn request_for<'w>(command: Name, arguments: &Arguments<'w>) -> Request<'w>
     match command {
         Name::Burst => burst_of(arguments.file),
         Name::Join => join_of(arguments.file),
-        Name::Send => Request::SendPlan(SendPlan::make(arguments.file)),
-        Name::Receive => Request::Receive(Receive::make(arguments.file)),
-        Name::Link => Request::Link(LinkPlan::make(arguments.file)),
+        Name::Send => Request::SendPlan(WithFile::new(arguments.file)),
+        Name::Receive => Request::Receive(WithFile::new(arguments.file)),
+        Name::Link => Request::Link(WithFile::new(arguments.file)),
         Name::Generate => Request::Generate(GenerateCase::make(arguments.number, arguments.file)),
-        Name::Duplex => Request::Duplex(DuplexFile::make(arguments.file)),
-        Name::OobWrite => Request::OobWrite(OobWrite::make(arguments.file)),
-        Name::OobRead => Request::OobRead(OobRead::make(arguments.file)),
-        Name::Resend => Request::Resend(ResendPlan::make(arguments.file)),
-        Name::List => Request::ListFile(ListFile::make(arguments.file)),
-        Name::Assemble => Request::AssembleText(AssembleText::make(arguments.file)),
+        Name::Duplex => Request::Duplex(WithFile::new(arguments.file)),
+        Name::OobWrite => Request::OobWrite(WithFile::new(arguments.file)),
+        Name::OobRead => Request::OobRead(WithFile::new(arguments.file)),
+        Name::Resend => Request::Resend(WithFile::new(arguments.file)),
+        Name::List => Request::ListFile(WithFile::new(arguments.file)),
+        Name::Assemble => Request::AssembleText(WithFile::new(arguments.file)),
     }
 }
 

@@ -7,10 +7,9 @@ ghost use Rattle.listing_commands.specs.Listing.{is_words_name, IsTextOfWords, I
 use crate::conversion::{Made, write_made};
 use crate::limits::LISTED_LIMIT;
 use lk_outside::Store;
-use run_shell::{Command, Finished};
+use run_shell::{FileCommand, Finished};
 use run_stops::{InputError, Stop, input_stop, read_input};
 use std::alloc::Global;
-use std::marker::Model;
 use word_text::{list_lane, list_words};
 
 // Whether a name is that of a words file.
@@ -55,36 +54,16 @@ fn list_bytes(alloc: Global, file: &str, bytes: &[u8]) -> Result<Made, Stop>
 }
 
 /// `list FILE`: a words file, where FILE ends in `.words`, or else a lane file becomes its listing, `FILE.txt`.
-#[derive(Drop)]
-pub struct ListFile<'w> {
-    file: &'w str,
-}
+pub struct ListFile;
 
-impl<'w> Model for ListFile<'w> {
-    ghost use Rattle.std.specs.Prelude.{List, ℕ};
-
-    ghost Value = { List ℕ };
-
-    ghost view = { λ c. c.file.now };
-}
-
-impl<'w> ListFile<'w> {
-    /// The command, of the file of this name.
-    pub fn make(file: &'w str) -> ListFile<'w>
-        ensures { result ≡ file.now }
-    {
-        ListFile { file }
-    }
-}
-
-impl Command for ListFile<'_> {
+impl FileCommand for ListFile {
     ghost use Rattle.listing_commands.specs.Listing.{list_meaning};
 
     ghost meaning = { list_meaning };
 
-    fn obey<S: Store>(&self, alloc: Global, store: &mut S) -> Result<Finished, Stop> {
-        let bytes = read_input(alloc, store, self.file, LISTED_LIMIT)?;
-        let made = list_bytes(alloc, self.file, &bytes)?;
-        write_made(alloc, store, self.file, ".txt", "lines", made)
+    fn obey<S: Store>(alloc: Global, store: &mut S, file: &str) -> Result<Finished, Stop> {
+        let bytes = read_input(alloc, store, file, LISTED_LIMIT)?;
+        let made = list_bytes(alloc, file, &bytes)?;
+        write_made(alloc, store, file, ".txt", "lines", made)
     }
 }

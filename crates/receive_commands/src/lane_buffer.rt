@@ -45,7 +45,8 @@ fn read_front<S: Store>(
     read_piece(alloc, store, name, offset, &mut bytes[..count])
 }
 
-// The same for a vector, none of whose bytes is read past the limit of a lane.
+// Reads bytes of the file of this name, from the offset on, to the front of a vector, and reports how many. No byte past the
+// limit of a lane is read.
 fn read_chunk<S: Store>(
     alloc: Global,
     store: &mut S,

@@ -17,10 +17,9 @@ use link_plan::{Plan, channels_in_order};
 use lk_outside::Store;
 use plan_inputs::read_plan_file;
 use receipts::Receipt;
-use run_shell::{Command, Finished, lane_names};
+use run_shell::{FileCommand, Finished, lane_names};
 use run_stops::Stop;
 use std::alloc::Global;
-use std::marker::Model;
 
 /// A plan and the names of its lanes' files, by number.
 #[derive(Drop)]
@@ -66,35 +65,15 @@ fn receive_lanes<S: Store>(alloc: Global, store: &mut S, read: &PlanLanes) -> Re
 
 /// `receive FILE`: the lanes of a plan become the captures of the plan's channels, by number, and the table of the fault spans,
 /// under names that begin with the plan's `out`. The lanes are asked for before anything is created, and read during the work.
-#[derive(Drop)]
-pub struct Receive<'w> {
-    file: &'w str,
-}
+pub struct Receive;
 
-impl<'w> Model for Receive<'w> {
-    ghost use Rattle.std.specs.Prelude.{List, ℕ};
-
-    ghost Value = { List ℕ };
-
-    ghost view = { λ c. c.file.now };
-}
-
-impl<'w> Receive<'w> {
-    /// The command, of the plan of this name.
-    pub fn make(file: &'w str) -> Receive<'w>
-        ensures { result ≡ file.now }
-    {
-        Receive { file }
-    }
-}
-
-impl Command for Receive<'_> {
+impl FileCommand for Receive {
     ghost use Rattle.receive_commands.specs.Receive.{receive_meaning};
 
     ghost meaning = { receive_meaning };
 
-    fn obey<S: Store>(&self, alloc: Global, store: &mut S) -> Result<Finished, Stop> {
-        let read = read_plan_lanes(alloc, store, self.file)?;
+    fn obey<S: Store>(alloc: Global, store: &mut S, file: &str) -> Result<Finished, Stop> {
+        let read = read_plan_lanes(alloc, store, file)?;
         receive_lanes(alloc, store, &read)
     }
 }

@@ -82,10 +82,10 @@ fn append_stop(alloc: Global, line: &mut Vec<u8>, stop: &Stop) -> Result<(), Out
         Stop::Plan(why) => plan_line(alloc, line, why),
         Stop::Input(name, why) => input_line(alloc, line, name.as_str(), why),
         Stop::Store(name) => store_line(alloc, line, name.as_str()),
-        Stop::StoreNoMemory | Stop::OutOfMemory => match line.extend_from_slice(memory_line()) {
-            Ok(()) => Ok(()),
-            Err(_) => Err(OutOfMemory),
-        },
+        Stop::StoreNoMemory | Stop::OutOfMemory => {
+            line.extend_from_slice(memory_line())?;
+            Ok(())
+        }
     }
 }
 
