@@ -1,24 +1,28 @@
 -- A checker of streams: it computes, and where it says yes the words are the stream of the source and finish at the slot.
-use Rattle.std.proofs.Common.{◌≡◌, ◌≢◌, ◌↔◌, inl, inr, ℕ, zero, suc, ◌+◌, ◌-◌, ◌*◌, ◌/◌, ◌^◌, ◌<◌, ◌≤◌, ◌==◌, Bool, true, false, not, ◌&&◌, ◌||◌, if◌then◌else◌, nat_lt, nat_le, List, [], ◌∷◌, ◌++◌, length, map, take, Contains, Decides, Option, Some, None, slice_get, refl, sym, ap, ◌∙◌, subst, arith, append_assoc, append-nil, bytes_eq}
+use Rattle.std.proofs.Common.{◌≡◌, ◌≢◌, ◌↔◌, inl, inr, ℕ, zero, suc, ◌+◌, ◌-◌, ◌*◌, ◌/◌, ◌^◌, ◌<◌, ◌≤◌, ◌==◌, Bool, true, false, not, ◌&&◌, ◌||◌, if◌then◌else◌, nat_lt, nat_le, List, [], ◌∷◌, ◌++◌, length, map, take, Contains, Decides, Option, Some, None, slice_get, refl, sym, ap, ◌∙◌, subst, arith, append_assoc, append-nil, bytes_eq, cond, count_by}
 use Rattle.std.specs.Cmp.{booleans_Decides}
 use Rattle.std.specs.Int.{bit_at}
+use Rattle.std.specs.Option.{option_map_or}
 use Rattle.std.specs.List.{list_all, list_any}
 use Rattle.std.specs.declared.cmp.Ordering.{Ordering}
 use Rattle.std.specs.declared.cmp.Ordering.TheVariants.{Less, Equal, Greater}
 use Rattle.std.proofs.Math.Bool.{beq}
 use Rattle.std.proofs.lemmas.Bool.{agree_below, agree_below_at, and_from, and_parts, or_cases, or_left, or_right, cases_lt, cond-false, cond-true, eq-eqb, eqb-true, false_from_ne_true, false≢true, leb-true, le-leb, lt-ltb, ltb-true, ne_eqb, not-true, not_from_false}
+use Rattle.std.proofs.lemmas.List.Sums.{sum_by-append, sum_by-cons}
 use Rattle.std.proofs.lemmas.Slice.Eq.{bytes_eq-Decides}
+use Rattle.std.proofs.Math.Seq.{take-append_seam}
 use Rattle.lk_base.specs.Checksum.{control_crc}
 use Rattle.lk_base.specs.Fields.{burst_field, channel_field, channel_number, control_field, crc_field, eop_field, multi_field, reset_field, sop_field}
-use Rattle.lk_base.specs.Words.{block, word_at}
+use Rattle.lk_base.specs.Words.{block, is_control, word_at}
 use Rattle.lk_base.specs.declared.word.Word.{Word}
 use Rattle.lk_base.specs.declared.word.Word.TheVariants.{Data, Control}
 use Rattle.lk_base.proofs.LeastLemmas.{one_least}
 use Rattle.stream_model.specs.Calendar.{calendar_bit, first_entry, is_on}
-use Rattle.stream_model.specs.BurstStream.{Source, Chunk, HasAnyLeft, IsBurstStream, IsEnding, IsFinish, IsHeld, IsReady, IsRightControl, IsSpaced, bursts_in, chunk_of_burst, chunks_of, controls_in, data_since, data_words, end_format, is_burst, key, mark_cmp, warmup_slots}
+use Rattle.stream_model.specs.BurstStream.{Source, Chunk, HasAnyLeft, IsBurstStream, IsEnding, IsFinish, IsHeld, IsReady, IsRightControl, IsSpaced, bursts_in, chunk_of_burst, chunks_of, controls_in, data_since, data_words, end_format, format_after, is_burst, key, mark_cmp, warmup_slots}
 use Rattle.stream_model.specs.declared.rows.FlowRow.{FlowRow}
-use Rattle.stream_model.proofs.Blocks.{IsGood, IsWhole, add_block, bit_cases, no_words}
+use Rattle.stream_model.proofs.Blocks.{IsGood, IsWhole, add_block, bit_cases, data_since_block, end_format_block, no_words}
 use Rattle.stream_model.proofs.Choosing.{contains_at}
+use Rattle.stream_model.proofs.Growing.{length_block}
 use Rattle.stream_model.proofs.SourceTest.{all_at, all_from, any_at, any_found, is_listed, listed_decides}
 
 -- ---- the channels, by the words below a slot
@@ -109,36 +113,37 @@ not_both : (n : ℕ) → n ≡ 0 → n ≡ 1 → ⊥
 not_both n e f = cc
 
 module _ (source : Source) (before : List Word) (x : ℕ) (ds : List ℕ) where
-  -- what does not hang on whether it is a burst word
-  abbrev pub sealed_ok : Bool
-  sealed_ok =
-      (eop_field x == end_format source before)
+  -- What does not hang on whether it is a burst word. There are n words below, j of them control words; the word has this
+  -- end format, and these data words stand right below it.
+  abbrev pub sealed_ok : ℕ → ℕ → ℕ → List ℕ → Bool
+  sealed_ok n j end since =
+      (eop_field x == end)
       && ((control_field x == 1)
-      && (beq (reset_field x == 1) (first_entry source.entries (controls_in before) == 0)
-      && (agree_below (λ i. bit_at x (55 - i) == 1) (calendar_bit source.entries source.local (controls_in before) (length before)) 16
-      && (crc_field x == control_crc (data_since before) x))))
+      && (beq (reset_field x == 1) (first_entry source.entries j == 0)
+      && (agree_below (λ i. bit_at x (55 - i) == 1) (calendar_bit source.entries source.local j n) 16
+      && (crc_field x == control_crc since x))))
 
   -- a burst may start at the slot
-  abbrev pub is_due : Bool
-  is_due = nat_le (warmup_slots source) (length before) && (clear before (source.shape.burst_short / 8) (length before) && any_ready source before)
+  abbrev pub is_due : ℕ → Bool
+  is_due n = nat_le (warmup_slots source) n && (clear before (source.shape.burst_short / 8) n && any_ready source before)
 
-  abbrev pub idle_ok : Bool
-  idle_ok = not is_due && ((sop_field x == 0) && ((channel_field x == 0) && ((multi_field x == 0) && bytes_eq ds [])))
+  abbrev pub idle_ok : ℕ → Bool
+  idle_ok n = not (is_due n) && ((sop_field x == 0) && ((channel_field x == 0) && ((multi_field x == 0) && bytes_eq ds [])))
 
   -- the channel is before the other one, or that is not ready
   abbrev pub before_ok : ℕ → ℕ → Bool
   before_ok c d = (d == c) || (not (ready_ok source before d) || is_less (mark_cmp (key source before c) (key source before d)))
 
-  abbrev pub burst_ok : Bool
-  burst_ok =
-      is_due
+  abbrev pub burst_ok : ℕ → Bool
+  burst_ok n =
+      is_due n
       && (is_listed source.channels (channel_number true x)
       && (ready_ok source before (channel_number true x)
       && (carries (chunk_of_burst source before (Control x)) ds (sop_field x == 1)
       && list_all (before_ok (channel_number true x)) source.channels)))
 
-  abbrev pub block_ok : Bool
-  block_ok = nat_lt x (2 ^ 64) && (list_all (λ d. nat_lt d (2 ^ 64)) ds && (sealed_ok && (if burst_field x == 1 then burst_ok else idle_ok)))
+  abbrev pub block_ok : ℕ → ℕ → ℕ → List ℕ → Bool
+  block_ok n j end since = nat_lt x (2 ^ 64) && (list_all (λ d. nat_lt d (2 ^ 64)) ds && (sealed_ok n j end since && (if burst_field x == 1 then burst_ok n else idle_ok n)))
 
   record IsSealed : Type 0 where
     end : eop_field x ≡ end_format source before
@@ -147,7 +152,7 @@ module _ (source : Source) (before : List Word) (x : ℕ) (ds : List ℕ) where
     entries : (i : ℕ) → i < 16 → (bit_at x (55 - i) == 1) ≡ calendar_bit source.entries source.local (controls_in before) (length before) i
     checksum : crc_field x ≡ control_crc (data_since before) x
 
-  sealed : sealed_ok ≡ true → IsSealed
+  sealed : sealed_ok (length before) (controls_in before) (end_format source before) (data_since before) ≡ true → IsSealed
   sealed h =
       let end = and_parts _ _ h in
       let control = and_parts _ _ end.1 in
@@ -162,10 +167,10 @@ module _ (source : Source) (before : List Word) (x : ℕ) (ds : List ℕ) where
         checksum = eqb-true _ _ rest.1;
       }
 
-  due_told : (warmup_slots source ≤ length before) × ((channel : ℕ) × IsReady source before channel) × IsSpaced source before → is_due ≡ true
+  due_told : (warmup_slots source ≤ length before) × ((channel : ℕ) × IsReady source before channel) × IsSpaced source before → is_due (length before) ≡ true
   due_told due = and_from _ _ (le-leb _ _ due.0) (and_from _ _ (clear_told before (source.shape.burst_short / 8) (length before) due.2) (any_ready_told source before due.1.0 due.1.1))
 
-  idle_right : IsSealed → burst_field x ≡ 0 → idle_ok ≡ true → IsRightControl source before x × IsWhole source before x ds
+  idle_right : IsSealed → burst_field x ≡ 0 → idle_ok (length before) ≡ true → IsRightControl source before x × IsWhole source before x ds
   idle_right seal none h =
       let due = and_parts _ _ h in
       let sop = and_parts _ _ due.1 in
@@ -196,7 +201,7 @@ module _ (source : Source) (before : List Word) (x : ℕ) (ds : List ℕ) where
     ]
   ]
 
-  burst_right : IsSealed → burst_field x ≡ 1 → burst_ok ≡ true → IsRightControl source before x × IsWhole source before x ds
+  burst_right : IsSealed → burst_field x ≡ 1 → burst_ok (length before) ≡ true → IsRightControl source before x × IsWhole source before x ds
   burst_right seal one h =
       let c : ℕ = channel_number true x in
       let due = and_parts _ _ h in
@@ -223,13 +228,13 @@ module _ (source : Source) (before : List Word) (x : ℕ) (ds : List ℕ) where
         record { burst = λ _. (has.0, has.1, has.2); idle = λ b. absurd (not_both (burst_field x) b one) },
       )
 
-  by_kind : IsSealed → (if burst_field x == 1 then burst_ok else idle_ok) ≡ true → IsRightControl source before x × IsWhole source before x ds
+  by_kind : IsSealed → (if burst_field x == 1 then burst_ok (length before) else idle_ok (length before)) ≡ true → IsRightControl source before x × IsWhole source before x ds
   by_kind seal h = elim (bit_cases x) [
-    | inl none ↦ idle_right seal none (sym (cond-false (burst_field x == 1) burst_ok idle_ok (ne_eqb _ _ (not_both (burst_field x) none))) ∙ h)
-    | inr one ↦ burst_right seal one (sym (cond-true (burst_field x == 1) burst_ok idle_ok (eq-eqb _ _ one)) ∙ h)
+    | inl none ↦ idle_right seal none (sym (cond-false (burst_field x == 1) (burst_ok (length before)) (idle_ok (length before)) (ne_eqb _ _ (not_both (burst_field x) none))) ∙ h)
+    | inr one ↦ burst_right seal one (sym (cond-true (burst_field x == 1) (burst_ok (length before)) (idle_ok (length before)) (eq-eqb _ _ one)) ∙ h)
   ]
 
-  add_checked : IsGood source before → block_ok ≡ true → IsGood source (before ++ block x ds)
+  add_checked : IsGood source before → block_ok (length before) (controls_in before) (end_format source before) (data_since before) ≡ true → IsGood source (before ++ block x ds)
   add_checked good h =
       let fits = and_parts _ _ h in
       let all_fit = and_parts _ _ fits.1 in
@@ -254,24 +259,66 @@ words_are [] = refl
 words_are (Data d ∷ w) = ap (λ v. Data d ∷ v) (words_are w)
 words_are (Control x ∷ w) = ap (λ v. Control x ∷ v) (words_are w)
 
-abbrev pub blocks_ok : Source → List Word → List (ℕ × List ℕ) → Bool
-blocks_ok source before [] = true
-blocks_ok source before (b ∷ bs) = block_ok source before b.0 b.1 && blocks_ok source (before ++ block b.0 b.1) bs
+-- what a block is asked of the words below it, beside the words themselves
+record IsCounted (source : Source) (p : List Word) (n j end : ℕ) (since : List ℕ) : Type 0 where
+  words : length p ≡ n
+  controls : controls_in p ≡ j
+  end_is : end_format source p ≡ end
+  since_is : data_since p ≡ since
 
-add_blocks : (source : Source) (before : List Word) (bs : List (ℕ × List ℕ)) → blocks_ok source before bs ≡ true → IsGood source before → IsGood source (before ++ words_of bs)
-add_blocks source before [] h good = subst (IsGood source) (sym (append-nil before)) good
-add_blocks source before (b ∷ bs) h good =
-    let both = and_parts _ _ h in
-    subst (IsGood source) (append_assoc before (block b.0 b.1) (words_of bs)) (add_blocks source (before ++ block b.0 b.1) bs both.1 (add_checked source before b.0 b.1 good both.0))
+no_controls : (ds : List ℕ) → count_by is_control (map Data ds) ≡ 0
+no_controls [] = refl
+no_controls (d ∷ ds) = sum_by-cons (λ v. cond (is_control v) 1 0) (Data d) (map Data ds) ∙ ap (λ n. 0 + n) (no_controls ds) ∙ omega arith
+
+controls_block : (p : List Word) (x : ℕ) (ds : List ℕ) → controls_in (p ++ block x ds) ≡ controls_in p + 1
+controls_block p x ds =
+    let f = λ (v : Word). cond (is_control v) 1 0 in
+    sum_by-append f p (block x ds) ∙ ap (λ n. controls_in p + n) (sum_by-cons f (Control x) (map Data ds) ∙ ap (λ n. 1 + n) (no_controls ds))
+
+-- the end format after a block
+abbrev pub end_after : Source → List Word → ℕ → ℕ
+end_after source before x = option_map_or format_after (chunk_of_burst source before (Control x)) 0
+
+-- the blocks that the words w have from slot n on
+abbrev pub blocks_ok : Source → List Word → ℕ → ℕ → ℕ → List ℕ → List (ℕ × List ℕ) → Bool
+blocks_ok source w n j end since [] = true
+blocks_ok source w n j end since (b ∷ bs) =
+    block_ok source (take n w) b.0 b.1 n j end since
+    && blocks_ok source w (n + 1 + length b.1) (j + 1) (end_after source (take n w) b.0) b.1 bs
+
+add_blocks : (source : Source) (w p : List Word) (bs : List (ℕ × List ℕ)) (n j end : ℕ) (since : List ℕ) → w ≡ p ++ words_of bs → IsCounted source p n j end since → blocks_ok source w n j end since bs ≡ true → IsGood source p → IsGood source w
+add_blocks source w p [] n j end since e counted h good = subst (IsGood source) (sym (e ∙ append-nil p)) good
+add_blocks source w p (b ∷ bs) n j end since e counted h good =
+    let taken : take n w ≡ p = ap (λ v. take n v) e ∙ ap (λ k. take k (p ++ words_of (b ∷ bs))) (sym counted.words) ∙ take-append_seam p (words_of (b ∷ bs)) in
+    let both = and_parts _ _ (subst (λ v. (block_ok source v b.0 b.1 n j end since && blocks_ok source w (n + 1 + length b.1) (j + 1) (end_after source v b.0) b.1 bs) ≡ true) taken h) in
+    let same : block_ok source p b.0 b.1 (length p) (controls_in p) (end_format source p) (data_since p) ≡ block_ok source p b.0 b.1 n j end since =
+    ap (λ k. block_ok source p b.0 b.1 k (controls_in p) (end_format source p) (data_since p)) counted.words
+    ∙ ap (λ k. block_ok source p b.0 b.1 n k (end_format source p) (data_since p)) counted.controls
+    ∙ ap (λ k. block_ok source p b.0 b.1 n j k (data_since p)) counted.end_is
+    ∙ ap (λ k. block_ok source p b.0 b.1 n j end k) counted.since_is in
+    add_blocks source w (p ++ block b.0 b.1) bs (n + 1 + length b.1) (j + 1) (end_after source p b.0) b.1
+    (e ∙ sym (append_assoc p (block b.0 b.1) (words_of bs)))
+    (record {
+      words = length_block p b.0 b.1 ∙ ap (λ k. k + 1 + length b.1) counted.words;
+      controls = controls_block p b.0 b.1 ∙ ap (λ k. k + 1) counted.controls;
+      end_is = end_format_block source p b.0 b.1;
+      since_is = data_since_block p b.0 b.1;
+    })
+    both.1
+    (add_checked source p b.0 b.1 good (same ∙ both.0))
 
 abbrev pub words_ok : Source → List Word → Bool
-words_ok source w = bytes_eq (blocks_of w).0 [] && blocks_ok source [] (blocks_of w).1
+words_ok source w = bytes_eq (blocks_of w).0 [] && blocks_ok source w 0 0 0 [] (blocks_of w).1
+
+nothing_counted : (source : Source) → IsCounted source [] 0 0 0 []
+unfolding data_since
+nothing_counted source = record { words = refl; controls = refl; end_is = refl; since_is = refl }
 
 good : (source : Source) (w : List Word) → words_ok source w ≡ true → IsGood source w
 good source w h =
     let both = and_parts _ _ h in
     let none : (blocks_of w).0 ≡ [] = (bytes_eq-Decides (blocks_of w).0 []).0 both.0 in
-    subst (IsGood source) (ap (λ ds. map Data ds ++ words_of (blocks_of w).1) (sym none) ∙ words_are w) (add_blocks source [] (blocks_of w).1 both.1 (no_words source))
+    add_blocks source w [] (blocks_of w).1 0 0 0 [] (sym (words_are w) ∙ ap (λ ds. map Data ds ++ words_of (blocks_of w).1) none) (nothing_counted source) both.1 (no_words source)
 
 -- ---- the warm-up and the finish
 
