@@ -2,7 +2,6 @@
 use Rattle.std.proofs.Common.{◌≡◌, inl, inr, ℕ, ◌+◌, ◌*◌, ◌/◌, ◌%◌, ◌<◌, ◌≤◌, min, true, false, List, [], ◌∷◌, ◌++◌, length, take, Some, slice_get, Contains, All, sym, ap, subst, ◌∙◌, arith}
 use Rattle.std.specs.List.{flat_map}
 use Rattle.std.proofs.lemmas.List.Concat.{flat_map-cons}
-use Rattle.std.proofs.lemmas.Option.{slice_get_within, get_or_from_slice_get}
 use Rattle.lk_base.specs.Fields.{channel_field, multi_field, channel_number}
 use Rattle.lk_base.specs.declared.word.Word.{Word}
 use Rattle.lk_base.proofs.Lists.{contains_here}
@@ -11,11 +10,8 @@ use Rattle.stream_model.specs.Cutting.{IsCutOf, BurstsHoldTheLeast, NarrowStands
 use Rattle.stream_model.proofs.Blocks.{bit_cases}
 use Rattle.stream_model.proofs.Bursts.{chunk_next}
 use Rattle.stream_model.proofs.Carried.{in_append}
-use Rattle.stream_model.proofs.Choosing.{contains_rest}
+use Rattle.stream_model.proofs.Choosing.{contains_at, contains_rest}
 use Rattle.stream_model.proofs.Cutting.{cut_of}
-
-contains_at : {X : Type 0} (xs : List X) (k : ℕ) (x : X) → slice_get xs k ≡ Some x → Contains xs x
-contains_at xs k x at = (k, slice_get_within xs k x at, get_or_from_slice_get xs k x x at)
 
 -- each element has what all have
 pub of_all : {X : Type 0} (P : X → Type 0) (xs : List X) (x : X) → All P xs → Contains xs x → P x
