@@ -23,6 +23,7 @@ use Rattle.event_model.proofs.Clocks.{length-bits}
 use Rattle.deskew.specs.Ticks.{AreTicks, is_ended, lane_shown, lanes_shown, steps_in, tick_at, ticks_of}
 use Rattle.rx_front.specs.Lanes.{AllStand, IsColumn}
 use Rattle.rx_front.specs.States.{Lane}
+use Rattle.rx_front.proofs.AtPlaces.{count_columns, stands_at}
 use Rattle.rx_front.proofs.Rounds.{column_length}
 
 -- the steps of the first bits of a lane are the first of its steps
@@ -172,24 +173,14 @@ pub record EachAt (s : Settings) (rounds clock : ℕ) (fed : Fed) (column : List
 
 each_at : (lanes : List Lane) (s : Settings) (rounds clock : ℕ) (fed : List Fed) (columns : List (List LaneStep)) (i : ℕ) (d : Fed) → clock ≤ 8 * rounds → AllStand lanes s rounds fed columns → i < length fed →
     EachAt s rounds clock (get_or fed i d) (get_or columns i [])
-each_at [] s rounds clock [] [] i d le st lt = absurd (omega (arith, lt))
-each_at [] s rounds clock [] (column ∷ columns) i d le st lt = absurd st
-each_at [] s rounds clock (lane ∷ fed) columns i d le st lt = absurd st
-each_at (v ∷ lanes) s rounds clock [] columns i d le st lt = absurd st
-each_at (v ∷ lanes) s rounds clock (lane ∷ fed) [] i d le st lt = absurd st
-each_at (v ∷ lanes) s rounds clock (lane ∷ fed) (column ∷ columns) zero d le st lt = record {
-  at = at_clock s rounds clock lane column le st.0.in_time st.0.completed;
-  long = (let l = column_length s rounds lane column st.0.completed in omega (arith, l, le));
-}
-each_at (v ∷ lanes) s rounds clock (lane ∷ fed) (column ∷ columns) (suc i) d le st lt = each_at lanes s rounds clock fed columns i d le st.1 (omega (arith, lt))
-
-count_columns : (lanes : List Lane) (s : Settings) (rounds : ℕ) (fed : List Fed) (columns : List (List LaneStep)) → AllStand lanes s rounds fed columns → (length columns ≡ length fed) × (length lanes ≡ length fed)
-count_columns [] s rounds [] [] st = (refl, refl)
-count_columns [] s rounds [] (column ∷ columns) st = absurd st
-count_columns [] s rounds (lane ∷ fed) columns st = absurd st
-count_columns (v ∷ lanes) s rounds [] columns st = absurd st
-count_columns (v ∷ lanes) s rounds (lane ∷ fed) [] st = absurd st
-count_columns (v ∷ lanes) s rounds (lane ∷ fed) (column ∷ columns) st = (let k = count_columns lanes s rounds fed columns st.1 in (ap suc k.0, ap suc k.1))
+each_at lanes s rounds clock fed columns i d le st lt = go lanes (let k = (count_columns lanes s rounds fed columns st).1 in omega (arith, k, lt)) st
+  where
+    go : (lanes : List Lane) → i < length lanes → AllStand lanes s rounds fed columns → EachAt s rounds clock (get_or fed i d) (get_or columns i [])
+    go [] there st = absurd (omega (arith, there))
+    go (v ∷ lanes) there st =
+        let one = stands_at (v ∷ lanes) s rounds fed columns i v d there st in
+        let l = column_length s rounds (get_or fed i d) (get_or columns i []) one.completed in
+        record { at = at_clock s rounds clock (get_or fed i d) (get_or columns i []) le one.in_time one.completed; long = omega (arith, l, le) }
 
 pub lane_count : (lanes : List Lane) (s : Settings) (rounds : ℕ) (fed : List Fed) (columns : List (List LaneStep)) → AllStand lanes s rounds fed columns → length lanes ≡ length fed
 lane_count lanes s rounds fed columns st = (count_columns lanes s rounds fed columns st).1
@@ -211,18 +202,13 @@ are_ticks lanes s rounds clock fed columns count le st = λ i lt. (
 no_bits_of : (x : List Bool) (xs : List (List Bool)) → ◌≡◌ {A = List (List Bool)} [] (x ∷ xs) → ⊥
 no_bits_of x xs e = search rules
 
-lane_is : (lanes : List Lane) (s : Settings) (rounds clock : ℕ) (fed : List Fed) (columns : List (List LaneStep)) (received : List (HasAttempts s.metaframe)) (i : ℕ) (d : LaneSoFar) → IsLink s → clock ≤ 8 * rounds →
-    AllStand lanes s rounds fed columns → bits_in s.metaframe received ≡ map (first_bits clock) fed → i < length fed →
-    lane_shown (take clock (get_or columns i [])) ≡ get_or (lanes_at s clock fed received) i d
-lane_is [] s rounds clock [] columns received i d link le st e lt = absurd (omega (arith, lt))
-lane_is [] s rounds clock (lane ∷ fed) columns received i d link le st e lt = absurd st
-lane_is (v ∷ lanes) s rounds clock [] columns received i d link le st e lt = absurd st
-lane_is (v ∷ lanes) s rounds clock (lane ∷ fed) [] received i d link le st e lt = absurd st
-lane_is (v ∷ lanes) s rounds clock (lane ∷ fed) (column ∷ columns) [] i d link le st e lt = absurd (no_bits_of (first_bits clock lane) (map (first_bits clock) fed) e)
-lane_is (v ∷ lanes) s rounds clock (lane ∷ fed) (column ∷ columns) (x ∷ received) zero d link le st e lt =
-    shows_lane s clock lane (take clock column) x link (head_same x.bits (first_bits clock lane) (bits_in s.metaframe received) (map (first_bits clock) fed) e) (at_clock s rounds clock lane column le st.0.in_time st.0.completed)
-lane_is (v ∷ lanes) s rounds clock (lane ∷ fed) (column ∷ columns) (x ∷ received) (suc i) d link le st e lt =
-    lane_is lanes s rounds clock fed columns received i d link le st.1 (tail_same x.bits (first_bits clock lane) (bits_in s.metaframe received) (map (first_bits clock) fed) e) (omega (arith, lt))
+lane_is : (s : Settings) (clock : ℕ) (fed : List Fed) (received : List (HasAttempts s.metaframe)) (given : List LaneStep) (i : ℕ) (d : Fed) (e : LaneSoFar) → IsLink s → bits_in s.metaframe received ≡ map (first_bits clock) fed → i < length fed →
+    AtClock s clock (get_or fed i d) given → lane_shown given ≡ get_or (lanes_at s clock fed received) i e
+lane_is s clock [] received given i d e link are lt at = absurd (omega (arith, lt))
+lane_is s clock (lane ∷ fed) [] given i d e link are lt at = absurd (no_bits_of (first_bits clock lane) (map (first_bits clock) fed) are)
+lane_is s clock (lane ∷ fed) (x ∷ received) given zero d e link are lt at = shows_lane s clock lane given x link (head_same x.bits (first_bits clock lane) (bits_in s.metaframe received) (map (first_bits clock) fed) are) at
+lane_is s clock (lane ∷ fed) (x ∷ received) given (suc i) d e link are lt at =
+    lane_is s clock fed received given i d e link (tail_same x.bits (first_bits clock lane) (bits_in s.metaframe received) (map (first_bits clock) fed) are) (omega (arith, lt)) at
 
 map_range_is : (F : ℕ → LaneSoFar) (a : ℕ) (ls : List LaneSoFar) → ((i : ℕ) (d : LaneSoFar) → i < length ls → F (a + i) ≡ get_or ls i d) → map F (range_with_len a (length ls)) ≡ ls
 map_range_is F a [] h = refl
@@ -252,4 +238,4 @@ shown_at_clock lanes s rounds clock fed columns received link count le st e =
     let z : 0 + i ≡ i = omega arith in
     ap (λ j. lane_shown (steps_in j (ticks_of columns clock))) z
     ∙ ap lane_shown (column_is columns i clock (let m = k.0 in omega (arith, lt, n, m)) each.long)
-    ∙ lane_is lanes s rounds clock fed columns received i d link le st e (omega (arith, lt, n))))
+    ∙ lane_is s clock fed received (take clock (get_or columns i [])) i (record { bytes = []; finished = false }) d link e (omega (arith, lt, n)) each.at))

@@ -63,14 +63,14 @@ step_there k (suc i) (v ∷ lanes) d e lt = step_there k i lanes d e (omega (ari
 
 pub lock_there : (i left width : ℕ) (lanes : List Lane) → left < width → AreWide width lanes → declared_in i left lanes ≡ lock_of (get_or (map (step_at (width - left - 1)) lanes) i steps.Ended)
 lock_there i left width [] lt wide = refl
-lock_there zero left width (v ∷ lanes) lt wide = rw (wide.0, lt-ltb left width lt) refl
-lock_there (suc i) left width (v ∷ lanes) lt wide = lock_there i left width lanes lt wide.1
+lock_there zero left width (v ∷ lanes) lt wide = (let w : length v.steps ≡ width = wide 0 v (omega arith) in rw (w, lt-ltb left width lt) refl)
+lock_there (suc i) left width (v ∷ lanes) lt wide = lock_there i left width lanes lt (All-tail (λ x. length x.steps ≡ width) v lanes wide)
 
 -- past those that are kept
 pub lock_past : (i left width : ℕ) (lanes : List Lane) → width ≤ left → AreWide width lanes → declared_in i left lanes ≡ None
 lock_past i left width [] le wide = refl
-lock_past zero left width (v ∷ lanes) le wide = rw (wide.0, le-ltb left width le) refl
-lock_past (suc i) left width (v ∷ lanes) le wide = lock_past i left width lanes le wide.1
+lock_past zero left width (v ∷ lanes) le wide = (let w : length v.steps ≡ width = wide 0 v (omega arith) in rw (w, le-ltb left width le) refl)
+lock_past (suc i) left width (v ∷ lanes) le wide = lock_past i left width lanes le (All-tail (λ x. length x.steps ≡ width) v lanes wide)
 
 -- ---- moves one after another
 

@@ -45,10 +45,10 @@ pub report_is : (i : ℕ) (lanes : List Lane) (d : Lane) (report : LaneReport) �
     ((s : Settings) (rounds : ℕ) (fed : Fed) (column : List LaneStep) → LaneStands (get_or lanes i d) s rounds fed column → lock.IsReport s (first_bits (8 * rounds) fed) report) →
     (s : Settings) (rounds : ℕ) (fed : List Fed) (columns : List (List LaneStep)) → AllStand lanes s rounds fed columns → IsReportOf s rounds i fed report
 report_is i [] d report lt h s rounds fed columns st = absurd (omega (arith, lt))
-report_is i (v ∷ lanes) d report lt h s rounds [] columns st = tt
-report_is i (v ∷ lanes) d report lt h s rounds (lane ∷ fed) [] st = absurd st
+report_is i lanes d report lt h s rounds [] columns st = tt
 report_is zero (v ∷ lanes) d report lt h s rounds (lane ∷ fed) (column ∷ columns) st = h s rounds lane column st.0
 report_is (suc i) (v ∷ lanes) d report lt h s rounds (lane ∷ fed) (column ∷ columns) st = report_is i lanes d report (omega (arith, lt)) h s rounds fed columns st.1
+report_is i lanes d report lt h s rounds fed columns st = absurd st
 
 -- ---- the relation of a lane that is not finished, with more bytes or none
 
@@ -98,18 +98,16 @@ one_finished v s rounds lane column st = record {
 pub all_fed : (i : ℕ) (bytes : List ℕ) (lanes : List Lane) (s : Settings) (rounds : ℕ) (fed : List Fed) (columns : List (List LaneStep)) → is_open i lanes ≡ true → AllStand lanes s rounds fed columns →
     AllStand (lanes_fed i bytes lanes) s rounds (fed_more i bytes fed) columns
 all_fed i bytes [] s rounds fed columns o st = absurd (let f : false ≡ true = o in cc)
-all_fed i bytes (v ∷ lanes) s rounds [] columns o st = absurd st
-all_fed i bytes (v ∷ lanes) s rounds (lane ∷ fed) [] o st = absurd st
 all_fed zero bytes (v ∷ lanes) s rounds (lane ∷ fed) (column ∷ columns) o st = (one_fed v s rounds lane column bytes o st.0, st.1)
 all_fed (suc i) bytes (v ∷ lanes) s rounds (lane ∷ fed) (column ∷ columns) o st = (st.0, all_fed i bytes lanes s rounds fed columns o st.1)
+all_fed i bytes lanes s rounds fed columns o st = absurd st
 
 pub all_finish : (i : ℕ) (lanes : List Lane) (s : Settings) (rounds : ℕ) (fed : List Fed) (columns : List (List LaneStep)) → is_open i lanes ≡ true → AllStand lanes s rounds fed columns →
     AllStand (lanes_finished i lanes) s rounds (finished_at i fed) columns
 all_finish i [] s rounds fed columns o st = absurd (let f : false ≡ true = o in cc)
-all_finish i (v ∷ lanes) s rounds [] columns o st = absurd st
-all_finish i (v ∷ lanes) s rounds (lane ∷ fed) [] o st = absurd st
 all_finish zero (v ∷ lanes) s rounds (lane ∷ fed) (column ∷ columns) o st = (one_finished v s rounds lane column st.0, st.1)
 all_finish (suc i) (v ∷ lanes) s rounds (lane ∷ fed) (column ∷ columns) o st = (st.0, all_finish i lanes s rounds fed columns o st.1)
+all_finish i lanes s rounds fed columns o st = absurd st
 
 -- ---- the room after a feed
 

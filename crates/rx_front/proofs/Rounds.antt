@@ -205,6 +205,6 @@ pub is_taken : (u v : Lane) (ring : List ℕ) (later : LaneState) (given : List 
 is_taken u v ring later given n bits e count some has rest are goes =
     subst (λ (x : Lane). IsTaken n x (record { ring = ring; finished = v.finished; fed = v.fed; lock = later; steps = given })) e (record {
       ring = rest;
-      count = count;
+      long = count;
       stands = λ s rounds fed column st. took_bytes v ring later given n bits s rounds fed column count some has rest are goes st;
     })
