@@ -59,8 +59,6 @@ left_more step at i words d lt =
 first_row : (step from behind n : ℕ) (ls : List LaneState) (done row more : List RxWord) → length done ≡ from → length row ≡ length ls → from + length ls ≡ step →
     spread_all step from behind (suc n) ls (done ++ (row ++ more)) ≡ done ++ (map (word_at behind) ls ++ spread_all step from (behind + 1) n ls more)
 first_row step from behind n [] done [] more d r s = refl
-first_row step from behind n [] done (x ∷ row) more d r s = absurd (omega (arith, r))
-first_row step from behind n (l ∷ ls) done [] more d r s = absurd (omega (arith, r))
 first_row step from behind n (l ∷ ls) done (x ∷ row) more d r s =
     let w = word_at behind l in
     let words = column (behind + 1) n l in
@@ -78,6 +76,7 @@ first_row step from behind n (l ∷ ls) done (x ∷ row) more d r s =
     ∙ ap (λ (zs : List RxWord). spread_all step (from + 1) behind (suc n) ls zs) two
     ∙ first_row step (from + 1) behind n ls (done ++ (w ∷ [])) row after (omega (arith, ld, d)) (omega (arith, r)) (omega (arith, s))
     ∙ append_assoc done (w ∷ []) (map (word_at behind) ls ++ spread_all step (from + 1) (behind + 1) n ls after)
+first_row step from behind n ls done row more d r s = absurd (omega (arith, r))
 
 no_rows_spread : (step from behind : ℕ) (ls : List LaneState) (block : List RxWord) → spread_all step from behind 0 ls block ≡ block
 no_rows_spread step from behind [] block = refl
