@@ -17,10 +17,9 @@ count_columns lanes s rounds fed columns st = absurd st
 -- each lane
 pub stands_at : (lanes : List Lane) (s : Settings) (rounds : ℕ) (fed : List Fed) (columns : List (List LaneStep)) (i : ℕ) (d : Lane) (e : Fed) → i < length lanes → AllStand lanes s rounds fed columns →
     LaneStands (get_or lanes i d) s rounds (get_or fed i e) (get_or columns i [])
-stands_at [] s rounds fed columns i d e lt st = absurd (omega (arith, lt))
 stands_at (v ∷ lanes) s rounds (lane ∷ fed) (column ∷ columns) zero d e lt st = st.0
 stands_at (v ∷ lanes) s rounds (lane ∷ fed) (column ∷ columns) (suc i) d e lt st = stands_at lanes s rounds fed columns i d e (omega (arith, lt)) st.1
-stands_at lanes s rounds fed columns i d e lt st = absurd st
+stands_at lanes s rounds fed columns i d e lt st = absurd (first_of (assumption, omega arith))
 
 pub all_stand : (lanes : List Lane) (s : Settings) (rounds : ℕ) (fed : List Fed) (columns : List (List LaneStep)) → length lanes ≡ length fed → length columns ≡ length fed →
     ((i : ℕ) (d : Lane) (e : Fed) → i < length lanes → LaneStands (get_or lanes i d) s rounds (get_or fed i e) (get_or columns i [])) → AllStand lanes s rounds fed columns

@@ -1,5 +1,6 @@
 -- Many rounds at once.
 use Rattle.std.proofs.Common.{ℕ, zero, suc, ◌≡◌, refl, sym, ap, ◌∙◌, subst, ◌+◌, ◌-◌, ◌*◌, ◌<◌, ◌≤◌, Bool, true, false, List, [], ◌∷◌, ◌++◌, length, get_or, set, take, drop, Option, append_assoc, append-nil, All, arith, inl, inr}
+use Rattle.lk_base.proofs.Lists.{map_range_same}
 use Rattle.std.specs.Prelude.{◌&&◌, ◌⊎◌, Some, slice_get}
 use Rattle.std.specs.List.{cons_option, list_all, list_any}
 use Rattle.std.proofs.lemmas.Bool.{and_parts}
@@ -35,7 +36,7 @@ use Rattle.rx_front.specs.Standing.{AtRound, MovesOn, Progress, Stands, locks_at
 use Rattle.rx_front.proofs.Clocked.{are_ticks}
 use Rattle.rx_front.proofs.Locks.{lock_past, no_more_locks}
 use Rattle.rx_front.proofs.Rounds.{column_length, took_steps}
-use Rattle.rx_front.proofs.RoundsMade.{same_ticks, some_has}
+use Rattle.rx_front.proofs.RoundsMade.{some_has}
 use Rattle.rx_front.proofs.AtPlaces.{columns_long, count_columns, stands_at}
 use Rattle.rx_front.proofs.FirstDid.{FirstDid, did_as, did_more, did_none}
 use Rattle.rx_front.proofs.Moving.{all_moved, batch_moved, each_has, fewer, first_ticks, later_ticks, moved_long, reaches}
@@ -126,7 +127,7 @@ ticks_joined : (all columns more : List (List LaneStep)) (a n : ℕ) → ((k : �
     ticks_of all (a + n) ≡ ticks_of columns a ++ ticks_of more n
 ticks_joined all columns more a zero front back =
     let e : a + 0 ≡ a = omega arith in
-    ap (ticks_of all) e ∙ same_ticks columns all a front ∙ sym (append-nil (ticks_of columns a))
+    ap (ticks_of all) e ∙ map_range_same (tick_at all) (tick_at columns) a front ∙ sym (append-nil (ticks_of columns a))
 ticks_joined all columns more a (suc n) front back =
     let e : a + suc n ≡ a + n + 1 = omega arith in
     let f : n + 1 ≡ suc n = omega arith in

@@ -4,7 +4,7 @@ use Rattle.std.specs.Prelude.{◌&&◌, nat_lt, slice_get, Some}
 use Rattle.std.specs.List.{range_with_len, list_any}
 use Rattle.std.proofs.lemmas.Bool.{cases_Bool, cases_lt, lt-ltb, le-ltb}
 use Rattle.std.proofs.lemmas.List.FromFn.{map-range_with_len_more}
-use Rattle.std.proofs.lemmas.List.{map-append, length-take, take-append-drop, take-append-le, take_all, take-take}
+use Rattle.std.proofs.lemmas.List.{map-append, length-take, take-append-drop, take-append-le, take_all, take-take, get_or-map, take_more}
 use Rattle.lk_base.specs.Checksum.{bits_of_bytes}
 use Rattle.lk_base.specs.Link.{Settings, IsLink}
 use Rattle.lk_base.proofs.Lists.{head_same, tail_same}
@@ -140,12 +140,6 @@ shows_lane s clock fed given x link e at =
 
 -- ---- all lanes
 
-take_snoc : {A : Type 0} (n : ℕ) (xs : List A) (d : A) → n < length xs → take n xs ++ get_or xs n d ∷ [] ≡ take (suc n) xs
-take_snoc zero [] d lt = absurd (omega (arith, lt))
-take_snoc zero (x ∷ xs) d lt = refl
-take_snoc (suc n) [] d lt = absurd (omega (arith, lt))
-take_snoc (suc n) (x ∷ xs) d lt = ap (λ r. x ∷ r) (take_snoc n xs d (omega (arith, lt)))
-
 gathered : (columns : List (List LaneStep)) (i : ℕ) (column : List LaneStep) (n : ℕ) → ((k : ℕ) → get_or (tick_at columns k) i steps.Ended ≡ get_or column k steps.Ended) → n ≤ length column →
     map (λ (tick : List LaneStep). get_or tick i steps.Ended) (map (tick_at columns) (range_with_len 0 n)) ≡ take n column
 gathered columns i column zero same le = refl
@@ -156,15 +150,10 @@ gathered columns i column (suc n) same le =
     ∙ map-append (λ (tick : List LaneStep). get_or tick i steps.Ended) (map (tick_at columns) (range_with_len 0 n)) (tick_at columns n ∷ [])
     ∙ ap (λ (r : List LaneStep). r ++ get_or (tick_at columns n) i steps.Ended ∷ []) (gathered columns i column n same (omega (arith, le)))
     ∙ ap (λ (x : LaneStep). take n column ++ x ∷ []) (same n)
-    ∙ take_snoc n column steps.Ended (omega (arith, le))
-
-tick_is : (columns : List (List LaneStep)) (i k : ℕ) → i < length columns → get_or (tick_at columns k) i steps.Ended ≡ get_or (get_or columns i []) k steps.Ended
-tick_is [] i k lt = absurd (omega (arith, lt))
-tick_is (column ∷ columns) zero k lt = refl
-tick_is (column ∷ columns) (suc i) k lt = tick_is columns i k (omega (arith, lt))
+    ∙ sym (ap (λ m. take m column) e ∙ take_more column n steps.Ended (omega (arith, le)))
 
 pub column_is : (columns : List (List LaneStep)) (i clock : ℕ) → i < length columns → clock ≤ length (get_or columns i []) → steps_in i (ticks_of columns clock) ≡ take clock (get_or columns i [])
-column_is columns i clock lt le = gathered columns i (get_or columns i []) clock (λ k. tick_is columns i k lt) le
+column_is columns i clock lt le = gathered columns i (get_or columns i []) clock (λ k. get_or-map (λ (column : List LaneStep). get_or column k steps.Ended) columns i [] steps.Ended lt) le
 
 -- each lane
 pub record EachAt (s : Settings) (rounds clock : ℕ) (fed : Fed) (column : List LaneStep) : Type 0 where

@@ -158,7 +158,6 @@ lesser_low n r (Some m) le = omega (arith, le)
 
 pub unready : (lanes : List Lane) (s : Settings) (rounds : ℕ) (fed : List Fed) (columns : List (List LaneStep)) → AllStand lanes s rounds fed columns → are_ready lanes ≡ false →
     (m : ℕ) × (least_unfinished fed ≡ Some m) × (m ≤ rounds)
-unready [] s rounds fed columns st e = absurd (let f : true ≡ false = e in cc)
 unready (v ∷ lanes) s rounds (lane ∷ fed) (column ∷ columns) st e = elim (cases_Bool (is_ready v)) [
   | inl ready ↦ (
       let found = unready lanes s rounds fed columns st.1 (rw ready at e) in
@@ -172,4 +171,4 @@ unready (v ∷ lanes) s rounds (lane ∷ fed) (column ∷ columns) st e = elim (
       let le : length lane.bytes ≤ rounds = omega (arith, l, d, z) in
       (lesser (length lane.bytes) (least_unfinished fed), (rw unfinished refl), lesser_low (length lane.bytes) rounds (least_unfinished fed) le))
 ]
-unready lanes s rounds fed columns st e = absurd st
+unready lanes s rounds fed columns st e = absurd (first_of (assumption, cc))

@@ -45,10 +45,9 @@ both_length (c ∷ columns) [] = refl
 both_length (c ∷ columns) (x ∷ more) = ap suc (both_length columns more)
 
 both_at : (columns more : List (List LaneStep)) (i : ℕ) → i < length columns → i < length more → get_or (both columns more) i [] ≡ get_or columns i [] ++ get_or more i []
-both_at [] more i lt there = absurd (omega (arith, lt))
-both_at (c ∷ columns) [] i lt there = absurd (omega (arith, there))
 both_at (c ∷ columns) (x ∷ more) zero lt there = refl
 both_at (c ∷ columns) (x ∷ more) (suc i) lt there = both_at columns more i (omega (arith, lt)) (omega (arith, there))
+both_at columns more i lt there = absurd (omega (arith, lt, there))
 
 pub all_moved : (n : ℕ) (lanes later : List Lane) (s : Settings) (rounds : ℕ) (fed : List Fed) (columns more : List (List LaneStep)) → AllMoved n lanes later more → AllStand lanes s rounds fed columns →
     AllStand later s (rounds + n) fed (both columns more)
@@ -116,11 +115,10 @@ pub reaches : (n : ℕ) (lanes : List Lane) (s : Settings) (rounds : ℕ) (fed :
 reaches n lanes s rounds fed columns some has st = go lanes fed columns has.at has.below has.there st
   where
     go : (lanes : List Lane) (fed : List Fed) (columns : List (List LaneStep)) (i : ℕ) → i < length lanes → ((d : Lane) → HasBytes n (get_or lanes i d)) → AllStand lanes s rounds fed columns → rounds + n ≤ longest fed
-    go [] fed columns i lt there st = absurd (omega (arith, lt))
     go (v ∷ lanes) (lane ∷ fed) (column ∷ columns) zero lt there st =
         (let h : n ≤ length v.ring = there v in let r = ap length st.0.ring in let d = length-drop rounds lane.bytes in omega (arith, h, r, d, some))
     go (v ∷ lanes) (lane ∷ fed) (column ∷ columns) (suc i) lt there st = (let le = go lanes fed columns i (omega (arith, lt)) there st.1 in omega (arith, le))
-    go lanes fed columns i lt there st = absurd st
+    go lanes fed columns i lt there st = absurd (first_of (assumption, omega arith))
 
 -- the rings after this many rounds
 abbrev AreShorter : ℕ → List Lane → List Lane → Type 0

@@ -1,10 +1,9 @@
 -- Rounds of all lanes.
-use Rattle.std.proofs.Common.{ℕ, zero, suc, ◌≡◌, refl, sym, ap, ◌∙◌, subst, ◌+◌, ◌*◌, ◌<◌, ◌≤◌, Bool, true, false, List, [], ◌∷◌, ◌++◌, length, map, append-nil, arith, eqb-true, All}
+use Rattle.std.proofs.Common.{ℕ, ◌≡◌, refl, sym, ap, ◌∙◌, subst, ◌+◌, ◌*◌, ◌≤◌, Bool, true, false, List, [], ◌∷◌, ◌++◌, length, append-nil, arith, eqb-true, All}
+use Rattle.lk_base.proofs.Lists.{map_range_same}
 use Rattle.std.specs.Prelude.{cond, not, ◌||◌}
-use Rattle.std.specs.List.{range_with_len}
 use Rattle.std.proofs.lemmas.Bool.{and_parts}
 use Rattle.std.proofs.lemmas.List.{length-drop}
-use Rattle.std.proofs.lemmas.List.FromFn.{map-range_with_len_more}
 use Rattle.lk_base.specs.declared.word.Aligned.{Aligned}
 use Rattle.lk_base.specs.Link.{Settings}
 use Rattle.lock_model.specs.declared.types.LaneStep.{LaneStep}
@@ -40,19 +39,6 @@ all_at_end (v ∷ lanes) s rounds (lane ∷ fed) (column ∷ columns) ready empt
     over false false e h = absurd (let f : false ≡ true = e in cc)
 all_at_end lanes s rounds fed columns ready empty st = absurd st
 
--- ---- the steps of the bits before stay
-
-pub same_ticks : (columns more : List (List LaneStep)) (n : ℕ) → ((k : ℕ) → k < n → tick_at more k ≡ tick_at columns k) → ticks_of more n ≡ ticks_of columns n
-same_ticks columns more zero same = refl
-same_ticks columns more (suc n) same =
-    let e : suc n ≡ n + 1 = omega arith in
-    ap (λ m. map (tick_at more) (range_with_len 0 m)) e
-    ∙ map-range_with_len_more (tick_at more) 0 n n (omega arith)
-    ∙ ap (λ (r : List (List LaneStep)). r ++ tick_at more n ∷ []) (same_ticks columns more n (λ k lt. same k (omega (arith, lt))))
-    ∙ ap (λ (x : List LaneStep). map (tick_at columns) (range_with_len 0 n) ++ x ∷ []) (same n (omega arith))
-    ∙ sym (map-range_with_len_more (tick_at columns) 0 n n (omega arith))
-    ∙ ap (λ m. map (tick_at columns) (range_with_len 0 m)) (sym e)
-
 -- ---- the relation after this many rounds
 
 abbrev pub after_rounds : ℕ → List Lane → Bool → State → State
@@ -64,7 +50,7 @@ made n v later over s fed items t left taken st at =
     let time = st.time in
     let all = both t.columns (kept later) in
     let long = columns_long v.lanes s t.rounds fed t.columns st.lanes in
-    let same : ticks_of all t.clock ≡ ticks_of t.columns t.clock = same_ticks t.columns all t.clock (λ k lt. first_ticks (8 * t.rounds) k t.columns (kept later) (omega (arith, lt, time)) long) in
+    let same : ticks_of all t.clock ≡ ticks_of t.columns t.clock = map_range_same (tick_at all) (tick_at t.columns) t.clock (λ k lt. first_ticks (8 * t.rounds) k t.columns (kept later) (omega (arith, lt, time)) long) in
     record {
       to = record { rounds = t.rounds + n; clock = t.clock; columns = all };
       stands = record {

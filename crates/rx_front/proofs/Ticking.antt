@@ -1,7 +1,7 @@
 -- The clock moves on by a bit.
-use Rattle.std.proofs.Common.{ℕ, zero, suc, ◌≡◌, refl, sym, ap, ◌∙◌, subst, ◌+◌, ◌-◌, ◌*◌, ◌<◌, ◌≤◌, List, [], ◌∷◌, ◌++◌, length, map, get_or, drop, arith}
+use Rattle.std.proofs.Common.{ℕ, ◌≡◌, refl, sym, ap, ◌∙◌, subst, ◌+◌, ◌-◌, ◌*◌, ◌<◌, ◌≤◌, List, [], ◌∷◌, ◌++◌, length, map, get_or, arith}
 use Rattle.std.specs.List.{cons_option}
-use Rattle.std.proofs.lemmas.List.{length-drop, map-append}
+use Rattle.std.proofs.lemmas.List.{length-drop, map-append, get_or-drop}
 use Rattle.std.proofs.lemmas.List.Elements.{All-tail}
 use Rattle.lk_base.specs.declared.word.Aligned.{Aligned}
 use Rattle.lk_base.specs.Link.{Settings}
@@ -19,11 +19,6 @@ use Rattle.rx_front.proofs.Clocked.{are_ticks}
 use Rattle.rx_front.proofs.Locks.{locks_append}
 use Rattle.rx_front.proofs.Rounds.{column_length}
 
-get_drop : (n k : ℕ) (xs : List LaneStep) → get_or (drop n xs) k steps.Ended ≡ get_or xs (n + k) steps.Ended
-get_drop zero k xs = (let e : 0 + k ≡ k = omega arith in ap (λ m. get_or xs m steps.Ended) (sym e))
-get_drop (suc n) k [] = refl
-get_drop (suc n) k (x ∷ xs) = (let e : suc n + k ≡ suc (n + k) = omega arith in get_drop n k xs ∙ ap (λ m. get_or (x ∷ xs) m steps.Ended) (sym e))
-
 steps_are : (lanes : List Lane) (s : Settings) (rounds clock k width : ℕ) (fed : List Fed) (columns : List (List LaneStep)) → 0 < rounds → 8 * rounds + k ≡ clock + width → AreWide width lanes →
     AllStand lanes s rounds fed columns → map (step_at k) lanes ≡ tick_at columns clock
 steps_are [] s rounds clock k width [] [] some e wide st = refl
@@ -34,7 +29,7 @@ steps_are (v ∷ lanes) s rounds clock k width (lane ∷ fed) (column ∷ column
     let w = wide 0 v (omega arith) in
     let same : 8 * rounds - length v.steps + k ≡ clock = omega (arith, e, w, kept, long) in
     let here : step_at k v ≡ get_or column clock steps.Ended =
-    ap (λ (g : List LaneStep). get_or g k steps.Ended) last ∙ get_drop (8 * rounds - length v.steps) k column ∙ ap (λ m. get_or column m steps.Ended) same in
+    ap (λ (g : List LaneStep). get_or g k steps.Ended) last ∙ get_or-drop (8 * rounds - length v.steps) column k steps.Ended ∙ ap (λ m. get_or column m steps.Ended) same in
     joined (step_at k v) (get_or column clock steps.Ended) (map (step_at k) lanes) (tick_at columns clock) here (steps_are lanes s rounds clock k width fed columns some e (All-tail (λ x. length x.steps ≡ width) v lanes wide) st.1)
   where
     joined : (x y : LaneStep) (xs ys : List LaneStep) → x ≡ y → xs ≡ ys → ◌≡◌ {A = List LaneStep} (x ∷ xs) (y ∷ ys)
