@@ -1,5 +1,6 @@
 -- Ticks that are taken outside an epoch while a lane keeps every group away.
 use Rattle.std.proofs.Common.{ℕ, zero, suc, ◌≡◌, refl, sym, ap, ◌∙◌, subst, ◌+◌, ◌-◌, ◌*◌, ◌/◌, ◌<◌, ◌≤◌, eqb, Bool, true, false, not, List, [], ◌∷◌, ◌++◌, length, append-nil, append_assoc, arith, inl, inr, Option, None}
+use Rattle.std.proofs.lemmas.Grind.{common_steps}
 use Rattle.std.specs.Prelude.{◌⊎◌, ◌&&◌, ◌||◌, get_or, if◌then◌else◌, nat_lt}
 use Rattle.std.proofs.Math.Nat.{div-add-mod}
 use Rattle.std.specs.List.{list_all, list_any}
@@ -137,16 +138,7 @@ higher (l ∷ ls) [] on = absurd on
 higher (l ∷ ls) (k ∷ ks) on = (let here = on.0.sync in let rest = higher ls ks on.1 in omega (arith, here, rest))
 
 lags_on : (bits high higher : ℕ) (l k : LaneState) → Onward l k → high ≤ higher → lags bits high l ≡ true → lags bits higher k ≡ true
-lags_on bits high higher l k on le lag = elim (either (has_lock l)) [
-  | inl h ↦
-      let q = and_parts l.lost (nat_lt (l.sync + bits) high) (sym (rw h refl) ∙ lag) in
-      let far = ltb-true (l.sync + bits) high q.1 in
-      let o = on.lost h q.0 in
-      let same = o.2 in
-      let lt = lt-ltb (k.sync + bits) higher (omega (arith, far, le, same)) in
-      rw (o.0, o.1, lt) refl
-  | inr h ↦ (let n = on.none h in rw n refl)
-]
+lags_on bits high higher l k on le lag = grind (arith, common_steps)
 
 any_lags : (bits high higher : ℕ) (ls ks : List LaneState) → AreOnward ls ks → high ≤ higher → list_any (lags bits high) ls ≡ true → list_any (lags bits higher) ks ≡ true
 any_lags bits high higher (l ∷ ls) (k ∷ ks) on le lag = elim (either (lags bits high l)) [
