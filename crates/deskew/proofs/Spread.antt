@@ -1,7 +1,8 @@
 -- Rows that are written lane by lane are the rows.
 use Rattle.std.proofs.Common.{ℕ, zero, suc, ◌≡◌, refl, sym, ap, ◌∙◌, ◌+◌, ◌*◌, ◌/◌, ◌<◌, ◌≤◌, List, [], ◌∷◌, ◌++◌, length, map, take, drop, set, get_or, append-nil, arith, min}
+use Rattle.std.proofs.lemmas.Grind.{common_steps}
 use Rattle.std.specs.Prelude.{◌-◌}
-use Rattle.std.proofs.Math.Nat.{add-mul, suc-mul, zero-mul}
+use Rattle.std.proofs.Math.Nat.{suc-mul, zero-mul}
 use Rattle.std.proofs.lemmas.Bool.{lt-ltb}
 use Rattle.std.proofs.lemmas.List.{append_assoc, drop_more, length-append, length-drop, length-set, length-take-le, take-append-drop}
 use Rattle.std.proofs.lemmas.Option.{unwrap_or-slice_get}
@@ -153,12 +154,7 @@ part_of_two p q first n here f g m a b c d =
 -- both have room for the words of this many rows
 pub two_fit : (from step rows room : ℕ) (p q : List RxWord) → length (p ++ q) ≡ rows → from + rows * step < room + step →
     (from + length p * step < room + step) × (from + length p * step + length q * step < room + step)
-two_fit from step rows room p q is within =
-    let l = length-append p q in
-    let n : length p + length q ≡ rows = omega (arith, l, is) in
-    let a = add-mul (length p) (length q) step in
-    let b = ap (λ (k : ℕ). k * step) n in
-    (omega (arith, a, b, within), omega (arith, a, b, within))
+two_fit from step rows room p q is within = grind (arith, common_steps)
 
 -- one row more of a lane
 pub column_more : (step at behind row rows : ℕ) (l : LaneState) (block : List RxWord) (w : RxWord) → row < rows → w ≡ word_at (behind + row) l →
@@ -180,9 +176,7 @@ rows_left step at row rows lt =
 -- one lane more
 pub lane_more : (step i behind rows : ℕ) (ls : List LaneState) (l : LaneState) (block : List RxWord) → i < length ls → l ≡ get_or ls i l →
     spread_all step (i + 1) behind rows (drop (i + 1) ls) (spread step i (column behind rows l) block) ≡ spread_all step i behind rows (drop i ls) block
-lane_more step i behind rows ls l block lt is =
-    ap (λ (k : LaneState). spread_all step (i + 1) behind rows (drop (i + 1) ls) (spread step i (column behind rows k) block)) is
-    ∙ ap (λ (ks : List LaneState). spread_all step i behind rows ks block) (sym (drop_more ls i l lt))
+lane_more step i behind rows ls l block lt is = grind (arith, common_steps)
 
 -- two parts of what is kept are a column
 pub parts_are : (behind rows back : ℕ) (l : LaneState) (p q : List RxWord) → back ≡ (l.last - (l.start + 67 * behind)) / 67 → back < length l.words → rows ≤ back + 1 →
