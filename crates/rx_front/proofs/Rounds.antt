@@ -1,5 +1,6 @@
 -- What a round changes of a lane.
 use Rattle.std.proofs.Common.{ℕ, zero, suc, ◌≡◌, refl, sym, ap, ◌∙◌, subst, ◌+◌, ◌-◌, ◌*◌, ◌≤◌, ◌==◌, Bool, true, false, List, [], ◌∷◌, ◌++◌, length, take, drop, replicate, append-nil, append_assoc, Some, None, arith}
+use Rattle.std.proofs.lemmas.Grind.{common_steps}
 use Rattle.std.specs.Prelude.{slice_get, not, ◌||◌}
 use Rattle.std.proofs.Math.Seq.{take-add, take-append-add, drop-append_seam, take-nil}
 use Rattle.std.proofs.lemmas.Option.{slice_get_within, get_or_from_slice_get}
@@ -53,13 +54,7 @@ bits_next r bytes byte e =
 
 -- how many steps a lane has after this many rounds
 pub column_length : (s : Settings) (rounds : ℕ) (fed : Fed) (column : List LaneStep) → IsColumn s rounds fed column → length column ≡ 8 * rounds
-column_length s rounds fed column is =
-    let a = ap length is.shown in
-    let b = length-append is.own (replicate (8 * rounds - length is.own) steps.Ended) in
-    let c = length-replicate (8 * rounds - length is.own) steps.Ended in
-    let d = is.are.long in
-    let e = length-take (8 * rounds) (bits_of_bytes fed.bytes) in
-    omega (arith, a, b, c, d, e)
+column_length s rounds fed column is = grind (arith, common_steps)
 
 -- a lane that took a byte and these steps
 pub took : (v : Lane) (ring : List ℕ) (lock : LaneState) (given : List LaneStep) (byte : ℕ) (s : Settings) (rounds : ℕ) (fed : Fed) (column : List LaneStep) →
