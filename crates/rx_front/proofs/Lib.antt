@@ -4,10 +4,10 @@ pub mod Clocked
 pub mod Feeding
 pub mod Known
 pub mod Waiting
-pub mod FirstDid
 -- What this crate alone cites.
 mod AtPlaces
 mod Moving
+mod FirstDid
 mod Taking
 mod Places
 mod Locks
