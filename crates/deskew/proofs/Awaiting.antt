@@ -1,9 +1,10 @@
 -- Ticks that are taken outside an epoch while a lane keeps every group away.
 use Rattle.std.proofs.Common.{ℕ, zero, suc, ◌≡◌, refl, sym, ap, ◌∙◌, subst, ◌+◌, ◌-◌, ◌*◌, ◌/◌, ◌<◌, ◌≤◌, eqb, Bool, true, false, not, List, [], ◌∷◌, ◌++◌, length, append-nil, append_assoc, arith, inl, inr, Option, None}
+use Rattle.std.proofs.lemmas.Grind.{common_steps}
 use Rattle.std.specs.Prelude.{◌⊎◌, ◌&&◌, ◌||◌, get_or, if◌then◌else◌, nat_lt}
 use Rattle.std.proofs.Math.Nat.{div-add-mod}
 use Rattle.std.specs.List.{list_all, list_any}
-use Rattle.std.proofs.lemmas.Bool.{and_parts, leb-true, ltb-true, lt-ltb, not-true}
+use Rattle.std.proofs.lemmas.Bool.{and_parts, leb-true, ltb-true, not-true}
 use Rattle.std.proofs.lemmas.List.{length-append, length-map}
 use Rattle.std.proofs.lemmas.List.FromFn.{length-map-range_with_len}
 use Rattle.lk_base.specs.Link.{Settings, IsLink}
@@ -137,20 +138,9 @@ higher (l ∷ ls) [] on = absurd on
 higher (l ∷ ls) (k ∷ ks) on = (let here = on.0.sync in let rest = higher ls ks on.1 in omega (arith, here, rest))
 
 lags_on : (bits high higher : ℕ) (l k : LaneState) → Onward l k → high ≤ higher → lags bits high l ≡ true → lags bits higher k ≡ true
-lags_on bits high higher l k on le lag = elim (either (has_lock l)) [
-  | inl h ↦
-      let q = and_parts l.lost (nat_lt (l.sync + bits) high) (sym (rw h refl) ∙ lag) in
-      let far = ltb-true (l.sync + bits) high q.1 in
-      let o = on.lost h q.0 in
-      let same = o.2 in
-      let lt = lt-ltb (k.sync + bits) higher (omega (arith, far, le, same)) in
-      rw (o.0, o.1, lt) refl
-  | inr h ↦ (let n = on.none h in rw n refl)
-]
+lags_on bits high higher l k on le lag = grind (arith, common_steps)
 
 any_lags : (bits high higher : ℕ) (ls ks : List LaneState) → AreOnward ls ks → high ≤ higher → list_any (lags bits high) ls ≡ true → list_any (lags bits higher) ks ≡ true
-any_lags bits high higher [] ks on le lag = absurd (let e : false ≡ true = lag in cc)
-any_lags bits high higher (l ∷ ls) [] on le lag = absurd on
 any_lags bits high higher (l ∷ ls) (k ∷ ks) on le lag = elim (either (lags bits high l)) [
   | inl e ↦ (let h = lags_on bits high higher l k on.0 le e in rw h refl)
   | inr e ↦ (let h = any_lags bits high higher ls ks on.1 le (sym (rw e refl) ∙ lag) in or_true (lags bits higher k) (list_any (lags bits higher) ks) h)
@@ -159,6 +149,7 @@ any_lags bits high higher (l ∷ ls) (k ∷ ks) on le lag = elim (either (lags b
     or_true : (a b : Bool) → b ≡ true → (a || b) ≡ true
     or_true true b e = refl
     or_true false b e = e
+any_lags bits high higher ls ks on le lag = absurd (first_of (assumption, cc))
 
 -- ---- no lane declares a lock
 
@@ -207,9 +198,6 @@ all_keep : (s : Settings) (n m k : ℕ) (lanes : List LaneSoFar) (columns : List
     length starts ≡ length lanes → AllKept m (kept_lanes s.metaframe (ring_of s) lanes starts) columns →
     (list_all keeps_lock (tick_at columns k) ≡ true) × AllKept m (kept_lanes s.metaframe (ring_of s) (all_stepped lanes (tick_at columns k)) starts) columns
 all_keep s n m k [] [] starts link t few e a = (refl, tt)
-all_keep s n m k [] (column ∷ columns) starts link t few e a = absurd t
-all_keep s n m k (lane ∷ lanes) [] starts link t few e a = absurd t
-all_keep s n m k (lane ∷ lanes) (column ∷ columns) [] link t few e a = absurd (omega (arith, e))
 all_keep s n m k (lane ∷ lanes) (column ∷ columns) (start ∷ starts) link t few e a =
     let rest = all_keep s n m k lanes columns starts link t.1 few (omega (arith, e)) a.1 in
     elim a.0 [
@@ -226,6 +214,7 @@ all_keep s n m k (lane ∷ lanes) (column ∷ columns) (start ∷ starts) link t
     keeps_at [] k h = refl
     keeps_at (x ∷ xs) zero h = (and_parts (keeps_lock x) (list_all keeps_lock xs) h).0
     keeps_at (x ∷ xs) (suc k) h = keeps_at xs k (and_parts (keeps_lock x) (list_all keeps_lock xs) h).1
+all_keep s n m k lanes columns starts link t few e a = absurd (first_of (assumption, omega arith))
 
 -- ---- many ticks
 

@@ -1,7 +1,8 @@
 -- Rows that are written lane by lane are the rows.
 use Rattle.std.proofs.Common.{ℕ, zero, suc, ◌≡◌, refl, sym, ap, ◌∙◌, ◌+◌, ◌*◌, ◌/◌, ◌<◌, ◌≤◌, List, [], ◌∷◌, ◌++◌, length, map, take, drop, set, get_or, append-nil, arith, min}
+use Rattle.std.proofs.lemmas.Grind.{common_steps}
 use Rattle.std.specs.Prelude.{◌-◌}
-use Rattle.std.proofs.Math.Nat.{add-mul, suc-mul, zero-mul}
+use Rattle.std.proofs.Math.Nat.{suc-mul, zero-mul}
 use Rattle.std.proofs.lemmas.Bool.{lt-ltb}
 use Rattle.std.proofs.lemmas.List.{append_assoc, drop_more, length-append, length-drop, length-set, length-take-le, take-append-drop}
 use Rattle.std.proofs.lemmas.Option.{unwrap_or-slice_get}
@@ -59,8 +60,6 @@ left_more step at i words d lt =
 first_row : (step from behind n : ℕ) (ls : List LaneState) (done row more : List RxWord) → length done ≡ from → length row ≡ length ls → from + length ls ≡ step →
     spread_all step from behind (suc n) ls (done ++ (row ++ more)) ≡ done ++ (map (word_at behind) ls ++ spread_all step from (behind + 1) n ls more)
 first_row step from behind n [] done [] more d r s = refl
-first_row step from behind n [] done (x ∷ row) more d r s = absurd (omega (arith, r))
-first_row step from behind n (l ∷ ls) done [] more d r s = absurd (omega (arith, r))
 first_row step from behind n (l ∷ ls) done (x ∷ row) more d r s =
     let w = word_at behind l in
     let words = column (behind + 1) n l in
@@ -78,6 +77,7 @@ first_row step from behind n (l ∷ ls) done (x ∷ row) more d r s =
     ∙ ap (λ (zs : List RxWord). spread_all step (from + 1) behind (suc n) ls zs) two
     ∙ first_row step (from + 1) behind n ls (done ++ (w ∷ [])) row after (omega (arith, ld, d)) (omega (arith, r)) (omega (arith, s))
     ∙ append_assoc done (w ∷ []) (map (word_at behind) ls ++ spread_all step (from + 1) (behind + 1) n ls after)
+first_row step from behind n ls done row more d r s = absurd (omega (arith, r))
 
 no_rows_spread : (step from behind : ℕ) (ls : List LaneState) (block : List RxWord) → spread_all step from behind 0 ls block ≡ block
 no_rows_spread step from behind [] block = refl
@@ -154,12 +154,7 @@ part_of_two p q first n here f g m a b c d =
 -- both have room for the words of this many rows
 pub two_fit : (from step rows room : ℕ) (p q : List RxWord) → length (p ++ q) ≡ rows → from + rows * step < room + step →
     (from + length p * step < room + step) × (from + length p * step + length q * step < room + step)
-two_fit from step rows room p q is within =
-    let l = length-append p q in
-    let n : length p + length q ≡ rows = omega (arith, l, is) in
-    let a = add-mul (length p) (length q) step in
-    let b = ap (λ (k : ℕ). k * step) n in
-    (omega (arith, a, b, within), omega (arith, a, b, within))
+two_fit from step rows room p q is within = grind (arith, common_steps)
 
 -- one row more of a lane
 pub column_more : (step at behind row rows : ℕ) (l : LaneState) (block : List RxWord) (w : RxWord) → row < rows → w ≡ word_at (behind + row) l →
@@ -181,9 +176,7 @@ rows_left step at row rows lt =
 -- one lane more
 pub lane_more : (step i behind rows : ℕ) (ls : List LaneState) (l : LaneState) (block : List RxWord) → i < length ls → l ≡ get_or ls i l →
     spread_all step (i + 1) behind rows (drop (i + 1) ls) (spread step i (column behind rows l) block) ≡ spread_all step i behind rows (drop i ls) block
-lane_more step i behind rows ls l block lt is =
-    ap (λ (k : LaneState). spread_all step (i + 1) behind rows (drop (i + 1) ls) (spread step i (column behind rows k) block)) is
-    ∙ ap (λ (ks : List LaneState). spread_all step i behind rows ks block) (sym (drop_more ls i l lt))
+lane_more step i behind rows ls l block lt is = grind (arith, common_steps)
 
 -- two parts of what is kept are a column
 pub parts_are : (behind rows back : ℕ) (l : LaneState) (p q : List RxWord) → back ≡ (l.last - (l.start + 67 * behind)) / 67 → back < length l.words → rows ≤ back + 1 →

@@ -4,7 +4,7 @@ use Rattle.std.specs.Prelude.{◌&&◌, nat_lt, slice_get, Some}
 use Rattle.std.specs.List.{range_with_len, list_any}
 use Rattle.std.proofs.lemmas.Bool.{cases_Bool, cases_lt, lt-ltb, le-ltb}
 use Rattle.std.proofs.lemmas.List.FromFn.{map-range_with_len_more}
-use Rattle.std.proofs.lemmas.List.{map-append, length-take, take-append-drop, take-append-le, take_all, take-take}
+use Rattle.std.proofs.lemmas.List.{map-append, length-take, take-append-drop, take-append-le, take_all, take-take, get_or-map, take_more}
 use Rattle.lk_base.specs.Checksum.{bits_of_bytes}
 use Rattle.lk_base.specs.Link.{Settings, IsLink}
 use Rattle.lk_base.proofs.Lists.{head_same, tail_same}
@@ -23,6 +23,7 @@ use Rattle.event_model.proofs.Clocks.{length-bits}
 use Rattle.deskew.specs.Ticks.{AreTicks, is_ended, lane_shown, lanes_shown, steps_in, tick_at, ticks_of}
 use Rattle.rx_front.specs.Lanes.{AllStand, IsColumn}
 use Rattle.rx_front.specs.States.{Lane}
+use Rattle.rx_front.proofs.AtPlaces.{count_columns, stands_at}
 use Rattle.rx_front.proofs.Rounds.{column_length}
 
 -- the steps of the first bits of a lane are the first of its steps
@@ -139,12 +140,6 @@ shows_lane s clock fed given x link e at =
 
 -- ---- all lanes
 
-take_snoc : {A : Type 0} (n : ℕ) (xs : List A) (d : A) → n < length xs → take n xs ++ get_or xs n d ∷ [] ≡ take (suc n) xs
-take_snoc zero [] d lt = absurd (omega (arith, lt))
-take_snoc zero (x ∷ xs) d lt = refl
-take_snoc (suc n) [] d lt = absurd (omega (arith, lt))
-take_snoc (suc n) (x ∷ xs) d lt = ap (λ r. x ∷ r) (take_snoc n xs d (omega (arith, lt)))
-
 gathered : (columns : List (List LaneStep)) (i : ℕ) (column : List LaneStep) (n : ℕ) → ((k : ℕ) → get_or (tick_at columns k) i steps.Ended ≡ get_or column k steps.Ended) → n ≤ length column →
     map (λ (tick : List LaneStep). get_or tick i steps.Ended) (map (tick_at columns) (range_with_len 0 n)) ≡ take n column
 gathered columns i column zero same le = refl
@@ -155,15 +150,10 @@ gathered columns i column (suc n) same le =
     ∙ map-append (λ (tick : List LaneStep). get_or tick i steps.Ended) (map (tick_at columns) (range_with_len 0 n)) (tick_at columns n ∷ [])
     ∙ ap (λ (r : List LaneStep). r ++ get_or (tick_at columns n) i steps.Ended ∷ []) (gathered columns i column n same (omega (arith, le)))
     ∙ ap (λ (x : LaneStep). take n column ++ x ∷ []) (same n)
-    ∙ take_snoc n column steps.Ended (omega (arith, le))
-
-tick_is : (columns : List (List LaneStep)) (i k : ℕ) → i < length columns → get_or (tick_at columns k) i steps.Ended ≡ get_or (get_or columns i []) k steps.Ended
-tick_is [] i k lt = absurd (omega (arith, lt))
-tick_is (column ∷ columns) zero k lt = refl
-tick_is (column ∷ columns) (suc i) k lt = tick_is columns i k (omega (arith, lt))
+    ∙ sym (ap (λ m. take m column) e ∙ take_more column n steps.Ended (omega (arith, le)))
 
 pub column_is : (columns : List (List LaneStep)) (i clock : ℕ) → i < length columns → clock ≤ length (get_or columns i []) → steps_in i (ticks_of columns clock) ≡ take clock (get_or columns i [])
-column_is columns i clock lt le = gathered columns i (get_or columns i []) clock (λ k. tick_is columns i k lt) le
+column_is columns i clock lt le = gathered columns i (get_or columns i []) clock (λ k. get_or-map (λ (column : List LaneStep). get_or column k steps.Ended) columns i [] steps.Ended lt) le
 
 -- each lane
 pub record EachAt (s : Settings) (rounds clock : ℕ) (fed : Fed) (column : List LaneStep) : Type 0 where
@@ -172,24 +162,14 @@ pub record EachAt (s : Settings) (rounds clock : ℕ) (fed : Fed) (column : List
 
 each_at : (lanes : List Lane) (s : Settings) (rounds clock : ℕ) (fed : List Fed) (columns : List (List LaneStep)) (i : ℕ) (d : Fed) → clock ≤ 8 * rounds → AllStand lanes s rounds fed columns → i < length fed →
     EachAt s rounds clock (get_or fed i d) (get_or columns i [])
-each_at [] s rounds clock [] [] i d le st lt = absurd (omega (arith, lt))
-each_at [] s rounds clock [] (column ∷ columns) i d le st lt = absurd st
-each_at [] s rounds clock (lane ∷ fed) columns i d le st lt = absurd st
-each_at (v ∷ lanes) s rounds clock [] columns i d le st lt = absurd st
-each_at (v ∷ lanes) s rounds clock (lane ∷ fed) [] i d le st lt = absurd st
-each_at (v ∷ lanes) s rounds clock (lane ∷ fed) (column ∷ columns) zero d le st lt = record {
-  at = at_clock s rounds clock lane column le st.0.in_time st.0.completed;
-  long = (let l = column_length s rounds lane column st.0.completed in omega (arith, l, le));
-}
-each_at (v ∷ lanes) s rounds clock (lane ∷ fed) (column ∷ columns) (suc i) d le st lt = each_at lanes s rounds clock fed columns i d le st.1 (omega (arith, lt))
-
-count_columns : (lanes : List Lane) (s : Settings) (rounds : ℕ) (fed : List Fed) (columns : List (List LaneStep)) → AllStand lanes s rounds fed columns → (length columns ≡ length fed) × (length lanes ≡ length fed)
-count_columns [] s rounds [] [] st = (refl, refl)
-count_columns [] s rounds [] (column ∷ columns) st = absurd st
-count_columns [] s rounds (lane ∷ fed) columns st = absurd st
-count_columns (v ∷ lanes) s rounds [] columns st = absurd st
-count_columns (v ∷ lanes) s rounds (lane ∷ fed) [] st = absurd st
-count_columns (v ∷ lanes) s rounds (lane ∷ fed) (column ∷ columns) st = (let k = count_columns lanes s rounds fed columns st.1 in (ap suc k.0, ap suc k.1))
+each_at lanes s rounds clock fed columns i d le st lt = go lanes (let k = (count_columns lanes s rounds fed columns st).1 in omega (arith, k, lt)) st
+  where
+    go : (lanes : List Lane) → i < length lanes → AllStand lanes s rounds fed columns → EachAt s rounds clock (get_or fed i d) (get_or columns i [])
+    go [] there st = absurd (omega (arith, there))
+    go (v ∷ lanes) there st =
+        let one = stands_at (v ∷ lanes) s rounds fed columns i v d there st in
+        let l = column_length s rounds (get_or fed i d) (get_or columns i []) one.completed in
+        record { at = at_clock s rounds clock (get_or fed i d) (get_or columns i []) le one.in_time one.completed; long = omega (arith, l, le) }
 
 pub lane_count : (lanes : List Lane) (s : Settings) (rounds : ℕ) (fed : List Fed) (columns : List (List LaneStep)) → AllStand lanes s rounds fed columns → length lanes ≡ length fed
 lane_count lanes s rounds fed columns st = (count_columns lanes s rounds fed columns st).1
@@ -211,18 +191,13 @@ are_ticks lanes s rounds clock fed columns count le st = λ i lt. (
 no_bits_of : (x : List Bool) (xs : List (List Bool)) → ◌≡◌ {A = List (List Bool)} [] (x ∷ xs) → ⊥
 no_bits_of x xs e = search rules
 
-lane_is : (lanes : List Lane) (s : Settings) (rounds clock : ℕ) (fed : List Fed) (columns : List (List LaneStep)) (received : List (HasAttempts s.metaframe)) (i : ℕ) (d : LaneSoFar) → IsLink s → clock ≤ 8 * rounds →
-    AllStand lanes s rounds fed columns → bits_in s.metaframe received ≡ map (first_bits clock) fed → i < length fed →
-    lane_shown (take clock (get_or columns i [])) ≡ get_or (lanes_at s clock fed received) i d
-lane_is [] s rounds clock [] columns received i d link le st e lt = absurd (omega (arith, lt))
-lane_is [] s rounds clock (lane ∷ fed) columns received i d link le st e lt = absurd st
-lane_is (v ∷ lanes) s rounds clock [] columns received i d link le st e lt = absurd st
-lane_is (v ∷ lanes) s rounds clock (lane ∷ fed) [] received i d link le st e lt = absurd st
-lane_is (v ∷ lanes) s rounds clock (lane ∷ fed) (column ∷ columns) [] i d link le st e lt = absurd (no_bits_of (first_bits clock lane) (map (first_bits clock) fed) e)
-lane_is (v ∷ lanes) s rounds clock (lane ∷ fed) (column ∷ columns) (x ∷ received) zero d link le st e lt =
-    shows_lane s clock lane (take clock column) x link (head_same x.bits (first_bits clock lane) (bits_in s.metaframe received) (map (first_bits clock) fed) e) (at_clock s rounds clock lane column le st.0.in_time st.0.completed)
-lane_is (v ∷ lanes) s rounds clock (lane ∷ fed) (column ∷ columns) (x ∷ received) (suc i) d link le st e lt =
-    lane_is lanes s rounds clock fed columns received i d link le st.1 (tail_same x.bits (first_bits clock lane) (bits_in s.metaframe received) (map (first_bits clock) fed) e) (omega (arith, lt))
+lane_is : (s : Settings) (clock : ℕ) (fed : List Fed) (received : List (HasAttempts s.metaframe)) (given : List LaneStep) (i : ℕ) (d : Fed) (e : LaneSoFar) → IsLink s → bits_in s.metaframe received ≡ map (first_bits clock) fed → i < length fed →
+    AtClock s clock (get_or fed i d) given → lane_shown given ≡ get_or (lanes_at s clock fed received) i e
+lane_is s clock [] received given i d e link are lt at = absurd (omega (arith, lt))
+lane_is s clock (lane ∷ fed) [] given i d e link are lt at = absurd (no_bits_of (first_bits clock lane) (map (first_bits clock) fed) are)
+lane_is s clock (lane ∷ fed) (x ∷ received) given zero d e link are lt at = shows_lane s clock lane given x link (head_same x.bits (first_bits clock lane) (bits_in s.metaframe received) (map (first_bits clock) fed) are) at
+lane_is s clock (lane ∷ fed) (x ∷ received) given (suc i) d e link are lt at =
+    lane_is s clock fed received given i d e link (tail_same x.bits (first_bits clock lane) (bits_in s.metaframe received) (map (first_bits clock) fed) are) (omega (arith, lt)) at
 
 map_range_is : (F : ℕ → LaneSoFar) (a : ℕ) (ls : List LaneSoFar) → ((i : ℕ) (d : LaneSoFar) → i < length ls → F (a + i) ≡ get_or ls i d) → map F (range_with_len a (length ls)) ≡ ls
 map_range_is F a [] h = refl
@@ -252,4 +227,4 @@ shown_at_clock lanes s rounds clock fed columns received link count le st e =
     let z : 0 + i ≡ i = omega arith in
     ap (λ j. lane_shown (steps_in j (ticks_of columns clock))) z
     ∙ ap lane_shown (column_is columns i clock (let m = k.0 in omega (arith, lt, n, m)) each.long)
-    ∙ lane_is lanes s rounds clock fed columns received i d link le st e (omega (arith, lt, n))))
+    ∙ lane_is s clock fed received (take clock (get_or columns i [])) i (record { bytes = []; finished = false }) d link e (omega (arith, lt, n)) each.at))

@@ -22,13 +22,12 @@ use Rattle.rx_front.proofs.Places.{all_fed, all_finish}
 
 pub not_all : (i : ℕ) (lanes : List Lane) (s : Settings) (rounds : ℕ) (fed : List Fed) (columns : List (List LaneStep)) → is_open i lanes ≡ true → AllStand lanes s rounds fed columns → all_finished fed ≡ true → ⊥
 not_all i [] s rounds fed columns o st over = (let f : false ≡ true = o in cc)
-not_all i (v ∷ lanes) s rounds [] columns o st over = st
-not_all i (v ∷ lanes) s rounds (lane ∷ fed) [] o st over = st
 not_all zero (v ∷ lanes) s rounds (lane ∷ fed) (column ∷ columns) o st over =
     let parts = and_parts lane.finished (all_finished fed) over in
     let e : not v.finished ≡ false = ap not (st.0.finished ∙ parts.0) in
     clash o e
 not_all (suc i) (v ∷ lanes) s rounds (lane ∷ fed) (column ∷ columns) o st over = not_all i lanes s rounds fed columns o st.1 ((and_parts lane.finished (all_finished fed) over).1)
+not_all i lanes s rounds fed columns o st over = absurd st
 
 more_longest : (i : ℕ) (bytes : List ℕ) (fed : List Fed) → longest fed ≤ longest (fed_more i bytes fed)
 more_longest i bytes [] = omega arith
@@ -81,9 +80,8 @@ finished_stands v w i s fed items t o e st = subst (λ (x : State). Stands x s (
 
 all_fresh : (s : Settings) (n : ℕ) (lanes : List Lane) → length lanes ≡ n → All (λ v. IsFresh s v) lanes → AllStand lanes s 0 (nothing_fed n) (replicate n [])
 all_fresh s zero [] e h = tt
-all_fresh s zero (v ∷ lanes) e h = absurd (omega (arith, e))
-all_fresh s (suc n) [] e h = absurd (omega (arith, e))
 all_fresh s (suc n) (v ∷ lanes) e h = (All-head (λ v. IsFresh s v) v lanes h, all_fresh s n lanes (omega (arith, e)) (All-tail (λ v. IsFresh s v) v lanes h))
+all_fresh s n lanes e h = absurd (omega (arith, e))
 
 pub fresh_stands : (s : Settings) (lanes : List Lane) (d : deskew.State) → IsLink s → length lanes ≡ s.lanes → All (λ v. IsFresh s v) lanes → deskews.Stands d s [] [] →
     Stands (record { lanes = lanes; left = 0; deskew = d; waiting = []; over = false }) s (nothing_fed s.lanes) [] (begun s.lanes)

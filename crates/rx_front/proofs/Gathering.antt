@@ -1,15 +1,15 @@
 -- The bits of bytes as a number.
-use Rattle.std.proofs.Common.{ℕ, zero, suc, ◌≡◌, refl, sym, ap, ◌∙◌, subst, ◌+◌, ◌-◌, ◌*◌, ◌/◌, ◌^◌, ◌<◌, ◌≤◌, List, [], ◌∷◌, ◌++◌, length, get_or, take, drop, append-nil, arith}
+use Rattle.std.proofs.Common.{ℕ, ◌≡◌, refl, sym, ap, ◌∙◌, subst, ◌+◌, ◌-◌, ◌*◌, ◌/◌, ◌^◌, ◌<◌, ◌≤◌, List, [], ◌∷◌, ◌++◌, length, get_or, take, drop, append-nil, arith}
 use Rattle.std.proofs.Math.Pow.{pow_mono}
 use Rattle.std.proofs.Math.Nat.{div-lt_iff_lt-mul}
-use Rattle.std.proofs.lemmas.List.{take_more, take_all, take-append-le, take-take}
+use Rattle.std.proofs.lemmas.List.{take_more, take_all, take-append-le, take-take, get_or-drop, drop-drop}
 use Rattle.std.proofs.lemmas.Nat.{pow-add, pow_pos}
 use Rattle.circular_buffer.specs.Buffer.{Buffer, buffer}
 use Rattle.lk_base.specs.Checksum.{bits_of, bits_of_bytes}
 use Rattle.lk_base.proofs.Bits.{bits-cut, no_bits, bits-joined}
 use Rattle.lane_model.proofs.Numbers.{length-bits_of}
 use Rattle.event_model.proofs.Clocks.{bits-append}
-use Rattle.rx_front.proofs.Rounds.{bits_taken, drop_one}
+use Rattle.rx_front.proofs.Rounds.{bits_taken}
 
 -- this many bytes were taken from a ring, and these are their bits
 pub record Gathered (before now : Buffer ℕ) (k bits : ℕ) : Type 0 where
@@ -20,21 +20,16 @@ pub record Gathered (before now : Buffer ℕ) (k bits : ℕ) : Type 0 where
 pub none_gathered : (ring : Buffer ℕ) → Gathered ring ring 0 0
 none_gathered ring = record { ring = refl; are = no_bits 0; below = omega arith }
 
-first_of : (k : ℕ) (xs : List ℕ) → get_or (drop k xs) 0 0 ≡ get_or xs k 0
-first_of zero xs = refl
-first_of (suc k) [] = refl
-first_of (suc k) (x ∷ xs) = first_of k xs
-
 pub one_gathered : (before now later : Buffer ℕ) (k bits byte : ℕ) → k < length before.items → byte < 256 → Gathered before now k bits → byte ≡ get_or now.items 0 0 → later ≡ buffer (drop 1 now.items) now.capacity →
     Gathered before later (k + 1) (bits * 256 + byte)
 one_gathered before now later k bits byte lt low g is rest =
     let items : now.items ≡ drop k before.items = ap (λ (b : Buffer ℕ). b.items) g.ring in
-    let here : byte ≡ get_or before.items k 0 = is ∙ ap (λ (xs : List ℕ). get_or xs 0 0) items ∙ first_of k before.items in
+    let here : byte ≡ get_or before.items k 0 = is ∙ ap (λ (xs : List ℕ). get_or xs 0 0) items ∙ get_or-drop k before.items 0 0 ∙ ap (λ (m : ℕ). get_or before.items m 0) (let e : k + 0 ≡ k = omega arith in e) in
     let e : 8 * (k + 1) ≡ 8 * k + 8 = omega arith in
     let p : 2 ^ (8 * (k + 1)) ≡ 2 ^ (8 * k) * 256 = ap (λ (n : ℕ). 2 ^ n) e ∙ pow-add 2 (8 * k) 8 in
     let b = g.below in
     record {
-      ring = rest ∙ ap (λ (b : Buffer ℕ). buffer (drop 1 b.items) b.capacity) g.ring ∙ ap (λ (xs : List ℕ). buffer xs before.capacity) (drop_one k before.items);
+      ring = rest ∙ ap (λ (b : Buffer ℕ). buffer (drop 1 b.items) b.capacity) g.ring ∙ ap (λ (xs : List ℕ). buffer xs before.capacity) (drop-drop 1 k before.items);
       are = ap (λ (n : ℕ). bits_of n (bits * 256 + byte)) e ∙ bits-joined (8 * k) 8 bits byte low ∙ ap (λ b. b ++ bits_of 8 byte) g.are
           ∙ sym (ap bits_of_bytes (take_more before.items k 0 lt ∙ ap (λ (x : ℕ). take k before.items ++ x ∷ []) (sym here)) ∙ bits-append (take k before.items) (byte ∷ [])
           ∙ ap (λ b. bits_of_bytes (take k before.items) ++ b) (append-nil (bits_of 8 byte)));

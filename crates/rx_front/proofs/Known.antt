@@ -29,10 +29,7 @@ lesser_from r n None le h = le
 lesser_from r n (Some m) le h = (let k = h m refl in omega (arith, le, k))
 
 within_least : (lanes : List Lane) (s : Settings) (r : ℕ) (fed : List Fed) (columns : List (List LaneStep)) → AllStand lanes s r fed columns → (m : ℕ) → least_unfinished fed ≡ Some m → r ≤ m
-within_least [] s r [] columns st m e = absurd (none-some m e)
-within_least [] s r (lane ∷ fed) columns st m e = absurd st
-within_least (v ∷ lanes) s r [] columns st m e = absurd (none-some m e)
-within_least (v ∷ lanes) s r (lane ∷ fed) [] st m e = absurd st
+within_least lanes s r [] columns st m e = absurd (none-some m e)
 within_least (v ∷ lanes) s r (lane ∷ fed) (column ∷ columns) st m e = elim (cases_Bool lane.finished) [
   | inl over ↦ within_least lanes s r fed columns st.1 m (rw over at e)
   | inr open_lane ↦ (
@@ -41,6 +38,7 @@ within_least (v ∷ lanes) s r (lane ∷ fed) (column ∷ columns) st m e = elim
       let le = lesser_from r (length lane.bytes) (least_unfinished fed) (st.0.in_time open_lane) (λ k f. within_least lanes s r fed columns st.1 k f) in
       omega (arith, same, le))
 ]
+within_least lanes s r fed columns st m e = absurd st
 
 at_most : (over : Bool) (fed : List Fed) (rounds : ℕ) → AtRound over fed rounds → rounds ≤ suc (longest fed)
 at_most false fed rounds h = omega (arith, h)
@@ -160,9 +158,6 @@ lesser_low n r (Some m) le = omega (arith, le)
 
 pub unready : (lanes : List Lane) (s : Settings) (rounds : ℕ) (fed : List Fed) (columns : List (List LaneStep)) → AllStand lanes s rounds fed columns → are_ready lanes ≡ false →
     (m : ℕ) × (least_unfinished fed ≡ Some m) × (m ≤ rounds)
-unready [] s rounds fed columns st e = absurd (let f : true ≡ false = e in cc)
-unready (v ∷ lanes) s rounds [] columns st e = absurd st
-unready (v ∷ lanes) s rounds (lane ∷ fed) [] st e = absurd st
 unready (v ∷ lanes) s rounds (lane ∷ fed) (column ∷ columns) st e = elim (cases_Bool (is_ready v)) [
   | inl ready ↦ (
       let found = unready lanes s rounds fed columns st.1 (rw ready at e) in
@@ -176,3 +171,4 @@ unready (v ∷ lanes) s rounds (lane ∷ fed) (column ∷ columns) st e = elim (
       let le : length lane.bytes ≤ rounds = omega (arith, l, d, z) in
       (lesser (length lane.bytes) (least_unfinished fed), (rw unfinished refl), lesser_low (length lane.bytes) rounds (least_unfinished fed) le))
 ]
+unready lanes s rounds fed columns st e = absurd (first_of (assumption, cc))

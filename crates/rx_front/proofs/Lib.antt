@@ -5,6 +5,9 @@ pub mod Feeding
 pub mod Known
 pub mod Waiting
 -- What this crate alone cites.
+mod AtPlaces
+mod Moving
+mod FirstDid
 mod Taking
 mod Places
 mod Locks

@@ -2,7 +2,7 @@
 use Rattle.std.proofs.Common.{ℕ, zero, suc, ◌≡◌, refl, sym, ap, ◌∙◌, ◌-◌, ◌<◌, ◌≤◌, true, false, List, [], ◌∷◌, ◌++◌, length, map, get_or, Option, Some, None, append-nil, arith, All}
 use Rattle.std.specs.List.{cons_option, list_all}
 use Rattle.std.proofs.lemmas.Bool.{and_parts, le-ltb, lt-ltb}
-use Rattle.std.proofs.lemmas.List.{map-append}
+use Rattle.std.proofs.lemmas.List.{map-append, get_or-map}
 use Rattle.std.proofs.lemmas.List.Elements.{All-head, All-tail}
 use Rattle.lk_base.specs.declared.word.Aligned.{Aligned}
 use Rattle.lk_base.specs.Link.{Settings}
@@ -57,20 +57,18 @@ quiet_lock (suc i) k (v ∷ lanes) quiet = quiet_lock i k lanes (All-tail (λ w.
 -- ---- the lock at the bit that was passed last
 
 pub step_there : (k i : ℕ) (lanes : List Lane) (d : Lane) (e : LaneStep) → i < length lanes → step_at k (get_or lanes i d) ≡ get_or (map (step_at k) lanes) i e
-step_there k i [] d e lt = absurd (omega (arith, lt))
-step_there k zero (v ∷ lanes) d e lt = refl
-step_there k (suc i) (v ∷ lanes) d e lt = step_there k i lanes d e (omega (arith, lt))
+step_there k i lanes d e lt = sym (get_or-map (step_at k) lanes i d e lt)
 
 pub lock_there : (i left width : ℕ) (lanes : List Lane) → left < width → AreWide width lanes → declared_in i left lanes ≡ lock_of (get_or (map (step_at (width - left - 1)) lanes) i steps.Ended)
 lock_there i left width [] lt wide = refl
-lock_there zero left width (v ∷ lanes) lt wide = rw (wide.0, lt-ltb left width lt) refl
-lock_there (suc i) left width (v ∷ lanes) lt wide = lock_there i left width lanes lt wide.1
+lock_there zero left width (v ∷ lanes) lt wide = (let w : length v.steps ≡ width = wide 0 v (omega arith) in rw (w, lt-ltb left width lt) refl)
+lock_there (suc i) left width (v ∷ lanes) lt wide = lock_there i left width lanes lt (All-tail (λ x. length x.steps ≡ width) v lanes wide)
 
 -- past those that are kept
 pub lock_past : (i left width : ℕ) (lanes : List Lane) → width ≤ left → AreWide width lanes → declared_in i left lanes ≡ None
 lock_past i left width [] le wide = refl
-lock_past zero left width (v ∷ lanes) le wide = rw (wide.0, le-ltb left width le) refl
-lock_past (suc i) left width (v ∷ lanes) le wide = lock_past i left width lanes le wide.1
+lock_past zero left width (v ∷ lanes) le wide = (let w : length v.steps ≡ width = wide 0 v (omega arith) in rw (w, le-ltb left width le) refl)
+lock_past (suc i) left width (v ∷ lanes) le wide = lock_past i left width lanes le (All-tail (λ x. length x.steps ≡ width) v lanes wide)
 
 -- ---- moves one after another
 

@@ -1,7 +1,7 @@
 -- A lane at its place.
 use Rattle.std.proofs.Common.{ℕ, zero, suc, ◌≡◌, refl, sym, ap, ◌∙◌, subst, ◌+◌, ◌-◌, ◌*◌, ◌<◌, ◌≤◌, Bool, true, false, List, [], ◌∷◌, ◌++◌, length, get_or, set, take, drop, arith}
 use Rattle.std.specs.Prelude.{min, not}
-use Rattle.std.proofs.lemmas.List.{length-append, length-take-le, take-append-le, take_all}
+use Rattle.std.proofs.lemmas.List.{length-append, length-take-le, take-append-le, take_all, drop-append-le}
 use Rattle.lk_base.specs.Link.{Settings}
 use Rattle.lk_base.specs.Checksum.{bits_of_bytes}
 use Rattle.lock_model.specs.declared.types.LaneStep.{LaneStep}
@@ -44,22 +44,16 @@ finished_is (suc i) (v ∷ lanes) d w lt e = ap (λ (r : List Lane). v ∷ r) (f
 pub report_is : (i : ℕ) (lanes : List Lane) (d : Lane) (report : LaneReport) → i < length lanes →
     ((s : Settings) (rounds : ℕ) (fed : Fed) (column : List LaneStep) → LaneStands (get_or lanes i d) s rounds fed column → lock.IsReport s (first_bits (8 * rounds) fed) report) →
     (s : Settings) (rounds : ℕ) (fed : List Fed) (columns : List (List LaneStep)) → AllStand lanes s rounds fed columns → IsReportOf s rounds i fed report
-report_is i [] d report lt h s rounds fed columns st = absurd (omega (arith, lt))
-report_is i (v ∷ lanes) d report lt h s rounds [] columns st = tt
-report_is i (v ∷ lanes) d report lt h s rounds (lane ∷ fed) [] st = absurd st
+report_is i lanes d report lt h s rounds [] columns st = tt
 report_is zero (v ∷ lanes) d report lt h s rounds (lane ∷ fed) (column ∷ columns) st = h s rounds lane column st.0
 report_is (suc i) (v ∷ lanes) d report lt h s rounds (lane ∷ fed) (column ∷ columns) st = report_is i lanes d report (omega (arith, lt)) h s rounds fed columns st.1
+report_is i lanes d report lt h s rounds fed columns st = absurd (first_of (assumption, omega arith))
 
 -- ---- the relation of a lane that is not finished, with more bytes or none
 
 same_bits : (rounds : ℕ) (bytes more : List ℕ) → rounds ≤ length bytes → take (8 * rounds) (bits_of_bytes (bytes ++ more)) ≡ take (8 * rounds) (bits_of_bytes bytes)
 same_bits rounds bytes more le =
     ap (take (8 * rounds)) (bits-append bytes more) ∙ take-append-le (8 * rounds) (bits_of_bytes bytes) (bits_of_bytes more) (let b = length-bits bytes in omega (arith, b, le))
-
-drop_append : (n : ℕ) (xs ys : List ℕ) → n ≤ length xs → drop n (xs ++ ys) ≡ drop n xs ++ ys
-drop_append zero xs ys le = refl
-drop_append (suc n) [] ys le = absurd (omega (arith, le))
-drop_append (suc n) (x ∷ xs) ys le = drop_append n xs ys (omega (arith, le))
 
 with_bits : (s : Settings) (rounds : ℕ) (one other : Fed) (column : List LaneStep) → first_bits (8 * rounds) one ≡ first_bits (8 * rounds) other → IsColumn s rounds one column → IsColumn s rounds other column
 with_bits s rounds one other column e is = record { own = is.own; are = subst (λ (bs : List Bool). AreSteps s bs is.own) e is.are; shown = is.shown }
@@ -70,7 +64,7 @@ one_fed v s rounds lane column bytes unfinished st =
     let le = st.in_time (sym st.finished ∙ is_not v.finished unfinished) in
     let same = same_bits rounds lane.bytes bytes le in
     record {
-      ring = ap (λ r. r ++ bytes) st.ring ∙ sym (drop_append rounds lane.bytes bytes le);
+      ring = ap (λ r. r ++ bytes) st.ring ∙ sym (drop-append-le rounds lane.bytes bytes le);
       finished = st.finished;
       count = ap (λ n. n + length bytes) st.count ∙ sym (length-append lane.bytes bytes);
       in_time = λ o. (let l = length-append lane.bytes bytes in omega (arith, l, le));
@@ -97,19 +91,15 @@ one_finished v s rounds lane column st = record {
 
 pub all_fed : (i : ℕ) (bytes : List ℕ) (lanes : List Lane) (s : Settings) (rounds : ℕ) (fed : List Fed) (columns : List (List LaneStep)) → is_open i lanes ≡ true → AllStand lanes s rounds fed columns →
     AllStand (lanes_fed i bytes lanes) s rounds (fed_more i bytes fed) columns
-all_fed i bytes [] s rounds fed columns o st = absurd (let f : false ≡ true = o in cc)
-all_fed i bytes (v ∷ lanes) s rounds [] columns o st = absurd st
-all_fed i bytes (v ∷ lanes) s rounds (lane ∷ fed) [] o st = absurd st
 all_fed zero bytes (v ∷ lanes) s rounds (lane ∷ fed) (column ∷ columns) o st = (one_fed v s rounds lane column bytes o st.0, st.1)
 all_fed (suc i) bytes (v ∷ lanes) s rounds (lane ∷ fed) (column ∷ columns) o st = (st.0, all_fed i bytes lanes s rounds fed columns o st.1)
+all_fed i bytes lanes s rounds fed columns o st = absurd (first_of (assumption, cc))
 
 pub all_finish : (i : ℕ) (lanes : List Lane) (s : Settings) (rounds : ℕ) (fed : List Fed) (columns : List (List LaneStep)) → is_open i lanes ≡ true → AllStand lanes s rounds fed columns →
     AllStand (lanes_finished i lanes) s rounds (finished_at i fed) columns
-all_finish i [] s rounds fed columns o st = absurd (let f : false ≡ true = o in cc)
-all_finish i (v ∷ lanes) s rounds [] columns o st = absurd st
-all_finish i (v ∷ lanes) s rounds (lane ∷ fed) [] o st = absurd st
 all_finish zero (v ∷ lanes) s rounds (lane ∷ fed) (column ∷ columns) o st = (one_finished v s rounds lane column st.0, st.1)
 all_finish (suc i) (v ∷ lanes) s rounds (lane ∷ fed) (column ∷ columns) o st = (st.0, all_finish i lanes s rounds fed columns o st.1)
+all_finish i lanes s rounds fed columns o st = absurd (first_of (assumption, cc))
 
 -- ---- the room after a feed
 

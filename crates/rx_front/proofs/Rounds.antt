@@ -1,9 +1,10 @@
 -- What a round changes of a lane.
-use Rattle.std.proofs.Common.{ℕ, zero, suc, ◌≡◌, refl, sym, ap, ◌∙◌, subst, ◌+◌, ◌-◌, ◌*◌, ◌<◌, ◌≤◌, ◌==◌, Bool, true, false, List, [], ◌∷◌, ◌++◌, length, take, drop, replicate, append-nil, append_assoc, Some, None, arith}
+use Rattle.std.proofs.Common.{ℕ, zero, suc, ◌≡◌, refl, sym, ap, ◌∙◌, subst, ◌+◌, ◌-◌, ◌*◌, ◌≤◌, ◌==◌, Bool, true, false, List, [], ◌∷◌, ◌++◌, length, take, drop, replicate, append-nil, append_assoc, Some, None, arith}
+use Rattle.std.proofs.lemmas.Grind.{common_steps}
 use Rattle.std.specs.Prelude.{slice_get, not, ◌||◌}
 use Rattle.std.proofs.Math.Seq.{take-add, take-append-add, drop-append_seam, take-nil}
-use Rattle.std.proofs.lemmas.Option.{none-some, same_Some}
-use Rattle.std.proofs.lemmas.List.{length-append, length-drop, length-replicate, length-take, take_all, replicate-append-replicate}
+use Rattle.std.proofs.lemmas.Option.{slice_get_within, get_or_from_slice_get}
+use Rattle.std.proofs.lemmas.List.{length-append, length-drop, length-replicate, length-take, take_all, replicate-append-replicate, drop-drop, take_more}
 use Rattle.lk_base.specs.Checksum.{bits_of, bits_of_bytes}
 use Rattle.lk_base.specs.Link.{Settings}
 use Rattle.lk_base.proofs.Lists.{none_is}
@@ -32,11 +33,6 @@ bits_taken (suc r) (b ∷ bytes) =
     ap (λ n. take n (bits_of 8 b ++ bits_of_bytes bytes)) e ∙ take-append-add (bits_of 8 b) (bits_of_bytes bytes) (8 * r)
     ∙ ap (λ bits. bits_of 8 b ++ bits) (bits_taken r bytes)
 
-pub drop_one : (r : ℕ) (bytes : List ℕ) → drop 1 (drop r bytes) ≡ drop (r + 1) bytes
-drop_one zero bytes = refl
-drop_one (suc r) [] = (let e : suc r + 1 ≡ suc (r + 1) = omega arith in sym (ap (λ n. drop n []) e))
-drop_one (suc r) (b ∷ bytes) = (let e : suc r + 1 ≡ suc (r + 1) = omega arith in drop_one r bytes ∙ sym (ap (λ n. drop n (b ∷ bytes)) e))
-
 ready_over : (over : Bool) (ring : List ℕ) → ring ≡ [] → (over || not (length ring == 0)) ≡ true → over ≡ true
 ready_over true ring e h = refl
 ready_over false ring e h = absurd (clash h (ap (λ (r : List ℕ). not (length r == 0)) e))
@@ -49,14 +45,7 @@ slice_first (suc r) [] = refl
 slice_first (suc r) (b ∷ bytes) = slice_first r bytes
 
 take_next : (r : ℕ) (bytes : List ℕ) (byte : ℕ) → slice_get bytes r ≡ Some byte → take (r + 1) bytes ≡ take r bytes ++ byte ∷ []
-take_next r [] byte e = absurd (none-some byte e)
-take_next zero (b ∷ bytes) byte e = ap (λ x. x ∷ []) (same_Some b byte e)
-take_next (suc r) (b ∷ bytes) byte e = (let f : suc r + 1 ≡ suc (r + 1) = omega arith in ap (λ n. take n (b ∷ bytes)) f ∙ ap (λ xs. b ∷ xs) (take_next r bytes byte e))
-
-there : (r : ℕ) (bytes : List ℕ) (byte : ℕ) → slice_get bytes r ≡ Some byte → r < length bytes
-there r [] byte e = absurd (none-some byte e)
-there zero (b ∷ bytes) byte e = omega arith
-there (suc r) (b ∷ bytes) byte e = (let lt = there r bytes byte e in omega (arith, lt))
+take_next r bytes byte e = take_more bytes r 0 (slice_get_within bytes r byte e) ∙ ap (λ x. take r bytes ++ x ∷ []) (get_or_from_slice_get bytes r byte 0 e)
 
 pub bits_next : (r : ℕ) (bytes : List ℕ) (byte : ℕ) → slice_get bytes r ≡ Some byte → take (8 * (r + 1)) (bits_of_bytes bytes) ≡ take (8 * r) (bits_of_bytes bytes) ++ bits_of 8 byte
 bits_next r bytes byte e =
@@ -65,13 +54,7 @@ bits_next r bytes byte e =
 
 -- how many steps a lane has after this many rounds
 pub column_length : (s : Settings) (rounds : ℕ) (fed : Fed) (column : List LaneStep) → IsColumn s rounds fed column → length column ≡ 8 * rounds
-column_length s rounds fed column is =
-    let a = ap length is.shown in
-    let b = length-append is.own (replicate (8 * rounds - length is.own) steps.Ended) in
-    let c = length-replicate (8 * rounds - length is.own) steps.Ended in
-    let d = is.are.long in
-    let e = length-take (8 * rounds) (bits_of_bytes fed.bytes) in
-    omega (arith, a, b, c, d, e)
+column_length s rounds fed column is = grind (arith, common_steps)
 
 -- a lane that took a byte and these steps
 pub took : (v : Lane) (ring : List ℕ) (lock : LaneState) (given : List LaneStep) (byte : ℕ) (s : Settings) (rounds : ℕ) (fed : Fed) (column : List LaneStep) →
@@ -81,7 +64,7 @@ pub took : (v : Lane) (ring : List ℕ) (lock : LaneState) (given : List LaneSte
     LaneStands (record { ring = ring; finished = v.finished; fed = v.fed; lock = lock; steps = given }) s (rounds + 1) fed (column ++ given)
 took v ring lock given byte s rounds fed column first rest eight goes st =
     let here : slice_get fed.bytes rounds ≡ Some byte = sym (slice_first rounds fed.bytes) ∙ ap (λ r. slice_get r 0) (sym st.ring) ∙ first in
-    let lt = there rounds fed.bytes byte here in
+    let lt = slice_get_within fed.bytes rounds byte here in
     let bits = bits_next rounds fed.bytes byte here in
     let both = goes s (first_bits (8 * rounds) fed) st.completed.own st.lock st.completed.are in
     let long = column_length s rounds fed column st.completed in
@@ -93,7 +76,7 @@ took v ring lock given byte s rounds fed column first rest eight goes st =
     let more = length-append st.completed.own given in
     let none_more : 8 * (rounds + 1) - length (st.completed.own ++ given) ≡ 0 = omega (arith, l, t, b, lt, more, eight) in
     record {
-      ring = rest ∙ ap (drop 1) st.ring ∙ drop_one rounds fed.bytes;
+      ring = rest ∙ ap (drop 1) st.ring ∙ drop-drop 1 rounds fed.bytes;
       finished = st.finished;
       count = st.count;
       in_time = λ open_lane. omega (arith, lt);
@@ -124,7 +107,7 @@ found_at_end v ring given s rounds fed column none rest ended ready st =
     let t = length-take (8 * rounds) (bits_of_bytes fed.bytes) in
     let n : 8 * rounds - length st.completed.own + 8 ≡ 8 * (rounds + 1) - length st.completed.own = omega (arith, l, t) in
     record {
-      ring = rest ∙ ap (drop 1) st.ring ∙ drop_one rounds fed.bytes;
+      ring = rest ∙ ap (drop 1) st.ring ∙ drop-drop 1 rounds fed.bytes;
       finished = st.finished;
       count = st.count;
       in_time = λ open_lane. absurd (clash over open_lane);
@@ -140,15 +123,6 @@ found_at_end v ring given s rounds fed column none rest ended ready st =
     }
 
 -- ---- rounds at once
-
-drop_none : (k : ℕ) → drop {A = ℕ} k [] ≡ []
-drop_none zero = refl
-drop_none (suc k) = refl
-
-drop_more : (r n : ℕ) (bytes : List ℕ) → drop n (drop r bytes) ≡ drop (r + n) bytes
-drop_more zero n bytes = (let e : 0 + n ≡ n = omega arith in ap (λ k. drop k bytes) (sym e))
-drop_more (suc r) n [] = drop_none n ∙ sym (drop_none (suc r + n))
-drop_more (suc r) n (b ∷ bytes) = (let e : suc r + n ≡ suc (r + n) = omega arith in drop_more r n bytes ∙ ap (λ k. drop k (b ∷ bytes)) (sym e))
 
 bits_more : (r n : ℕ) (bytes : List ℕ) → take (8 * (r + n)) (bits_of_bytes bytes) ≡ take (8 * r) (bits_of_bytes bytes) ++ bits_of_bytes (take n (drop r bytes))
 bits_more r n bytes =
@@ -174,7 +148,7 @@ took_steps v ring later given kept n s rounds fed column count some has rest goe
     let a = length-append st.completed.own given in
     let none_more : 8 * (rounds + n) - length (st.completed.own ++ given) ≡ 0 = omega (arith, l, t, b, lt, a, count) in
     record {
-      ring = rest ∙ ap (drop n) st.ring ∙ drop_more rounds n fed.bytes;
+      ring = rest ∙ ap (drop n) st.ring ∙ drop-drop n rounds fed.bytes;
       finished = st.finished;
       count = st.count;
       in_time = λ open_lane. lt;
@@ -205,6 +179,6 @@ pub is_taken : (u v : Lane) (ring : List ℕ) (later : LaneState) (given : List 
 is_taken u v ring later given n bits e count some has rest are goes =
     subst (λ (x : Lane). IsTaken n x (record { ring = ring; finished = v.finished; fed = v.fed; lock = later; steps = given })) e (record {
       ring = rest;
-      count = count;
+      long = count;
       stands = λ s rounds fed column st. took_bytes v ring later given n bits s rounds fed column count some has rest are goes st;
     })

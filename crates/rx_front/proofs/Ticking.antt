@@ -1,7 +1,8 @@
 -- The clock moves on by a bit.
-use Rattle.std.proofs.Common.{ℕ, zero, suc, ◌≡◌, refl, sym, ap, ◌∙◌, subst, ◌+◌, ◌-◌, ◌*◌, ◌<◌, ◌≤◌, List, [], ◌∷◌, ◌++◌, length, map, get_or, drop, arith}
+use Rattle.std.proofs.Common.{ℕ, ◌≡◌, refl, sym, ap, ◌∙◌, subst, ◌+◌, ◌-◌, ◌*◌, ◌<◌, ◌≤◌, List, [], ◌∷◌, ◌++◌, length, map, get_or, arith}
 use Rattle.std.specs.List.{cons_option}
-use Rattle.std.proofs.lemmas.List.{length-drop, map-append}
+use Rattle.std.proofs.lemmas.List.{length-drop, map-append, get_or-drop}
+use Rattle.std.proofs.lemmas.List.Elements.{All-tail}
 use Rattle.lk_base.specs.declared.word.Aligned.{Aligned}
 use Rattle.lk_base.specs.Link.{Settings}
 use Rattle.deskew.proofs.Columns.{one_more}
@@ -18,30 +19,22 @@ use Rattle.rx_front.proofs.Clocked.{are_ticks}
 use Rattle.rx_front.proofs.Locks.{locks_append}
 use Rattle.rx_front.proofs.Rounds.{column_length}
 
-get_drop : (n k : ℕ) (xs : List LaneStep) → get_or (drop n xs) k steps.Ended ≡ get_or xs (n + k) steps.Ended
-get_drop zero k xs = (let e : 0 + k ≡ k = omega arith in ap (λ m. get_or xs m steps.Ended) (sym e))
-get_drop (suc n) k [] = refl
-get_drop (suc n) k (x ∷ xs) = (let e : suc n + k ≡ suc (n + k) = omega arith in get_drop n k xs ∙ ap (λ m. get_or (x ∷ xs) m steps.Ended) (sym e))
-
 steps_are : (lanes : List Lane) (s : Settings) (rounds clock k width : ℕ) (fed : List Fed) (columns : List (List LaneStep)) → 0 < rounds → 8 * rounds + k ≡ clock + width → AreWide width lanes →
     AllStand lanes s rounds fed columns → map (step_at k) lanes ≡ tick_at columns clock
 steps_are [] s rounds clock k width [] [] some e wide st = refl
-steps_are [] s rounds clock k width [] (column ∷ columns) some e wide st = absurd st
-steps_are [] s rounds clock k width (lane ∷ fed) columns some e wide st = absurd st
-steps_are (v ∷ lanes) s rounds clock k width [] columns some e wide st = absurd st
-steps_are (v ∷ lanes) s rounds clock k width (lane ∷ fed) [] some e wide st = absurd st
 steps_are (v ∷ lanes) s rounds clock k width (lane ∷ fed) (column ∷ columns) some e wide st =
     let last = st.0.last some in
     let long = column_length s rounds lane column st.0.completed in
     let kept = ap length last ∙ length-drop (8 * rounds - length v.steps) column in
-    let w = wide.0 in
+    let w = wide 0 v (omega arith) in
     let same : 8 * rounds - length v.steps + k ≡ clock = omega (arith, e, w, kept, long) in
     let here : step_at k v ≡ get_or column clock steps.Ended =
-    ap (λ (g : List LaneStep). get_or g k steps.Ended) last ∙ get_drop (8 * rounds - length v.steps) k column ∙ ap (λ m. get_or column m steps.Ended) same in
-    joined (step_at k v) (get_or column clock steps.Ended) (map (step_at k) lanes) (tick_at columns clock) here (steps_are lanes s rounds clock k width fed columns some e wide.1 st.1)
+    ap (λ (g : List LaneStep). get_or g k steps.Ended) last ∙ get_or-drop (8 * rounds - length v.steps) column k steps.Ended ∙ ap (λ m. get_or column m steps.Ended) same in
+    joined (step_at k v) (get_or column clock steps.Ended) (map (step_at k) lanes) (tick_at columns clock) here (steps_are lanes s rounds clock k width fed columns some e (All-tail (λ x. length x.steps ≡ width) v lanes wide) st.1)
   where
     joined : (x y : LaneStep) (xs ys : List LaneStep) → x ≡ y → xs ≡ ys → ◌≡◌ {A = List LaneStep} (x ∷ xs) (y ∷ ys)
     joined x y xs ys e f = cc
+steps_are lanes s rounds clock k width fed columns some e wide st = absurd st
 
 -- the locks of the ticks before, and that of this one
 pub locks_more : (i : ℕ) (ticks : List (List LaneStep)) (tick : List LaneStep) → locks_in (steps_in i (ticks ++ tick ∷ [])) ≡ locks_in (steps_in i ticks) ++ cons_option (lock_of (get_or tick i steps.Ended)) []

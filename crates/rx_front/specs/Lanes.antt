@@ -1,6 +1,6 @@
 -- How a lane of a receiver stands to what was fed of it, and what its calls change.
 use Rattle.std.specs.Prelude.{ℕ, ◌≡◌, ◌≤◌, ◌<◌, ◌+◌, ◌-◌, ◌*◌, ◌==◌, Bool, true, false, not, ◌||◌, List, [], ◌∷◌, ◌++◌, length, drop, replicate, get_or, sum_by}
-use Rattle.std.specs.List.{list_all}
+use Rattle.std.specs.List.{list_all, All}
 use Rattle.std.specs.Int.{bit_at}
 use Rattle.lk_base.specs.Link.{Settings}
 use Rattle.lock_model.specs.declared.types.LaneStep.{LaneStep}
@@ -69,39 +69,40 @@ AllStand [] s rounds [] [] = Unit {0}
 AllStand (v ∷ lanes) s rounds (lane ∷ fed) (column ∷ columns) = LaneStands v s rounds lane column × AllStand lanes s rounds fed columns
 AllStand lanes s rounds fed columns = ⊥
 
--- the lanes of one list are so to those of the other, one by one
-abbrev pub AreEach : (Lane → Lane → Type 0) → List Lane → List Lane → Type 0
-AreEach R [] [] = Unit {0}
-AreEach R (v ∷ lanes) (w ∷ later) = R v w × AreEach R lanes later
-AreEach R lanes later = ⊥
+-- each lane of one list is so to the one at its place in the other
+pub record AreEach (R : ℕ → Lane → Lane → Type 0) (lanes later : List Lane) : Type 0 where
+  pub same : length later ≡ length lanes
+  pub each : (i : ℕ) (d e : Lane) → i < length lanes → R i (get_or lanes i d) (get_or later i e)
 
--- the steps after further rounds
-abbrev pub longer : List (List LaneStep) → List Lane → List (List LaneStep)
-longer [] lanes = []
-longer (column ∷ columns) [] = column ∷ columns
-longer (column ∷ columns) (v ∷ lanes) = (column ++ v.steps) ∷ longer columns lanes
-
--- a lane before and after this many rounds
-pub record IsTaken (n : ℕ) (v w : Lane) : Type 0 where
+-- a lane before and after this many rounds, which completed these steps
+pub record IsMoved (n : ℕ) (v w : Lane) (column : List LaneStep) : Type 0 where
   pub ring : w.ring ≡ drop n v.ring
-  pub count : length w.steps ≡ 8 * n
-  pub stands : (s : Settings) (rounds : ℕ) (fed : Fed) (column : List LaneStep) → LaneStands v s rounds fed column → LaneStands w s (rounds + n) fed (column ++ w.steps)
+  pub long : length column ≡ 8 * n
+  pub stands : (s : Settings) (rounds : ℕ) (fed : Fed) (before : List LaneStep) → LaneStands v s rounds fed before → LaneStands w s (rounds + n) fed (before ++ column)
+
+-- and it keeps these steps
+abbrev pub IsTaken : ℕ → Lane → Lane → Type 0
+IsTaken n v w = IsMoved n v w w.steps
 
 abbrev pub AreTaken : ℕ → List Lane → List Lane → Type 0
-AreTaken n lanes later = AreEach (IsTaken n) lanes later
+AreTaken n lanes later = AreEach (λ i. IsTaken n) lanes later
+
+-- the steps of each lane, and further steps of it
+abbrev pub both : List (List LaneStep) → List (List LaneStep) → List (List LaneStep)
+both [] more = []
+both (column ∷ columns) [] = column ∷ columns
+both (column ∷ columns) (steps ∷ more) = (column ++ steps) ∷ both columns more
 
 -- each keeps the steps of this many bits
 abbrev pub AreWide : ℕ → List Lane → Type 0
-AreWide width [] = Unit {0}
-AreWide width (v ∷ lanes) = (length v.steps ≡ width) × AreWide width lanes
+AreWide width lanes = All (λ v. length v.steps ≡ width) lanes
 
 -- at the bits of the last rounds at which a number has a 0 the lane shows nothing
 abbrev pub Covers : ℕ → Lane → Type 0
 Covers shows v = (k : ℕ) → k < length v.steps → bit_at shows k ≡ 0 → step_at k v ≡ steps.Nothing
 
 abbrev pub AreCovered : ℕ → List Lane → Type 0
-AreCovered shows [] = Unit {0}
-AreCovered shows (v ∷ lanes) = Covers shows v × AreCovered shows lanes
+AreCovered shows lanes = All (Covers shows) lanes
 
 -- a lane to which nothing was fed
 abbrev pub IsFresh : Settings → Lane → Type 0

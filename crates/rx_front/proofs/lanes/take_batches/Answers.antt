@@ -1,11 +1,12 @@
 -- One more lane takes this many bytes.
 use Rattle.std.proofs.Common.{ap, arith}
 use Rattle.lk_base.specs.Link.{Settings}
-use Rattle.rx_front.proofs.Batching.{next_has, took_all, took_none, took_one}
+use Rattle.rx_front.proofs.Batching.{AsColumn, took_all, took_none, took_one}
+use Rattle.rx_front.proofs.Taking.{next_there}
 use Rattle.rx_front.proofs.lanes.take_batches.Goals as goal
 
 pub take_batch-requires-clause-there : goal.take_batch-requires-clause-there
-take_batch-requires-clause-there c = next_has c.args.count c.loop-i.i c.args.lanes.now c.loop-i.lanes c.index-lanes-i.result c.args.deskew.now c.loop-i.deskew c.loop-i-test.true c.loop-i.invariant c.requires.there
+take_batch-requires-clause-there c = next_there (AsColumn c.args.count c.loop-i.invariant.columns) c.args.count c.loop-i.i c.args.lanes.now c.loop-i.lanes c.index-lanes-i.result c.loop-i-test.true c.loop-i.invariant.batches c.requires.there
 
 pub take_batch-requires-clause-lane : goal.take_batch-requires-clause-lane
 take_batch-requires-clause-lane c =

@@ -10,7 +10,7 @@ use Rattle.rx_front.proofs.fed_lane.FedLane.take.Goals as goal
 pub returns-in-Some : goal.returns-in-Some
 returns-in-Some c = record {
   ring = ap (λ (b : Buffer ℕ). b.items) c.pop_front.ensures.items ∙ ap (λ (v : Lane). drop 1 v.ring) c.self.view_is;
-  count = c.byte.ensures.count;
+  long = c.byte.ensures.count;
   stands = λ s rounds fed column st. took _ c.pop_front.new.self.items c.byte.new.self.lock c.byte.new.self.shown c.in-Some.byte s rounds fed column
       (sym c.in-Some.ensures.value) (ap (λ (b : Buffer ℕ). b.items) c.pop_front.ensures.items) c.byte.ensures.count c.byte.ensures.stands
       (subst (λ (v : Lane). LaneStands v s rounds fed column) (sym c.self.view_is) st);
@@ -19,7 +19,7 @@ returns-in-Some c = record {
 pub returns-in-None : goal.returns-in-None
 returns-in-None c = record {
   ring = ap (λ (b : Buffer ℕ). b.items) c.pop_front.ensures.items ∙ ap (λ (v : Lane). drop 1 v.ring) c.self.view_is;
-  count = ap length c.end.ensures.shown;
+  long = ap length c.end.ensures.shown;
   stands = λ s rounds fed column st.
       let v = c.self.inside in
       let ring = c.pop_front.new.self.items in

@@ -1,13 +1,12 @@
 -- The lanes change, and nothing else.
 use Rattle.std.proofs.Common.{◌≡◌, sym, ap, ◌∙◌, subst, ◌+◌, ◌≤◌, true, List, length, take, min, arith}
 use Rattle.rx_front.specs.Calls.{is_open, lanes_fed, room_at}
-use Rattle.rx_front.specs.Lanes.{AreCovered, AreWide}
+use Rattle.rx_front.specs.Lanes.{AreCovered, AreWide, Covers}
 use Rattle.rx_front.specs.States.{Lane, State, with_lanes}
 use Rattle.rx_front.specs.Standing.{Stands}
-use Rattle.rx_front.proofs.Covering.{covered_fed}
 use Rattle.rx_front.proofs.Feeding.{fed_stands}
 use Rattle.rx_front.proofs.Places.{room_left, written}
-use Rattle.rx_front.proofs.Taking.{wide_fed}
+use Rattle.rx_front.proofs.Taking.{kept_fed}
 use Rattle.rx_front.proofs.Seen.{seen}
 use Rattle.rx_front.proofs.front.Front.feed.Goals as goal
 
@@ -37,8 +36,8 @@ invariant_of-self c =
     let later = c.feed_at.new.lanes in
     let whole = written {A = Lane} i.lanes.len later i.lanes.items (c.feed_at.auto.lanes ∙ c.deref_mut.ensures.len) in
     let count : length later ≡ length i.lanes.items = c.feed_at.auto.lanes ∙ ap (λ (vs : List Lane). length vs) c.deref_mut.ensures.value in
-    let wide : AreWide i.width later = subst (AreWide i.width) (sym c.feed_at.ensures.lanes) (wide_fed i.width c.args.lane (take c.feed_at.result c.args.piece.now) c.deref_mut.result.now (subst (AreWide i.width) (sym c.deref_mut.ensures.value) c.self.invariant.5)) in
-    let covered : AreCovered i.shows later = subst (AreCovered i.shows) (sym c.feed_at.ensures.lanes) (covered_fed i.shows c.args.lane (take c.feed_at.result c.args.piece.now) c.deref_mut.result.now (subst (AreCovered i.shows) (sym c.deref_mut.ensures.value) c.self.invariant.6)) in
+    let wide : AreWide i.width later = subst (AreWide i.width) (sym c.feed_at.ensures.lanes) (kept_fed (λ v. length v.steps ≡ i.width) c.args.lane (take c.feed_at.result c.args.piece.now) c.deref_mut.result.now (λ v h. h) (subst (AreWide i.width) (sym c.deref_mut.ensures.value) c.self.invariant.5)) in
+    let covered : AreCovered i.shows later = subst (AreCovered i.shows) (sym c.feed_at.ensures.lanes) (kept_fed (Covers i.shows) c.args.lane (take c.feed_at.result c.args.piece.now) c.deref_mut.result.now (λ v h. h) (subst (AreCovered i.shows) (sym c.deref_mut.ensures.value) c.self.invariant.6)) in
     let most = c.self.invariant.1 in
     let some = c.self.invariant.2 in
     subst (λ (vs : List Lane). (length vs ≡ i.deskew.settings.lanes) × (length vs ≤ 64) × (1 ≤ length vs) × (i.left ≤ i.width) × (i.width ≤ 56) × AreWide i.width vs × AreCovered i.shows vs) (sym whole)

@@ -45,8 +45,8 @@ invariant_of-self c =
     let d = c.take_batches.new.deskew in
     let whole = written {A = Lane} i.lanes.len later i.lanes.items (c.take_batches.auto.lanes ∙ c.deref_mut.ensures.len) in
     let took = subst (λ (vs : List Lane). TookBatch c.args.count vs later i.deskew d) c.deref_mut.ensures.value c.take_batches.ensures in
-    let none = none_wide c.args.count i.lanes.items later took.columns took.batches in
-    let same = none.2 in
+    let none = none_wide c.args.count i.lanes.items later i.deskew d took in
+    let same = took.batches.same in
     let left = subst (λ (v : State). ◌≡◌ {A = ℕ} v.left 0) (sym c.self.view_is) c.requires.left in
     let most = c.self.invariant.1 in
     let some = c.self.invariant.2 in
