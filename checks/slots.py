@@ -216,7 +216,10 @@ def main():
                 tally.count(name, str(refused))
                 continue
             lost, struck = lost + missing, struck + damage
-        check_refused(tally, folder)
+        try:
+            check_refused(tally, folder)
+        except (Refused, OSError) as refused:
+            tally.count("files of two runs", str(refused))
     tally.count("lost packets and damaged bits", "" if lost > 50 and struck > 100 else "too few: %d and %d" % (lost, struck))
     return tally.end()
 
