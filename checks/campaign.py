@@ -177,7 +177,7 @@ def check_refused(tally, folder):
     for words, told in REFUSED:
         done = run([TOOL] + words, folder)
         tally.expect("campaign " + " ".join(words), (done.returncode, done.stdout, "usage: campaign" in done.stderr, told in done.stderr), (2, "", True, True))
-    for words, told in (([1, 2, "one.pcap"], "campaign: one.pcap: File exists"), ([1, 2, "no/program", "--program", "./absent"], "campaign: there is no program ./absent"),
+    for words, told in (([1, 2, "one.pcap"], "campaign: one.pcap is a file, and a folder is wanted"), ([1, 2, "no/program", "--program", "./absent"], "campaign: there is no program ./absent"),
                         ([1, 2, "none", "--plan", "absent.plan", "--dark", 1], "campaign: absent.plan: No such file"),
                         ([1, 6, "runs"], "campaign: runs/1-6.results is of another campaign")):
         status, lines = campaign(folder, *words)

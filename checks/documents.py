@@ -4,8 +4,11 @@ A block between two lines of three backquotes has commands after '$ ', and below
 one. The commands of a page run one after another in one copy of examples/, beside which the program and the tools stand. Where
 no line stands below a command, the page says in words what it prints. A command has to end in time, and with status 0 unless
 the next one is `echo $?`, below which the page has the status. Where a tool of a block is missing the block is not tried.
+
+No page of the repository has a place that is still to be filled, as a measured number: a name between two `@`, in capital letters.
 """
 
+import glob
 import os
 import re
 import shutil
@@ -21,6 +24,7 @@ PROGRAM, TOP = os.path.abspath(sys.argv[1]), os.path.abspath(sys.argv[2])
 PAGES = {"README.md": "", "docs/TOUR.md": "examples", "tools/README.md": "", "examples/testbench/README.md": "examples/testbench"}
 # What the pages call that a machine may lack: the tool and its Debian package, by the command that needs it.
 TOOLS = {"iverilog": ("iverilog", "iverilog"), "vvp": ("vvp", "iverilog"), "verilator": ("verilator", "verilator"), "../tools/campaign": ("parallel", "parallel")}
+UNFILLED = re.compile("@[A-Z_]+@")
 TELLS_STATUS = "echo $?"
 # A command has to end by then.
 SECONDS = 60
@@ -121,8 +125,19 @@ def check_page(tally, page):
                 check_block(tally, shell, page, number, lines)
 
 
+def check_filled(tally):
+    """That no page has a place without its value."""
+    pages = sorted(glob.glob(os.path.join(TOP, "**", "*.md"), recursive=True))
+    for page in pages:
+        with open(page, encoding="utf-8") as file:
+            found = ["%s in line %d" % (place, number) for number, line in enumerate(file, 1) for place in UNFILLED.findall(line)]
+        tally.count(os.path.relpath(page, TOP), "no value stands for " + ", ".join(found) if found else "")
+    tally.count("pages", "" if len(pages) >= len(PAGES) else "there are %d" % len(pages))
+
+
 def main():
     tally = Tally("documents")
+    check_filled(tally)
     for page in PAGES:
         check_page(tally, page)
     return tally.end()

@@ -75,7 +75,10 @@ MISTAKES = [
     ({"m.plan": "lanes,2\nmetaframe,32\nchannel,1,zwei.pcap\nout,m\n"}, "send m.plan", ["m.plan:3: channel 1: zwei.pcap: no such file; two.pcap is there"]),
     ({"m.plan": "lanes,2\nmetaframe,32\nchannel,1, one.pcap\nout,m\n"}, "send m.plan", ["m.plan:3: channel 1: ' one.pcap': no such file; the name begins with a blank or an invisible character; one.pcap is there"]),
     ({"m.plan": "lanes,2\nmetaframe,32\nchannel,one.pcap,1\nout,m\n"}, "send m.plan", ["m.plan:3: channel: 'one.pcap' is no number (1 to 15 decimal digits)"]),
-    ({"m.plan": LINK + "schedule,m.schedule\n", "m.schedule": "skew,0,11\nskew,1,200\nflip,9000,0\n"}, "link m.plan", ["m.schedule:3: flip: lane: 9000 is not in 0 to 1"]),
+    ({"m.plan": LINK + "schedule,m.schedule\n", "m.schedule": "skew,0,11\nskew,1,200\nflip,9000,0\n"}, "link m.plan", ["m.schedule:3: flip: lane: 9000 is not in 0 to 1 (the row is `flip,lane,bit`)"]),
+    ({"m.schedule": "skew,11,0\n"}, "link m.plan", ["m.schedule:1: skew: lane: 11 is not in 0 to 1 (the row is `skew,lane,bits`)"]),
+    ({"m.schedule": "dark,2000,0,30\n"}, "link m.plan", ["m.schedule:1: dark: lane: 2000 is not in 0 to 1 (the row is `dark,lane,first,count`)"]),
+    ({"m.schedule": "flip,0,1000000000000\n"}, "link m.plan", ["m.schedule:1: flip: bit: 1000000000000 is not in 0 to 999999999999"]),
     ({"m.schedule": "skew,0,11\n\nskew, 1,200\n"}, "link m.plan", ["m.schedule:3: skew: lane: ' 1' is no number (1 to 15 decimal digits; it has a blank before or after it) (row 2: empty lines are not counted)"]),
     ({"m.plan": "lanes,0x2\nmetaframe,32\nchannel,1\nout,m\n"}, "send m.plan", ["m.plan:1: lanes: '0x2' is no number (1 to 15 decimal digits; it is not hexadecimal)"]),
     ({"m.plan": "lanes,65\nmetaframe,32\nchannel,1\nout,m\n"}, "send m.plan", ["m.plan:1: lanes: 65 is not in 1 to 64"]),
@@ -107,12 +110,20 @@ MISTAKES = [
         "m.schedule:2: warning: skew: lanes 0 and 1 lie 689 bits apart, more than deskew,7 aligns, 469 bits (7 words of 67): the lanes will not align",
         "m.schedule:5: warning: flip: bit 9000 of lane 0 is named 2 times, first in line 3, and stays as it was",
         "m.schedule:4: warning: flip: bit 90000 is after the end of lane 1, which has bits 0 to 23583: it strikes nothing",
-        "m: warning: all lanes are locked, and do not align: their Sync words lie 689 bits apart, and deskew,7 aligns 469"]),
+        "m: warning: all lanes are locked, and do not align: the nearest Sync words of all lanes lie 689 bits apart, and deskew,7 aligns 469"]),
     ({"m.flow": "0,81BFFF00004B8D9D\n", "m.schedule": "skew,0,11\ndark,1,21000,1000\nflip,1,21001\n"}, "link m.plan", [
         "m.schedule:3: warning: flip: bit 21001 of lane 1 is dark, and stays 0",
         "m.schedule:2: warning: dark: bits 21000 to 21999 go beyond the end of lane 1, which has bits 0 to 21439: it strikes 440 bits of 1000",
+        "m.schedule:2: warning: dark: bits 21000 to 21439 of lane 1 are in slots 549 to 559: it strikes no packet",
         "m.flow:1: warning: channel 2 is turned off here and not turned on again: 2 of its packets are left"]),
     ({}, "link damaged.plan", []),
+    ({"v.plan": LINK.replace("out,m", "out,v") + "warmup,4\nschedule,v.schedule\n", "v.schedule": "skew,0,11\nskew,1,200\nflip,0,9000\nflip,0,12890\nflip,0,13420\ndark,1,14800,100\n"}, "link v.plan", [
+        "v.schedule:5: warning: flip: bit 13420 of lane 0 is in slot 346: it strikes no packet",
+        "v.schedule:6: warning: dark: bits 14800 to 14899 of lane 1 are in slots 387 to 391: it strikes no packet"]),
+    ({"v.schedule": "skew,0,11\nflip,0,12890\ndark,1,12865,2\nflip,1,13420\n"}, "link v.plan", [
+        "v.schedule:2: warning: flip: bit 12890 of lane 0 is in a framing word: it strikes no packet",
+        "v.schedule:3: warning: dark: bits 12865 to 12866 of lane 1 are in framing words: it strikes no packet",
+        "v.schedule:4: warning: flip: bit 13420 of lane 1 is in slot 347: it strikes no packet"]),
     ({}, "receive damaged.plan", []),
     ({"x.lane.0": "damaged.lane.1", "x.lane.1": "damaged.lane.0", "x.plan": LINK.replace("out,m", "out,x")}, "receive x.plan", [
         "x.lane.0: warning: it begins with the scrambler state of lane 1: are the files of lanes exchanged?",

@@ -13,6 +13,7 @@ PROGRAM, TOP = os.path.abspath(sys.argv[1]), os.path.abspath(sys.argv[2])
 sys.path.insert(0, os.path.join(TOP, "tools"))
 
 from drawing.svg import length_of
+from runs import content, write_files
 from tally import Tally
 
 TOOL = os.path.join(TOP, "tools", "picture")
@@ -49,15 +50,37 @@ STALE_FILES = {"first.plan": "lanes,2\nmetaframe,32\nwarmup,4\nchannel,1,one.pca
 STALE = [
     ("first.plan", {}, [], ""),
     ("first.plan", {}, ["--text", "printed"], ""),
-    ("first.plan", {"stale.words": "longer.plan"}, ["--text", "printed"], "stale.words: 504 slots, and the run printed 392: it is the stream of another run"),
+    ("first.plan", {"stale.words": "longer.plan"}, ["--text", "printed"], "stale.words: 504 slots, and the run printed 392: these files are not of one run: `interlaken link stale.plan` and then `interlaken burst stale.plan` make them anew"),
     ("first.plan", {"stale.words": "longer.plan"}, [], "stale.words: "),
-    ("first.plan", {"stale.words": "turned.plan"}, [], "stale.words: no span meets 1 packets of channel 1, and stale.1.pcap has others: it is the stream of another run"),
+    ("first.plan", {"stale.words": "turned.plan"}, [], "stale.words: no span meets 1 packets of channel 1, and stale.1.pcap has others: these files are not of one run: `interlaken link stale.plan` and then `interlaken burst stale.plan` make them anew"),
     ("first.plan", {"stale.words": "turned.plan"}, ["--text", "printed"], "stale.words: no span meets 1 packets of channel 1, and stale.1.pcap has others"),
     ("longer.plan", {"stale.words": "first.plan"}, ["--only", "stream"], "stale.spans.csv: row 4: slot "),
     ("longer.plan", {"stale.spans.csv": "first.plan"}, [], "stale.words: "),
     ("longer.plan", {"printed": "first.plan"}, ["--text", "printed"], "stale.words: 504 slots, and the run printed 392"),
-    ("first.plan", {"stale.words": "apart.plan"}, [], "stale.words: slot 300 is a control word, and in stale.lane.0 it is none: it is the stream of another run"),
+    ("first.plan", {"stale.words": "apart.plan"}, [], "stale.words: slot 300 is a control word, and in stale.lane.0 it is none: these files are not of one run: `interlaken link stale.plan` and then `interlaken burst stale.plan` make them anew"),
     ("first.plan", {"stale.lane.0": "longer.plan"}, [], "stale.words: its 392 slots fill 15008 bits of a lane, and stale.lane.0 has "),
+]
+
+# The schedule of a run, the one that is there when its lanes are drawn, the command of the run, the options, and what the tool says.
+SKEWED, MADE_ANEW = "skew,0,11\nskew,1,200\n", "the schedule was changed after the run; `interlaken link changed.plan` makes the lanes anew"
+NOT_SHOWN = "changed.schedule:3: bit 14000 of lane 0 came as it would without this row: " + MADE_ANEW
+# Bits of the code from 8978 on whose inversion no CRC32 shows: both of its header, and all others.
+HEADER, OTHERS = ("".join("flip,0,%d\n" % (8978 + bit) for bit in bits) for bits in ((1, 2), (0, *range(3, 67))))
+CHANGED = [
+    (SKEWED + "flip,0,9000\n", SKEWED + "flip,0,14000\n", "link", [], NOT_SHOWN),
+    (SKEWED + "flip,0,9000\n", SKEWED + "flip,0,14000\n", "link", ["--only", "stream"], NOT_SHOWN),
+    (SKEWED + "flip,0,9000\n", SKEWED + "flip,0,14000\n", "link", ["--program", PROGRAM], ""),
+    (SKEWED + "flip,0,9000\n", SKEWED + "flip,0,9000\nflip,1,9100\nflip,0,14000\n", "link", [], "changed.schedule:4: bit 9100 of lane 1 came as it would without this row: " + MADE_ANEW),
+    (SKEWED + "flip,0,9000\n", SKEWED + "flip,0,9000\ndark,1,9000,100\n", "link", [], "changed.schedule:4: bit 9002 of lane 1 came as it would without this row: " + MADE_ANEW),
+    (SKEWED + "flip,0,9000\n", SKEWED + "flip,0,9000\nflip,0,14000\nflip,0,14000\nflip,0,90000\n", "link", [], ""),
+    (SKEWED + HEADER, SKEWED + HEADER, "link", [], ""), (SKEWED + OTHERS, SKEWED + OTHERS, "link", [], ""),
+    (SKEWED + "dark,0,9000,9000\nflip,0,9100\n", SKEWED + "dark,0,9000,9000\nflip,0,9100\n", "link", [], ""),
+    ("flip,0,9000\n", "flip,0,14000\n", "link", [], "changed.schedule:1: bit 14000 of lane 0 came as it would without this row: " + MADE_ANEW),
+    ("flip,0,9000\n", "skew,0,11\nflip,0,9000\n", "link", [], "changed.schedule:1: lane 0 came as it would without this row, and the lanes are damaged as by line 2: " + MADE_ANEW),
+    ("skew,1,200\n", SKEWED, "link", [], "changed.schedule:1: lane 0 came as it would without this row, and lane 1 not without its own: " + MADE_ANEW),
+    (SKEWED, "skew,0,10\nskew,1,200\n", "link", [], "changed.lane.0: a Sync word at bit 11, and none begins there after a skew of 10 bits: these files are not of one run: "),
+    (SKEWED, "skew,0,11\n", "link", [], "changed.lane.1: a Sync word at bit 200, and none begins there after a skew of 0 bits: these files are not of one run: "),
+    (SKEWED + "flip,0,9000\n", SKEWED + "flip,0,9000\n", "send", ["--only", "lanes"], ""), ("flip,0,9000\n", "flip,0,9000\n", "send", ["--only", "lanes"], ""),
 ]
 
 
@@ -113,6 +136,10 @@ def check_examples(results, folder):
     for name, wanted in EXAMPLES.items():
         draw(results, folder, [name + ".plan", "--program", PROGRAM])
         results.expect(name, counts_of(folder, name), wanted)
+    lanes = xml.parse(os.path.join(folder, "damaged.lanes.svg")).getroot()
+    groups = [(element.text, element.findtext(SVG + "title")) for element in lanes.iter(SVG + "text") if element.text.startswith("group 3")]
+    results.expect("damaged, the bit of a group", groups, [("group 3", "bit 6443")])
+    results.expect("damaged, the legend of groups", [element.text for element in lanes.iter(SVG + "text") if "by which the span table names it" in element.text] != [], True)
     stream = xml.parse(os.path.join(folder, "damaged.stream.svg")).getroot()
     texts = [element.text for element in stream.iter(SVG + "text")]
     for text in ("slot 230 is damaged: lane 0, bit 9011", "span 1 of slots 224 to 290: crc"):
@@ -199,11 +226,39 @@ def check_stale(results, folder):
         results.expect("%s with %s" % (plan, from_other), found, wanted)
 
 
+def check_changed(results, folder):
+    """A schedule that was changed after the run is refused, where it would have damaged what came undamaged, or moved what did not."""
+    plan = STALE_FILES["first.plan"].replace("damaged.schedule", "changed.schedule").replace("stale", "changed")
+    for before, after, command, words, told in CHANGED:
+        write_files(folder, {"changed.plan": plan.encode(), "changed.schedule": before.encode()})
+        statuses = [run([PROGRAM, name, "changed.plan"], folder).returncode for name in ("burst", command)]
+        write_files(folder, {"changed.schedule": after.encode()})
+        done = run([TOOL, "changed.plan"] + words, folder)
+        wanted = (1, "picture: " + told, 1) if told else (0, "", 0)
+        found = (done.returncode, done.stderr[:len("picture: " + told)] if told else done.stderr, done.stderr.count("\n"))
+        results.expect("%r, %s, %r, %s" % (before[:60], command, after[:60], words), (statuses, found), ([0, 0], wanted))
+        if command == "send":
+            results.expect("lanes as sent", b"the lanes are as sent, without" in content(os.path.join(folder, "changed.lanes.svg")), True)
+
+
+def check_joined(results, folder):
+    """Spans and captures that `join` left beside damaged lanes: what the text of the lanes says is refused, and no damage is drawn."""
+    write_files(folder, {"printed": run([PROGRAM, "link", "damaged.plan"], folder).stdout.encode()})
+    run([PROGRAM, "burst", "damaged.plan"], folder)
+    run([PROGRAM, "join", "damaged.plan"], folder)
+    told = "picture: damaged.spans.csv: 2 spans, and the run printed 3: these files are not of one run: "
+    done = run([TOOL, "damaged.plan", "--text", "printed"], folder)
+    results.expect("a table of join", (done.returncode, done.stderr[:len(told)]), (1, told))
+    draw(results, folder, ["damaged.plan", "--to", "joined"])
+    texts = [element.text for element in xml.parse(os.path.join(folder, "joined.stream.svg")).getroot().iter(SVG + "text")]
+    results.expect("damage of joined words", [text for text in texts if "damaged" in text], [])
+
+
 def main():
     results = Tally("pictures")
     with tempfile.TemporaryDirectory() as folder:
         shutil.copytree(os.path.join(TOP, "examples"), folder, dirs_exist_ok=True)
-        steps = [check_examples, check_spoiled, check_stale] + [partial(check_case, number=number) for number in CASES] + [check_wide_link, check_pictures, check_tour]
+        steps = [check_examples, check_spoiled, check_stale, check_changed, check_joined] + [partial(check_case, number=number) for number in CASES] + [check_wide_link, check_pictures, check_tour]
         for step in steps:
             try:
                 step(results, folder)

@@ -15,8 +15,10 @@ import shutil
 import subprocess
 import sys
 import tempfile
+from collections import Counter
 
 from captures import capture
+from runs import content, write_files
 from tally import Tally
 
 PROGRAM, TOP = os.path.abspath(sys.argv[1]), os.path.abspath(sys.argv[2])
@@ -29,6 +31,33 @@ from reading.plans import CODE, Plan, Schedule
 TOOL = os.path.join(TOP, "tools", "slots")
 EXAMPLES, LINKS = ("damaged", "two", "wide", "again", "status"), 40
 CONTROL, CONTROL_TAG = "10", 2
+PLACES = ["%s_%s" % (end, column) for end in ("first", "last") for column in ("slot", "lane", "metaframe", "bit")]
+
+ANEW = "these files are not of one run: `interlaken link damaged.plan` and then `interlaken burst damaged.plan` make them anew"
+CHANGED = "the schedule was changed after the run; `interlaken link damaged.plan` makes the lanes anew"
+MISSING = ["--missing", "--text", "printed"]
+# After a run of examples/damaged.plan: the file that is changed, what in it (None: the file goes), the words, and what the tool says.
+REFUSED = [
+    ("damaged.schedule", (b"flip,0,9000", b"flip,0,14000"), ["--damage"], "damaged.schedule:3: bit 14000 of lane 0 came as it would without this row: " + CHANGED),
+    ("damaged.schedule", (b"flip,0,9000", b"flip,0,14000"), MISSING, "damaged.schedule:3: bit 14000 of lane 0 came as it would without this row: " + CHANGED),
+    ("damaged.schedule", (b"skew,0,11", b"skew,0,12"), [], "damaged.spans.csv: group 6443 begins at no bit at which the plan has a Sync word sent on lane 0, and no other does: " + ANEW),
+    ("damaged.schedule", (b"skew,1,200", b"skew,1,201"), [], "damaged.lane.1: 1901 bytes, and 7 metaframes of the plan after a skew of 201 bits fill 1902: " + ANEW),
+    ("damaged.schedule", (b"skew,1,200", b"skew,1,199"), [], "damaged.lane.1: a Sync word at bit 200, and none begins there after a skew of 199 bits: " + ANEW),
+    ("damaged.plan", (b"metaframe,32", b"metaframe,64"), [], "damaged.lane.0: 1878 bytes, and 3 metaframes of the plan after a skew of 11 bits fill 1610: " + ANEW),
+    ("damaged.plan", (b"metaframe,32", b"metaframe,64"), MISSING, "damaged.plan: 392 slots were printed, and a metaframe of the plan has 120: " + ANEW),
+    ("damaged.plan", (b"metaframe,32", b"metaframe,32\nskips,2"), [], "damaged.spans.csv: word 55 of group 12875, and the groups of the plan have 54: " + ANEW),
+    ("damaged.plan", (b"lanes,2", b"lanes,3"), [], "damaged.lane.2 is missing: `interlaken link damaged.plan` makes it"),
+    ("damaged.plan", (b"lanes,2", b"lanes,3"), MISSING, "damaged.plan: 3 lanes, and the run printed 2: " + ANEW),
+    ("damaged.lane.1", None, [], "damaged.lane.1 is missing: `interlaken link damaged.plan` makes it"),
+    ("damaged.words", None, ["--packets"], "damaged.words is missing: `interlaken burst damaged.plan` makes it"),
+    ("printed", (b"spans 3", b"spans 4"), MISSING, "damaged.spans.csv: 3 spans, and the run printed 4: " + ANEW),
+    ("printed", (b"slots 392", b"slots 448"), MISSING, "damaged.lane.0: 1878 bytes, and 8 metaframes of the plan after a skew of 11 bits fill 2146: " + ANEW),
+    ("printed", (b"slots", b"SLOTS"), MISSING, "printed has no lines that `link` prints"),
+    ("damaged.plan", None, ["--missing"], "damaged.plan: No such file or directory"),
+    ("printed", None, ["--missing"], "the packets that did not come are those that `link` printed: --text FILE names its text, --program PROGRAM runs it"),
+]
+# Files in place of a plan, and what each is.
+OTHERS = {"damaged.words": "a words file", "one.pcap": "a capture", "damaged.schedule": "a schedule", "two_ends.duplex": "a settings file of two ends"}
 
 
 def random_link(chance, name):
@@ -61,7 +90,7 @@ class Link:
         self.came = self.lanes()
         with open(folder.path("printed"), "w", encoding="utf-8") as file:
             file.write(self.text)
-        self.spans, self.missing, self.damage = (self.table(words) for words in ([], ["--missing", "--text", "printed"], ["--damage"]))
+        self.spans, self.missing, self.damage, self.packets = (self.table(words) for words in ([], ["--missing", "--text", "printed"], ["--damage"], ["--packets"]))
 
     def lanes(self):
         return [bits_of(self.folder.content("%s.lane.%d" % (self.plan.out, lane))) for lane in range(self.plan.lanes)]
@@ -110,6 +139,20 @@ class Link:
             self.expect("the first span of a lost packet", met[:1], [row["span"]])
             codes = [self.sent_code(row[end + "_lane"], row[end + "_bit"])[1:3] for end in ("first", "last")]
             self.expect("the words of a lost packet", codes, [CONTROL, CONTROL])
+            lines = [str(strike["line"]) for strike in self.damage if strike["first_slot"] != "" and self.meets(self.spans[row["span"]], strike["first_slot"], strike["last_slot"])]
+            self.expect("the lines that strike the span of a lost packet", str(row["damage_lines"]), " ".join(lines))
+
+    def check_packets(self):
+        """Packets begin and end with control words, are as many as were sent, and are those of the lines `missing`."""
+        sent = {int(channel): int(count) for channel, count in re.findall(r"^sent channel=(\d+) packets=(\d+)", self.text, re.MULTILINE)}
+        self.expect("sent packets", Counter(row["channel"] for row in self.packets if row["last_slot"] != ""), Counter({channel: count for channel, count in sent.items() if count}))
+        places = {(row["channel"], row["packet"]): row for row in self.packets}
+        for row in self.missing:
+            found = places.get((row["channel"], row["packet"]), {})
+            self.expect("a lost packet", [found.get(column) for column in PLACES], [row[column] for column in PLACES])
+        for row in self.packets:
+            lane, bit = row["first_lane"], row["sent_bit"]
+            self.expect("the SOP word of a packet", (self.sent[lane][bit + 1:bit + 3], row["first_bit"] - bit), (CONTROL, self.schedule.skew[lane]))
 
     def check_damage(self):
         for row in self.damage:
@@ -129,7 +172,32 @@ class Link:
         self.check_spans()
         self.check_missing()
         self.check_damage()
+        self.check_packets()
         return len(self.missing), len(self.damage)
+
+
+def check_refused(tally, folder):
+    """Files that are not of one run, and files in place of a plan."""
+    def told(name, words):
+        done = subprocess.run([TOOL, name] + words, cwd=folder.folder, capture_output=True, encoding="utf-8")
+        return done.returncode, done.stdout, done.stderr
+    folder.run("burst", "damaged.plan")
+    write_files(folder.folder, {"printed": folder.run("link", "damaged.plan").encode()})
+    for name, change, words, wanted in REFUSED:
+        data = content(folder.path(name))
+        os.remove(folder.path(name))
+        if change:
+            tally.expect("%s has %s" % (name, change[0]), data.count(change[0]), 1)
+            write_files(folder.folder, {name: data.replace(*change)})
+        tally.expect("%s changed by %s, %s" % (name, change, words), told("damaged.plan", words), (1, "", "slots: %s\n" % wanted))
+        write_files(folder.folder, {name: data})
+    for name, kind in OTHERS.items():
+        tally.expect("%s in place of a plan" % name, told(name, []), (1, "", "slots: %s is %s, and a plan is wanted here\n" % (name, kind)))
+    folder.run("join", "damaged.plan")
+    joined = "slots: damaged.spans.csv: its spans are of a words file, as `join` writes them, and the text is of lanes: %s\n" % ANEW
+    write_files(folder.folder, {"printed": content(folder.path("printed")).replace(b"spans 3", b"spans 2")})
+    tally.expect("a table of join and a text of link", told("damaged.plan", MISSING), (1, "", joined))
+    tally.expect("a table of join", told("damaged.plan", [])[::2], (0, ""))
 
 
 def main():
@@ -148,6 +216,10 @@ def main():
                 tally.count(name, str(refused))
                 continue
             lost, struck = lost + missing, struck + damage
+        try:
+            check_refused(tally, folder)
+        except (Refused, OSError) as refused:
+            tally.count("files of two runs", str(refused))
     tally.count("lost packets and damaged bits", "" if lost > 50 and struck > 100 else "too few: %d and %d" % (lost, struck))
     return tally.end()
 

@@ -258,16 +258,24 @@ def write_plan(folder, shape, schedule):
             file.write("\n".join(lines) + "\n")
 
 
+NOT_OF_ONE_RUN = "these files are not of one run: `interlaken link damaged.plan` and then `interlaken burst damaged.plan` make them anew\n"
+
+
 def check_refused(tally, folder):
     """Calls and files that the tool does not take."""
     printed(tally, folder, "link", "damaged")
+    expect_refused(tally, folder, "a words file as the plan", ["damaged.words"], 1, "damaged.words is a words file, and a plan is wanted here")
+    schedule = content(os.path.join(folder, "damaged.schedule"))
+    write_files(folder, {"damaged.schedule": schedule.replace(b"skew,0,11", b"skew,0,12")})
+    expect_refused(tally, folder, "another skew", ["damaged.plan"], 1, "damaged.lane.0: a Sync word at bit 11, and none begins there after a skew of 12 bits: " + NOT_OF_ONE_RUN)
+    write_files(folder, {"damaged.schedule": schedule})
     words = os.path.join(folder, "damaged.words")
     data = bytearray(content(words))
     data[9 * 301 - 1] ^= 1
     write_files(folder, {"damaged.words": bytes(data)})
-    expect_refused(tally, folder, "words with another word", ["damaged.plan"], 1, "damaged.words: slot 300 is another word than lane 0 has")
+    expect_refused(tally, folder, "words with another word", ["damaged.plan"], 1, "damaged.words: slot 300 is another word than lane 0 has, whose Diagnostic word after it is right: " + NOT_OF_ONE_RUN)
     shutil.copy(os.path.join(folder, "two.words"), words)
-    expect_refused(tally, folder, "words of another plan", ["damaged.plan"], 1, "damaged.words: its 252 slots fill 8576 bits of a lane, and damaged.lane.0 has 1878 bytes")
+    expect_refused(tally, folder, "words of another plan", ["damaged.plan"], 1, "damaged.words: its 252 slots fill 8576 bits of a lane, and damaged.lane.0 has 1878 bytes: " + NOT_OF_ONE_RUN)
     os.remove(os.path.join(folder, "damaged.lane.1"))
     expect_refused(tally, folder, "a lane that is missing", ["damaged.plan"], 1, "damaged.lane.1 is missing: `interlaken link damaged.plan` makes it")
     expect_refused(tally, folder, "no plan", ["absent.plan"], 1, "absent.plan: No such file")

@@ -19,6 +19,8 @@ class Records:
             self.file = open(self.path, "a+", encoding="utf-8")
             self.file.seek(0)
             text = self.file.read()
+        except FileExistsError:
+            raise Refused("%s is a file, and a folder is wanted" % folder)
         except OSError as error:
             raise Refused("%s: %s" % (error.filename or folder, error.strerror))
         lines = text.splitlines()

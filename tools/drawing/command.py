@@ -5,14 +5,15 @@ import os
 import sys
 import tempfile
 
-from reading.agreement import must_be_in_lanes, must_be_of_run, must_fill_lanes
+from reading.agreement import must_be_damaged, must_be_in_lanes, must_be_of_run, must_fill_lanes
 from drawing.lanes import draw_lanes
 from drawing.queues import draw_queues
 from drawing.stream import draw_stream
 from reading.files import Folder, Refused
 from reading.lane_bits import read_lanes
+from reading.kinds import read_plan
 from reading.plans import Plan, Schedule, Settings, are_settings
-from reading.words import Stream, read_spans
+from reading.words import Stream, are_joined, read_spans
 
 
 def options_of(words):
@@ -113,29 +114,48 @@ def damage_by_schedule(plan, schedule):
     return damaged
 
 
+def lanes_of(work, plan, schedule):
+    """The lanes, and whether they are as they were sent. Where nothing tells which bits were sent, they have to be as the schedule
+    makes them."""
+    with tempfile.TemporaryDirectory() as temporary:
+        sent = sent_prefix(work, plan, temporary)
+        lanes, as_sent = read_lanes(work.folder, plan, schedule, sent, work.text)
+    if sent is None and not as_sent:
+        must_be_damaged(plan, schedule, lanes)
+    return lanes, as_sent
+
+
 def draw_plan(work):
     folder = work.folder
-    plan = Plan(folder, work.options.plan)
+    plan = read_plan(folder, work.options.plan)
     schedule = Schedule(folder, plan)
     need_plan_files(work, plan)
     damaged, skew = damage_by_schedule(plan, schedule), schedule.skew[0]
     if work.wants("lanes"):
-        with tempfile.TemporaryDirectory() as temporary:
-            lanes, as_sent = read_lanes(folder, plan, schedule, sent_prefix(work, plan, temporary), work.text)
+        lanes, as_sent = lanes_of(work, plan, schedule)
         damaged = damage_of({lane.number: lane.damaged_slots(plan) for lane in lanes})
         skew = lanes[0].front
         work.save(lambda path: draw_lanes(lanes, plan, as_sent, path), plan.out, "lanes")
+    elif all(folder.has("%s.lane.%d" % (plan.out, lane)) for lane in range(plan.lanes)):
+        lanes_of(work, plan, schedule)
     if work.wants("stream"):
-        stream = Stream(folder, plan.out + ".words", plan)
-        spans = read_spans(folder, plan.out + ".spans.csv", plan, skew, stream.count)
-        came = {channel: folder.packets("%s.%d.pcap" % (plan.out, channel)) for channel in plan.channels}
-        must_be_of_run(stream, plan.out + ".words", plan, spans, came, work.text)
-        if work.wants("lanes"):
-            sizes = [folder.size("%s.lane.%d" % (plan.out, lane)) for lane in range(plan.lanes)]
-            must_fill_lanes(stream, plan.out + ".words", plan, sizes, schedule.skew)
-            must_be_in_lanes(stream, plan.out + ".words", plan, lanes, spans)
-        damaged = {slot: places for slot, places in damaged.items() if slot < stream.count}
-        work.save(lambda path: draw_stream(stream, plan, spans, damaged, came, path), plan.out, "stream")
+        draw_plan_stream(work, plan, schedule, lanes if work.wants("lanes") else None, damaged, skew)
+
+
+def draw_plan_stream(work, plan, schedule, lanes, damaged, skew):
+    """The picture of the stream, whose words have to be those of the lanes, where these are drawn too, and of what came."""
+    folder, name = work.folder, plan.out + ".words"
+    stream = Stream(folder, name, plan)
+    spans = read_spans(folder, plan.out + ".spans.csv", plan, skew, stream.count)
+    came = {channel: folder.packets("%s.%d.pcap" % (plan.out, channel)) for channel in plan.channels}
+    must_be_of_run(stream, name, plan, spans, came, work.text)
+    if lanes:
+        sizes = [folder.size("%s.lane.%d" % (plan.out, lane)) for lane in range(plan.lanes)]
+        must_fill_lanes(stream.count, name, plan, sizes, schedule.skew)
+        must_be_in_lanes(stream, name, plan, lanes, spans)
+    # What came of a words file came of no lanes.
+    damaged = {slot: places for slot, places in damaged.items() if slot < stream.count and not are_joined(spans)}
+    work.save(lambda path: draw_stream(stream, plan, spans, damaged, came, path), plan.out, "stream")
 
 
 def main(words):

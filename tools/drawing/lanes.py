@@ -209,13 +209,13 @@ class Drawing:
                 foot, head = self.tops[above] + upper.lane_height(), self.tops[below]
                 if self.row.shows(group[below]):
                     self.picture.line(self.row.x(group[above]) + 2, foot, self.row.x(group[below]) + 2, head, COLOURS["sync"], "3 3")
-        named = [group[0] for group in self.groups] or self.lanes[0].syncs
-        for at in (at for at in named if self.row.shows(at)):
+        named = [at for at in [group[0] for group in self.groups] or self.lanes[0].syncs if self.row.shows(at)]
+        for at in named:
             place, rest = divmod(at - self.lanes[0].front, self.plan.period)
             labels.place(self.row.x(at), ("group %d" % place if rest == 0 else "at %d" % at) if self.groups else "at bit %d" % at)
-        for x, line, text, colour, anchor in labels.texts:
+        for at, (x, line, text, colour, anchor) in zip(named, labels.texts):
             if line == 0:
-                self.picture.text(x, self.tops[0] - 6, text, colour, anchor)
+                self.picture.text(x, self.tops[0] - 6, text, colour, anchor, title="bit %d" % at)
 
     def draw_folds(self):
         for piece in self.row.pieces:
@@ -228,6 +228,8 @@ class Drawing:
         parts = ["grey: the ones of the skew", "dark: Sync words"]
         if self.groups and len(self.lanes) > 1:
             parts.append("dashed: the Sync words of one group")
+        if self.groups:
+            parts.append("group n begins at the bit in its title, by which the span table names it")
         if any(piece.folded for piece in self.row.pieces):
             parts.append("\u00d7n: n metaframes are left out, in which no lock or damage begins or ends")
         if any(lane.missing_syncs(self.plan.period) for lane in self.lanes):
@@ -237,7 +239,8 @@ class Drawing:
         if not self.groups:
             parts.append("no groups: no Sync words of all lanes are within %d bits, the deskew depth" % (CODE * self.plan.deskew))
         if self.as_sent:
-            parts.append("the lanes are as sent, without the skews and the damage of the schedule")
+            are = "without" if any(lane.other for lane in self.lanes) else "as sent, without"
+            parts.append("the lanes are %s the skews and the damage of the schedule" % are)
         return "; ".join(parts)
 
 

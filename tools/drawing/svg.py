@@ -55,8 +55,9 @@ class Picture:
         self.line(x, y, to_x, to_y, colour)
         self.lines.append('<polygon points="%s" fill="%s"/>' % (" ".join("%.1f,%.1f" % corner for corner in corners), colour))
 
-    def text(self, x, y, text, colour="#17202a", anchor="start", more=""):
-        self.lines.append('<text x="%.1f" y="%.1f" fill="%s" text-anchor="%s"%s>%s</text>' % (x, y, colour, anchor, more, plain(text)))
+    def text(self, x, y, text, colour="#17202a", anchor="start", more="", title=""):
+        titled = plain(text) + ("<title>%s</title>" % plain(title) if title else "")
+        self.lines.append('<text x="%.1f" y="%.1f" fill="%s" text-anchor="%s"%s>%s</text>' % (x, y, colour, anchor, more, titled))
 
     def clear_text(self, x, y, text, colour, anchor):
         """A text with a white edge, which is read over lines."""

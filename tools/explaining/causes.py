@@ -5,12 +5,12 @@ import os
 import re
 import shlex
 
-from reading.files import MAGICS, NG_MAGIC, Refused, rows_of, shown_name
+from reading import kinds
+from reading.files import Refused, shown_name
+from reading.kinds import CAPTURE, WORDS
 from reading.plans import EVENTS_KIND, PLAN_KIND, SCHEDULE_KIND, SETTINGS_KIND
-from reading.rows import KeyMissing, Kind, RowRefused
+from reading.rows import KeyMissing, RowRefused
 
-CAPTURE, WORDS, LISTING = "a capture", "a words file", "a listing"
-SEEN = 1 << 16  # bytes of a file by which its kind is told
 PACKED = {b"\x1f\x8b": "gunzip", b"\x28\xb5": "unzstd", b"\xfd7": "unxz", b"BZ": "bunzip2"}
 # What the program's words for a cause mean, where the inputs do not show it any more.
 MEANINGS = {"text": "a field is not UTF-8", "key": "an unknown key", "fields": "another number of fields",
@@ -18,23 +18,6 @@ MEANINGS = {"text": "a field is not UTF-8", "key": "an unknown key", "fields": "
             "repeat": "a second row of what stands once", "clash": "the row contradicts another"}
 LINES = {"words": "`data X`, `bad X`, `control X` (X: 16 digits of 0 to 9 and A to F), `idle sop=..` or `burst sop=..`",
          "lane": "`sync I`, `state I S`, `code I HH X` or, last, `rest BITS`"}
-
-
-def kind_of(data, size):
-    """What a file is by its first bytes and its size, or None."""
-    if data[:4] in MAGICS or data[:4] == NG_MAGIC:
-        return CAPTURE
-    if data[:6] == b"words\n" or data[:5] == b"lane\n":
-        return LISTING
-    if data and size % 9 == 0 and not data[::9].translate(None, b"\1\2\3"):
-        return WORDS
-    for row in rows_of(data):
-        of_key = [kind.name for kind in Kind.known if row.fields[0] in kind.keys]
-        if len(of_key) == 1:
-            return of_key[0]
-        if not of_key:
-            return None
-    return None
 
 
 def wanted_kind(inputs, refused):
@@ -53,8 +36,8 @@ def lines_of(folder, inputs):
     refused = inputs.refused
     if refused.told == "no file":
         return [absent(folder, inputs, refused)]
-    data = folder.beginning(refused.name, SEEN)
-    found, wanted = kind_of(data, folder.size(refused.name)), wanted_kind(inputs, refused)
+    data = folder.beginning(refused.name, kinds.SEEN)
+    found, wanted = kinds.kind_of(data, folder.size(refused.name)), wanted_kind(inputs, refused)
     lines = []
     if found and wanted and found != wanted:
         lines.append(other_kind(inputs, refused, found, wanted))
@@ -80,7 +63,7 @@ def where_named(refused):
 
 
 def other_kind(inputs, refused, found, wanted):
-    told = "%s%s is %s, and %s is wanted here" % (where_named(refused), shown_name(refused.name), found, wanted)
+    told = where_named(refused) + kinds.other_kind(refused.name, found, wanted)
     if refused.named_by is None and not refused.is_plan and found == PLAN_KIND.name:
         return told + ": `%s` takes FILE as a plan only where its name ends in .plan" % inputs.command
     if refused.is_plan and found == SETTINGS_KIND.name:

@@ -6,6 +6,8 @@ from collections import Counter
 from reading.files import shown_name
 from reading.lane_bits import FIRST_STATE, bits_of, first_state
 from reading.plans import CODE, MOST_SKEW
+from reading.strikes import spans_struck, strikes_of
+from reading.words import meets, missing_of, read_spans, slots_of
 
 # Rows of one kind that have lines of their own; the others are counted.
 SHOWN = 5
@@ -75,11 +77,9 @@ def dark_flips(schedule):
 
 def after(inputs, text):
     """What needs the number of slots, or is said by the text of the run."""
-    found = re.search(r"^slots (\d+)$", text, re.MULTILINE)
-    lines = []
-    if found and inputs.plan and not inputs.settings:
-        slots = int(found.group(1))
-        lines += beyond_lanes(inputs.plan, inputs.schedule, slots) if inputs.schedule else []
+    slots, lines = slots_of(text), []
+    if slots is not None and inputs.plan and not inputs.settings:
+        lines += beyond_lanes(inputs.plan, inputs.schedule, slots) + vain_strikes(inputs, slots, text) if inputs.schedule else []
         lines += beyond_stream(inputs.flow, slots) + beyond_stream(inputs.local, slots)
     lines += held(inputs, text) + locks(inputs, text) + accidents(text)
     return lines + (exchanged(inputs) if inputs.command == "receive" and inputs.plan else [])
@@ -97,6 +97,32 @@ def beyond_lanes(plan, schedule, slots):
         struck = "it strikes nothing" if first >= bits else "it strikes %d bits of %d" % (bits - first, end - first)
         lines.append(warning(schedule.name, row, "%s: %s the end of lane %d, which has bits 0 to %d: %s" % (key, what, lane, bits - 1, struck)))
     return some(lines, "rows are beyond the ends of lanes")
+
+
+def vain_strikes(inputs, slots, text):
+    """Rows of a schedule that strike words and cost no packet: their spans meet none, or no packet is missing and they have no slots.
+    Where the run counted accidents nothing is known."""
+    plan, schedule, name = inputs.plan, inputs.schedule, inputs.plan.out + ".spans.csv"
+    if not schedule.rows or not re.search("^accidents locks=0 groups=0 stretches=0$", text, re.MULTILINE):
+        return []
+    spans = read_spans(inputs.folder, name, plan, schedule.skew[0], slots)
+    missing, lines = [packet for packet, _ in missing_of(text)], []
+    for strike in strikes_of(plan, schedule, plan.sent_bits(slots)):
+        struck = [spans[number] for number in spans_struck(strike, spans)]
+        is_vain = struck if strike.slots else not missing
+        if is_vain and not any(meets(span, packet) for span in struck for packet in missing):
+            lines.append(warning(schedule.name, strike.row, "%s: it strikes no packet" % strike_text(strike)))
+    return some(lines, "rows strike no packet")
+
+
+def strike_text(strike):
+    """The bits of a row, and the slots or the framing words that they are in."""
+    is_one = strike.first == strike.last
+    bits = "bit %d of lane %d is" % (strike.first, strike.lane) if is_one else "bits %d to %d of lane %d are" % (strike.first, strike.last, strike.lane)
+    if strike.slots is None:
+        return "%s: %s in %s" % (strike.key, bits, "a framing word" if is_one else "framing words")
+    first, last = strike.slots
+    return "%s: %s in %s" % (strike.key, bits, "slot %d" % first if first == last else "slots %d to %d" % (first, last))
 
 
 def beyond_stream(file, slots):
@@ -133,7 +159,7 @@ def locks(inputs, text):
     if any(count != "1" for _, count, _ in reports):
         return []  # a later lock may align
     apart, room = least_spread([int(first) for _, _, first in reports], plan.period), CODE * plan.deskew
-    told = "%s: warning: all lanes are locked, and do not align: their Sync words lie %d bits apart, and deskew,%d aligns %d"
+    told = "%s: warning: all lanes are locked, and do not align: the nearest Sync words of all lanes lie %d bits apart, and deskew,%d aligns %d"
     return [told % (plan.out, apart, plan.deskew, room)] if apart > room else []
 
 

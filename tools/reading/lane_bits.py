@@ -3,6 +3,7 @@
 import re
 from collections import Counter
 
+from reading.agreement import are_sent, must_begin_at
 from reading.intervals import merged
 from reading.files import must_agree
 from reading.lane_words import words_of
@@ -114,12 +115,15 @@ class Lane:
 
 
 def read_lanes(folder, plan, schedule, sent=None, text=""):
-    """The lanes of a plan; `sent` names the prefix of the lanes as they were sent, and `text` is what the program printed."""
+    """The lanes of a plan, and whether they are as they were sent; `sent` names the prefix of the sent lanes, and `text` is what the
+    program printed."""
     lanes = [Lane(number, folder.content("%s.lane.%d" % (plan.out, number)), plan) for number in range(plan.lanes)]
-    as_sent = any(lane.is_sent(schedule.skew[lane.number]) for lane in lanes)
+    as_sent = are_sent(plan, schedule, lanes, sent is not None)
     for lane in lanes:
         if not as_sent:
             lane.take_schedule(schedule.skew[lane.number], schedule.flips[lane.number], schedule.darks[lane.number])
+        if schedule.rows and not lane.note:
+            must_begin_at(plan, lane.number, lane.syncs, lane.front)
         if sent is not None:
             lane.compare(bits_of(folder.content("%s.lane.%d" % (sent, lane.number))))
     take_reports(lanes, text)

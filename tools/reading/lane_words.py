@@ -29,6 +29,22 @@ def words_of(bits, syncs, plan):
         start = end
 
 
+def code_at(bits, bit):
+    """What the code at a bit says: whether it is inverted, its header, and its payload as it was meant."""
+    code = bits[bit:bit + CODE]
+    inverted, header, payload = code[0] == "1", int(code[1:3], 2), int(code[3:], 2)
+    return inverted, header, payload ^ WORD if inverted else payload
+
+
+def has_right_crc(bits, begin, plan):
+    """Whether the metaframe from a bit on is there, and has the CRC32 of its words."""
+    if begin + plan.period > len(bits):
+        return False
+    frames = Metaframes(plan)
+    framed = [frames.take(*code_at(bits, bit)[1:]) for bit in range(begin, begin + plan.period, CODE)]
+    return not framed[-1].wrong
+
+
 def legal_headers(bits):
     """A text in which bit q is 1 where the bits q and q + 1 of the lane differ."""
     number = int(bits or "0", 2)
@@ -55,17 +71,14 @@ def words_of_lock(bits, phase, lost, declared, plan):
     given_up = phase + CODE * (SEARCHED * plan.metaframe - 1) if declared is None else None
     frames, disparity = Metaframes(plan), 0
     for bit in range(phase, len(bits) - CODE + 1, CODE):
-        code = bits[bit:bit + CODE]
-        inverted, header, payload = code[0] == "1", int(code[1:3], 2), int(code[3:], 2)
-        framed = None
-        if declared is not None and bit >= declared:
-            framed = frames.take(header, payload ^ WORD if inverted else payload)
+        inverted, header, payload = code_at(bits, bit)
+        framed = frames.take(header, payload) if declared is not None and bit >= declared else None
         why = reason(bit, lost, given_up, framed)
         if why:
             yield Word(bit, why, header, inverted, disparity, None)
             return bit + CODE + (why == "unframed")
         yield Word(bit, "declared" if framed else "words", header, inverted, disparity, framed)
-        disparity += 2 * code.count("1") - CODE
+        disparity += 2 * bits.count("1", bit, bit + CODE) - CODE
     return None
 
 

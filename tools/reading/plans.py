@@ -109,7 +109,9 @@ class Schedule:
         numbers = [number_in(row, place, "%s: %s" % (key, form[place])) for place in range(1, len(form))]
         ranges = {"lane": (0, self.lanes - 1), "bits": (0, MOST_SKEW), "count": (1, MOST_BIT)}
         for place, number in enumerate(numbers, 1):
-            must_be_within(number, *ranges.get(form[place], (0, MOST_BIT)), place, "%s: %s" % (key, form[place]))
+            # Whoever exchanged fields has a lane out of range.
+            hint = " (the row is `%s`)" % SCHEDULE[key] if form[place] == "lane" else ""
+            must_be_within(number, *ranges.get(form[place], (0, MOST_BIT)), place, "%s: %s" % (key, form[place]), hint=hint)
         self.keep(row, key, numbers)
 
     def keep(self, row, key, numbers):

@@ -86,10 +86,10 @@ def number_hint(field):
     return ""
 
 
-def must_be_within(number, least, most, place, what, step=1):
+def must_be_within(number, least, most, place, what, step=1, hint=""):
     """A fault where a number is out of range."""
     if not least <= number <= most:
-        raise Fault("range", place, "%s: %d is not in %d to %d" % (what, number, least, most))
+        raise Fault("range", place, "%s: %d is not in %d to %d%s" % (what, number, least, most, hint))
     if number % step:
         raise Fault("range", place, "%s: %d is not a multiple of %d" % (what, number, step))
 

@@ -138,6 +138,29 @@ def slot_of(where, place, plan, begin, count):
     return slot
 
 
+def are_joined(spans):
+    """Whether spans are of a words file, as `join` writes them, and not of lanes."""
+    return any(place and not place[0] for span in spans for place in span.places)
+
+
+def covers(span, first, last):
+    """Whether a span has one of these slots between its ends."""
+    return (span.after is None or span.after < last) and (span.before is None or first < span.before)
+
+
 def meets(span, packet):
     """Whether a span costs a packet."""
-    return packet.last is not None and (span.after is None or span.after < packet.last) and (span.before is None or packet.first < span.before)
+    return packet.last is not None and covers(span, packet.first, packet.last)
+
+
+def missing_of(text):
+    """The packets that did not come, as `link` printed them, each with the number of its span."""
+    for line in re.findall(r"^missing channel=(\d+) packet=(\d+) first=(\d+) last=(\d+) span=(\d+)$", text, re.MULTILINE):
+        *places, span = map(int, line)
+        yield Packet(*places, None, None), span
+
+
+def slots_of(text):
+    """The slots of the stream, as a run printed them, or None."""
+    printed = re.search(r"^slots (\d+)$", text or "", re.MULTILINE)
+    return int(printed.group(1)) if printed else None

@@ -6,8 +6,9 @@ import sys
 
 from reading.agreement import must_fill_lanes
 from reading.files import Folder, Refused
+from reading.kinds import read_plan
 from reading.lane_bits import read_lanes
-from reading.plans import Plan, Schedule
+from reading.plans import Schedule
 from reading.words import Stream, read_spans
 from waving.signals import LaneWaves, StreamWaves
 from waving.vcd import write_vcd
@@ -34,13 +35,13 @@ def stream_of(folder, plan, lanes):
     if not folder.has(words):
         return None, []
     stream = Stream(folder, words, plan)
-    must_fill_lanes(stream, words, plan, [len(lane.bits) // 8 for lane in lanes], [lane.front for lane in lanes])
+    must_fill_lanes(stream.count, words, plan, [len(lane.bits) // 8 for lane in lanes], [lane.front for lane in lanes])
     return stream, read_spans(folder, table, plan, lanes[0].front, stream.count) if folder.has(table) else []
 
 
 def write_waves(folder, name, path):
     """Writes the file, and returns the line that says what is in it."""
-    plan = Plan(folder, name)
+    plan = read_plan(folder, name)
     lanes = lanes_of(folder, plan, name)
     stream, spans = stream_of(folder, plan, lanes)
     waves = [LaneWaves(lane, plan, stream) for lane in lanes]

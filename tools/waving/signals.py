@@ -3,7 +3,7 @@
 from heapq import merge
 from operator import itemgetter
 
-from reading.agreement import HINT
+from reading.agreement import anew
 from reading.files import Refused
 from reading.lane_words import words_of
 from reading.plans import CODE
@@ -54,7 +54,7 @@ class LaneWaves:
         if framed.role == "diagnostic" and not framed.wrong:
             wrong = next((slot for slot, word in self.received if word != self.stream.word(slot)), None)
             if wrong is not None:
-                raise Refused("%s.words: slot %d is another word than lane %d has, whose Diagnostic word after it is right: %s" % (self.plan.out, wrong, self.lane.number, HINT))
+                raise Refused("%s.words: slot %d is another word than lane %d has, whose Diagnostic word after it is right: %s" % (self.plan.out, wrong, self.lane.number, anew(self.plan)))
 
 
 def values_of(word):
