@@ -207,6 +207,7 @@ check good "$begin" 'holds program "$program" "$INTERLAKEN_PROGRAM"' 'ends'
 run_checks 'a check that passes' '0 checks: 1 passed, 0 failed, 0 skipped'
 check wanting "$begin" 'wants no-such-tool a-package'
 run_checks 'a check that is skipped' '0 checks: 1 passed, 0 failed, 1 skipped'
+holds 'how many checks there are' "$(head -n 1 <<<"$text" | cut -d , -f 1)" '2 checks'
 holds 'why it is skipped' "$(grep -c '^wanting: skipped, no no-such-tool (Debian package a-package)$' <<<"$text")" 1
 run_checks 'nothing but a skip' '1 checks: 0 passed, 0 failed, 1 skipped' wanting
 check bad 'echo in full' "$begin" 'holds one 1 2' ends
