@@ -5,7 +5,7 @@
 It prints a table for each size of packets, of the least of three runs each. The ratio is the processor time of a command over that of md5sum on the same capture
 in the same run. The link has 8 lanes and a metaframe of 2,048 words; `receive` reads the lanes that `send` wrote. Channels, where there are many, share the
 capture's bytes evenly. What does not read the capture has a size of its own, and no ratio: `duplex`, `resend`, `oobwrite` and `oobread` go to their limits, or by
-1,000,000 slots. What the program does not know is left out. Then `receive` once more, of the first size, with lane 3 of the eight replaced by one of the same
+1,000,000 slots. Then `receive` once more, of the first size, with lane 3 of the eight replaced by one of the same
 length that declares no lock.
 """
 
