@@ -1,9 +1,9 @@
 -- Strides by shifts, and a word's 64 key bits in two of them.
-use Rattle.std.proofs.Common.{ℕ, ◌≡◌, sym, ap, ◌∙◌, ◌+◌, ◌-◌, ◌*◌, ◌/◌, ◌%◌, ◌^◌, ◌<◌, ◌≤◌, Bool, true, false, length, get_or, take, arith, bit_xor, inl, inr}
+use Rattle.std.proofs.Common.{ℕ, ◌≡◌, sym, ap, ◌∙◌, ◌+◌, ◌-◌, ◌*◌, ◌/◌, ◌%◌, ◌^◌, ◌<◌, ◌≤◌, Bool, true, false, length, get_or, take, arith, bit_or, bit_xor, inl, inr}
 use Rattle.std.specs.Int.{bit_at}
 use Rattle.std.proofs.lemmas.Bool.{cases_lt}
 use Rattle.std.proofs.lemmas.List.{get_or-take, length-take-le}
-use Rattle.std.proofs.lemmas.Nat.{pow_pos, mod_below}
+use Rattle.std.proofs.lemmas.Nat.{pow_pos, mod_below, or_shifted, xor_mod}
 use Rattle.std.proofs.lemmas.Nat.Bits.{bit_at_xor, same_from_bits_below}
 use Rattle.lk_base.specs.Checksum.{differ, digit}
 use Rattle.lk_base.proofs.Bits.{bit_at-mod}
@@ -95,6 +95,24 @@ moved s n h =
 
 -- ---- two strides
 
+-- the 25 bits after the first 39, from these and the state before
+pub later_bits : (s : ℕ) → bit_xor (bits_after s 39 / 2 ^ 14) (bit_or (s % 2 ^ 19 * 2 ^ 6) (bits_after s 39 / 2 ^ 33)) ≡ bits_after (state_after s 39) 25
+later_bits s =
+    let f = bits_after s 39 in
+    let h = s % 2 ^ 19 in
+    let below : f < 2 ^ 39 = bits_after-below s 39 in
+    let low : f / 2 ^ 33 < 2 ^ 6 = omega arith in
+    let small : h < 2 ^ 19 = mod_below s (2 ^ 19) (pow_pos 19) in
+    let m : h * 2 ^ 39 + f ≡ state_after s 39 = moved s 39 (omega arith) in
+    let a : (h * 2 ^ 39 + f) / 2 ^ 14 % 2 ^ 25 ≡ f / 2 ^ 14 = omega arith in
+    let b : (h * 2 ^ 39 + f) / 2 ^ 33 % 2 ^ 25 ≡ h * 2 ^ 6 + f / 2 ^ 33 = omega arith in
+    ap (bit_xor (f / 2 ^ 14)) (or_shifted h 6 (f / 2 ^ 33) low)
+    ∙ ap (λ x. bit_xor x (h * 2 ^ 6 + f / 2 ^ 33)) (sym a)
+    ∙ ap (bit_xor ((h * 2 ^ 39 + f) / 2 ^ 14 % 2 ^ 25)) (sym b)
+    ∙ sym (xor_mod ((h * 2 ^ 39 + f) / 2 ^ 14) ((h * 2 ^ 39 + f) / 2 ^ 33) 25)
+    ∙ ap (λ x. bit_xor (x / 2 ^ 14) (x / 2 ^ 33) % 2 ^ 25) m
+    ∙ next (state_after s 39) 25 (omega arith)
+
 -- the key from the state after some bits is the key after these bits
 start-after : (s m : ℕ) → start_of (state_after s m) ≡ take 58 (key_until (start_of s) m)
 unfolding state_after
@@ -112,11 +130,6 @@ back_through s m n i h =
     ∙ ap (λ bits. get_or bits i false) (sym (key_until-take (key_until (start_of s) m) n (omega arith)))
     ∙ get_or-take (n + 58) (key_until (key_until (start_of s) m) n) i false h
     ∙ ap (λ bits. get_or bits i false) (sym (key_until-add (start_of s) m n))
-
-pub whole_state : (s : ℕ) → state_after (state_after s 39) 25 ≡ state_before (start_of s) 1
-whole_state s =
-    same_from_bits_below 58 _ _ (state_after-below (state_after s 39) 25) (state_before-below (start_of s) 1)
-    (λ i h. state_after-bit (state_after s 39) 25 i h ∙ ap digit (back_through s 39 25 i (omega arith)) ∙ sym (state_before-bit (start_of s) 1 i h))
 
 first_part : (s k : ℕ) → k < 39 → bit_at (bits_after s 39) k ≡ bit_at (key_word (start_of s) 0) (25 + k)
 first_part s k h = bits_after-bit s 39 k h ∙ ap digit (sym (back_by (start_of s) 25 39 k)) ∙ sym (key_word-bit (start_of s) 0 (25 + k) (omega arith))
@@ -138,3 +151,9 @@ whole_key s =
       | inl l ↦ bit_at-low (bits_after s 39) (bits_after (state_after s 39) 25) 25 i (bits_after-below (state_after s 39) 25) l ∙ second_part s i l
       | inr l ↦ high_bit s i (i - 25) (omega arith) (omega arith)
     ])
+
+-- the state after a word is the last 58 of its key bits
+pub state_in_key : (s : ℕ) → key_word (start_of s) 0 % 2 ^ 58 ≡ state_before (start_of s) 1
+state_in_key s =
+    same_from_bits_below 58 _ _ (mod_below (key_word (start_of s) 0) (2 ^ 58) (pow_pos 58)) (state_before-below (start_of s) 1)
+    (λ i h. bit_at-mod (key_word (start_of s) 0) 58 i h ∙ key_word-bit (start_of s) 0 i (omega arith) ∙ sym (state_before-bit (start_of s) 1 i h))

@@ -1,8 +1,11 @@
 ghost use Rattle.std.specs.Prelude.{◌≡◌, ℕ, ◌+◌, ◌^◌, ◌<◌, ◌≤◌, Bool, List, length, bit_xor};
 ghost use Rattle.lane_model.specs.Key.{start_of, state_before, key_word};
 
-use crate::strides::{moved, next_bits};
+use crate::strides::{first_bits, second_bits};
 use std::marker::Model;
+
+// The bits of a state.
+const STATE: u64 = (1 << 58) - 1;
 
 /// The key of a lane at the word that comes next: its state, which is the last 58 key bits, the latest in bit 0.
 #[derive(Clone, Copy, Debug, PartialEq, Eq)]
@@ -38,12 +41,11 @@ impl Scrambler {
         ensures state { self.new ≡ state_before (start_of self.old) 1 }
         ensures key { (start : List Bool) (j : ℕ) → 58 ≤ length start → self.old ≡ state_before start j → (result ≡ bit_xor payload (key_word start j)) × (self.new ≡ state_before start (j + 1)) }
     {
-        let first = next_bits(self.state, 39);
-        let middle = moved(self.state, first, 39);
-        let second = next_bits(middle, 25);
-        let last = moved(middle, second, 25);
-        self.state = last;
-        payload ^ (first << 25 | second)
+        let first = first_bits(self.state);
+        let second = second_bits(self.state, first);
+        let key = first << 25 | second;
+        self.state = key & STATE;
+        payload ^ key
     }
 
     /// The state: below 2^58.
