@@ -42,7 +42,7 @@ impl LaneSteps {
     pub fn make(alloc: Global, link: &Link) -> Result<LaneSteps, OutOfMemory>
         ensures { IfOk result (λ v. Stands v.lock link.now [] × (v.lock.taken ≡ 0) × (length v.shown ≡ 8)) }
     {
-        let lock = LaneLock::make(alloc, link)?;
+        let lock = LaneLock::new(alloc, link)?;
         Ok(LaneSteps {
             lock,
             last_shown: Shown::End,

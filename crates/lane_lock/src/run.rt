@@ -1,0 +1,67 @@
+ghost use Rattle.std.specs.Prelude.{◌≡◌, ◌≤◌, ◌+◌, true, false};
+ghost use Rattle.lk_base.specs.Words.{is_bad as bad_of};
+ghost use Rattle.lane_lock.specs.declared.passing.Passing.TheVariants as passings;
+ghost use Rattle.lane_lock.specs.Counts.{CountsNothing};
+ghost use Rattle.lane_lock.specs.Inside.{payloads_left};
+ghost use Rattle.lane_lock.specs.Run.{run_of, watch_ran};
+ghost use Rattle.lane_lock.specs.Watch.{WatchState};
+ghost use Rattle.lane_lock.specs.Watching.{Answers};
+
+use crate::headers::Headers;
+use crate::inside::Inside;
+use crate::seen::Seen;
+use lk_base::RxWord;
+use std::marker::Model;
+
+/// What payload words of a declared lock change, one after another: a copy, which a loop over many of them holds in registers.
+#[derive(Clone, Copy)]
+pub struct Run {
+    headers: Headers,
+    inside: Inside,
+}
+
+impl Model for Run {
+    ghost use Rattle.lane_lock.specs.Run.{RunState};
+
+    ghost Value = { RunState };
+
+    ghost view = { λ r. record { headers = r.headers; inside = r.inside } };
+
+    ghost inverse = { λ r. record { headers = r.headers; inside = r.inside } };
+}
+
+impl Run {
+    /// A run that begins after these words.
+    pub fn new(headers: Headers, inside: Inside) -> Run
+        ensures { result ≡ record { headers = headers; inside = inside } }
+    {
+        Run { headers, inside }
+    }
+
+    /// The headers after it.
+    pub fn headers(&self) -> Headers
+        ensures { result ≡ self.now.headers }
+    {
+        self.headers
+    }
+
+    /// The words after it.
+    pub fn inside(&self) -> Inside
+        ensures { result ≡ self.now.inside }
+    {
+        self.inside
+    }
+
+    /// Takes the next word, which is a payload word with a legal header. It counts as nothing in a report.
+    #[inline(always)]
+    pub fn payload(&mut self, word: RxWord) -> Seen
+        requires ahead { 1 ≤ payloads_left self.old.inside }
+        requires legal { bad_of word ≡ false }
+        ensures left { payloads_left self.old.inside ≡ payloads_left self.new.inside + 1 }
+        ensures counts { CountsNothing result }
+        ensures answer { (v : WatchState) → v.declared ≡ true → run_of v ≡ self.old → Answers (passings.Inside result) v (watch_ran v 1 self.new) word }
+    {
+        let _kept = self.headers.word(false);
+        self.inside.payload(word)
+    }
+}
