@@ -1,7 +1,7 @@
 -- The steps of many ticks, taken lane by lane.
 use Rattle.std.proofs.Common.{ℕ, zero, suc, ◌≡◌, refl, sym, ap, ◌∙◌, subst, ◌+◌, ◌*◌, ◌<◌, ◌≤◌, true, false, List, [], ◌∷◌, ◌++◌, length, map, take, get_or, set, arith}
 use Rattle.std.specs.List.{list_all, range_with_len}
-use Rattle.std.proofs.lemmas.List.{length-map, take_all, take_more, length_push}
+use Rattle.std.proofs.lemmas.List.{get_or-set_same, length-map, set-set, take_all, take_more, length_push}
 use Rattle.std.proofs.lemmas.List.FromFn.{length-map-range_with_len, map-range_with_len_more}
 use Rattle.lk_base.specs.declared.word.Aligned.{Aligned}
 use Rattle.lk_base.specs.Link.{Settings}
@@ -33,6 +33,10 @@ after_push : (l : LaneState) (xs : List LaneStep) (x : LaneStep) → lane_after_
 after_push l [] x = refl
 after_push l (y ∷ xs) x = after_push (lane_after l y) xs x
 
+after_both : (l : LaneState) (xs ys : List LaneStep) → lane_after_all (lane_after_all l xs) ys ≡ lane_after_all l (xs ++ ys)
+after_both l [] ys = refl
+after_both l (x ∷ xs) ys = after_both (lane_after l x) xs ys
+
 -- ---- all lanes
 
 -- each lane after the steps of its column
@@ -43,6 +47,14 @@ lanes_all (l ∷ ls) (c ∷ cs) = lane_after_all l c ∷ lanes_all ls cs
 
 abbrev held : State → List LaneState → State
 held d lanes = record { settings = d.settings; lanes = lanes; phase = d.phase; settled = false }
+
+-- steps of one lane, and then others
+pub taken_both : (i : ℕ) (xs ys : List LaneStep) (d : State) → i < length d.lanes → steps_taken i ys (steps_taken i xs d) ≡ steps_taken i (xs ++ ys) d
+taken_both i xs ys d lt =
+    let l = get_or d.lanes i (fresh_lane 0) in
+    let x = lane_after_all l xs in
+    ap (λ (y : LaneState). held d (set (set d.lanes i x) i (lane_after_all y ys))) (get_or-set_same d.lanes i x (fresh_lane 0) lt)
+    ∙ ap (held d) (set-set d.lanes i x (lane_after_all x ys)) ∙ ap (λ (y : LaneState). held d (set d.lanes i y)) (after_both l xs ys)
 
 no_columns : (ls : List LaneState) → lanes_all ls [] ≡ ls
 no_columns [] = refl

@@ -2,7 +2,8 @@ ghost use Rattle.std.specs.Prelude.{◌≡◌, ◌≤◌, ◌+◌, true, false};
 ghost use Rattle.lk_base.specs.Words.{is_bad as bad_of};
 ghost use Rattle.lane_lock.specs.declared.passing.Passing.TheVariants as passings;
 ghost use Rattle.lane_lock.specs.Counts.{CountsNothing};
-ghost use Rattle.lane_lock.specs.Inside.{payloads_left};
+ghost use Rattle.lane_model.specs.declared.role.Role.TheVariants as roles;
+ghost use Rattle.lane_lock.specs.Inside.{payload_number, payloads_left};
 ghost use Rattle.lane_lock.specs.Run.{run_of, watch_ran};
 ghost use Rattle.lane_lock.specs.Watch.{WatchState};
 ghost use Rattle.lane_lock.specs.Watching.{Answers};
@@ -59,6 +60,8 @@ impl Run {
         requires legal { bad_of word ≡ false }
         ensures left { payloads_left self.old.inside ≡ payloads_left self.new.inside + 1 }
         ensures counts { CountsNothing result }
+        ensures role { result.role ≡ roles.Payload (payload_number self.old.inside) }
+        ensures moves { (self.new.inside.settings ≡ self.old.inside.settings) × (self.new.inside.position ≡ self.old.inside.position + 1) }
         ensures answer { (v : WatchState) → v.declared ≡ true → run_of v ≡ self.old → Answers (passings.Inside result) v (watch_ran v 1 self.new) word }
     {
         let _kept = self.headers.word(false);

@@ -1,15 +1,16 @@
-ghost use Rattle.std.specs.Prelude.{◌≡◌, ◌<◌, ◌≤◌, ◌+◌, ◌*◌, ◌/◌, ◌^◌, Bool, List, [], ℕ, false, get_or, length, replicate, true, vec_capacity, IfOk};
+ghost use Rattle.std.specs.Prelude.{◌≡◌, ◌<◌, ◌≤◌, ◌+◌, ◌*◌, ◌/◌, ◌^◌, Bool, List, [], ℕ, false, get_or, length, replicate, true, IfOk};
 ghost use Rattle.std.specs.Int.{bit_at};
 ghost use Rattle.lk_base.specs.Checksum.{bits_of, bits_of_bytes};
 ghost use Rattle.lk_base.specs.Link.{Settings};
 ghost use Rattle.lock_model.specs.declared.types.LaneStep.TheVariants as variants;
 ghost use Rattle.lock_model.specs.Low.{is_low};
 ghost use Rattle.lane_lock.specs.Bytes.{Brings, BringsBatch};
+ghost use Rattle.lane_lock.specs.Found.{found_steps};
 ghost use Rattle.lane_lock.specs.Search.{IsFar};
 ghost use Rattle.lane_lock.specs.Standing.{IsReport, Stands};
 
 use crate::shown::{Shown, shown_of};
-use lane_lock::LaneLock;
+use lane_lock::{Found, LaneLock};
 use lk_base::{Link, OutOfMemory};
 use lock_model::{LaneReport, LaneStep};
 use std::alloc::Global;
@@ -87,13 +88,13 @@ impl LaneSteps {
     /// Takes bytes at once, and appends the steps that their bits complete to `found`, in order, without those that show nothing.
     /// The steps are those of as many calls of `byte`; after it no bit's step is kept. At most 2^60 bits come in all. It takes no
     /// memory.
-    pub fn take_batch(&mut self, bytes: &[u8], found: &mut Vec<LaneStep>)
+    pub fn take_batch(&mut self, bytes: &[u8], found: &mut Found)
         requires few { self.old.lock.taken + 8 * length bytes.now ≤ 2 ^ 60 }
-        requires room { length found.old.items + 8 * length bytes.now / 67 + 1 ≤ vec_capacity found.old }
+        requires room { length (found_steps found.old) + 8 * length bytes.now / 67 + 1 ≤ found.old.room }
         ensures taken { self.new.lock.taken ≡ self.old.lock.taken + 8 * length bytes.now }
         ensures shown { self.new.shown ≡ [] }
-        ensures capacity { vec_capacity found.new ≡ vec_capacity found.old }
-        ensures stands { BringsBatch self.old.lock self.new.lock (bits_of_bytes bytes.now) found.old.items found.new.items }
+        ensures room { found.new.room ≡ found.old.room }
+        ensures stands { BringsBatch self.old.lock self.new.lock (bits_of_bytes bytes.now) (found_steps found.old) (found_steps found.new) }
     {
         self.lock.take_batch(bytes, found);
         self.last_shown = Shown::Quiet;

@@ -1,12 +1,13 @@
-ghost use Rattle.std.specs.Prelude.{◌≡◌, ◌≤◌, ◌+◌, ◌*◌, ◌^◌, [], length, take};
+ghost use Rattle.std.specs.Prelude.{◌≡◌, ◌<◌, ◌≤◌, ◌+◌, ◌*◌, ◌^◌, [], length, take};
 ghost use Rattle.lk_base.specs.Checksum.{bits_of_bytes};
+ghost use Rattle.deskew.specs.Steps.{steps_taken};
 ghost use Rattle.lane_lock.specs.Bytes.{BringsBatch};
-ghost use Rattle.lock_model.specs.Low.{all_low};
 
 use circular_buffer::HeapCircularBuffer;
+use deskew::Deskew;
+use lane_lock::Found;
 use lane_steps::LaneSteps;
 use lk_base::OutOfMemory;
-use lock_model::LaneStep;
 use std::alloc::Global;
 use std::marker::Model;
 
@@ -19,28 +20,27 @@ const ROOM: usize = 8 * 536 + 1;
 /// The steps that one lane shows in many bytes.
 #[derive(Drop)]
 pub struct Batch {
-    found: Vec<LaneStep>,
+    found: Found,
 }
 
 impl Model for Batch {
-    ghost use Rattle.std.specs.Prelude.{◌≤◌, vec_capacity, List};
+    ghost use Rattle.std.specs.Prelude.{◌≤◌, List};
+    ghost use Rattle.lane_lock.specs.Found.{found_steps};
     ghost use Rattle.lock_model.specs.Low.{all_low};
     ghost use Rattle.lock_model.specs.declared.types.LaneStep.{LaneStep as Step};
 
     ghost Value = { List Step };
 
-    ghost view = { λ a. a.found.items };
+    ghost view = { λ a. found_steps a.found };
 
-    ghost invariant = { λ a. (4289 ≤ vec_capacity a.found) × all_low a.found.items };
+    ghost invariant = { λ a. (4289 ≤ a.found.room) × all_low (found_steps a.found) };
 }
 
 impl Batch {
     /// No steps. It takes memory here, and no later call does.
-    pub fn make(alloc: Global) -> Result<Batch, OutOfMemory> {
-        match Vec::with_capacity(alloc, ROOM) {
-            Ok(found) => Ok(Batch { found }),
-            Err(_) => Err(OutOfMemory),
-        }
+    pub fn new(alloc: Global) -> Result<Batch, OutOfMemory> {
+        let found = Found::new(alloc, ROOM)?;
+        Ok(Batch { found })
     }
 
     /// A lane takes the first bytes of its ring, at most 536, and these are the steps that their bits show.
@@ -62,11 +62,13 @@ impl Batch {
         }
     }
 
-    /// The steps, in order.
-    pub fn steps(&self) -> &[LaneStep]
-        ensures value { result.now ≡ self.now }
-        ensures low { all_low result.now }
+    /// The deskew takes the steps, in order, as those of this lane.
+    pub fn give(&self, lane: u32, deskew: &mut Deskew)
+        requires { lane < deskew.old.settings.lanes }
+        ensures { deskew.new ≡ steps_taken lane self.now deskew.old }
     {
-        self.found.as_slice()
+        deskew.take_steps(lane, self.found.first_steps());
+        deskew.take_payloads(lane, self.found.payload_words(), self.found.payload_at());
+        deskew.take_steps(lane, self.found.last_steps());
     }
 }

@@ -53,7 +53,10 @@ fn next_byte(ring: &mut HeapCircularBuffer<u8>) -> u8
     ensures value { result ≡ slice_index ring.old.items 0 }
     ensures ring { ring.new ≡ buffer (drop 1 ring.old.items) ring.old.capacity }
 {
-    ring.pop_front().unwrap_or(0)
+    match ring.pop_front() {
+        Some(byte) => byte,
+        None => unreachable!(),
+    }
 }
 
 // The number of the bits of this many first bytes of a ring, where its first eight lie together.
@@ -230,7 +233,7 @@ impl FedLane {
     {
         batch.take(&mut self.steps, &self.ring, count);
         pass_bytes(&mut self.ring, count);
-        deskew.take_steps(lane, batch.steps());
+        batch.give(lane, deskew);
     }
 
     /// The step of bit k of the last rounds.

@@ -71,8 +71,8 @@ impl Front {
         ensures { IfOk result (λ v. Stands v link.now (nothing_fed link.now.lanes) [] (begun link.now.lanes) × (v.waiting ≡ []) × (v.over ≡ false) × (v.deskew.settled ≡ true)) }
     {
         let lanes = fresh_lanes(alloc, link)?;
-        let deskew = Deskew::make(alloc, link)?;
-        let batch = Batch::make(alloc)?;
+        let deskew = Deskew::new(alloc, link)?;
+        let batch = Batch::new(alloc)?;
         let block = Block::make(alloc)?;
         link.keeps_limits();
         Ok(Front {

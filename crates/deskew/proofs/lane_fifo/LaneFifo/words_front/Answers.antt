@@ -25,8 +25,8 @@ loop-place-preserved c =
     let m = c.min-most.ensures in
     let lt = c.loop-place-test.true in
     let long = i.3 in
-    let n = c.len-held.ensures.len in
-    let w = c.len-held.ensures.within.0 in
+    let n = c.len-kept.ensures.len in
+    let w = c.len-kept.ensures.within.0 in
     let fits : length c.args.self.now.words ≤ c.args.self.now.room = subst (λ (l : LaneState). length l.words ≤ l.room) c.self.view_is (omega (arith, n, w)) in
     let below = low_at steps k Nothing c.requires.low (omega (arith, m, lt)) in (
       front_more c.args.self.now steps run k c.loop-place.last c.loop-place.sync c.in-Word.word c.in-Word.role c.in-Word.at c.sync_after-sync.result (omega (arith, m, lt)) (omega (arith, m, lt, long))

@@ -5,8 +5,8 @@ use Rattle.lk_base.specs.Link.{Settings}
 use Rattle.lane_model.specs.declared.role.Role.TheVariants as roles
 use Rattle.lane_model.specs.Framing.{role_of}
 use Rattle.lock_model.proofs.Roles.{role_payload}
-use Rattle.lane_lock.specs.Inside.{InsideState}
-use Rattle.lane_lock.proofs.PayloadWords.{payload_moves, payload_place}
+use Rattle.lane_lock.specs.Inside.{InsideState, payload_number}
+use Rattle.lane_lock.proofs.PayloadWords.{payload_moves, payload_next, payload_place}
 use Rattle.lane_lock.proofs.inside.Inside.payload.Goals as goal
 
 pub returns-clause-left : goal.returns-clause-left
@@ -14,6 +14,16 @@ returns-clause-left c = payload_moves c.args.self.now c.keyed.new.self c.require
 
 pub returns-clause-counts : goal.returns-clause-counts
 returns-clause-counts c legal = c.keyed.ensures.counts legal refl
+
+pub returns-clause-role : goal.returns-clause-role
+returns-clause-role c =
+    let position : c.self.inside.position ≡ c.args.self.now.position = ap (λ (x : InsideState). x.position) c.self.view_is in
+    let skips : c.skips.result ≡ c.args.self.now.settings.skips = c.skips.ensures ∙ ap (λ (x : InsideState). x.settings.skips) c.self.view_is in
+    let number : c.self.inside.position - (c.skips.result + 2) ≡ payload_number c.args.self.now = omega (arith, position, skips) in
+    c.keyed.ensures.role ∙ ap roles.Payload number
+
+pub returns-clause-moves : goal.returns-clause-moves
+returns-clause-moves c = (c.keyed.ensures.settings, payload_next c.args.self.now c.keyed.new.self c.requires c.keyed.ensures.place)
 
 pub returns-clause-passes : goal.returns-clause-passes
 returns-clause-passes c s bits at r k is =

@@ -2,11 +2,12 @@
 use Rattle.std.proofs.Common.{◌+◌, ◌∙◌, refl, sym, take, drop, arith}
 use Rattle.std.proofs.Math.Seq.{take-add}
 use Rattle.lk_base.specs.Checksum.{bits_of_bytes}
+use Rattle.lane_lock.specs.Found.{found_steps}
 use Rattle.lane_lock.proofs.Batches.{batched_all, batched_more, batched_none, length-bytes}
 use Rattle.lane_lock.proofs.lane.LaneLock.each_piece.Goals as goal
 
 pub loop-at-init : goal.loop-at-init
-loop-at-init c = (batched_none c.args.self.now (bits_of_bytes c.args.bytes.now) c.args.found.now.items, refl, omega arith)
+loop-at-init c = (batched_none c.args.self.now (bits_of_bytes c.args.bytes.now) (found_steps c.args.found.now), refl, omega arith)
 
 pub payload_run-at-requires-clause-room : goal.payload_run-at-requires-clause-room
 payload_run-at-requires-clause-room c begins =
@@ -24,12 +25,12 @@ loop-at-preserved c =
     let run = c.payload_run-at.result in
     let count = c.next_piece-at.result in
     let ran = batched_more c.args.self.now c.loop-at.self c.payload_run-at.new.self given (take run (drop at given)) at run
-    c.args.found.now.items c.loop-at.found.items c.payload_run-at.new.found.items c.loop-at.invariant.0
+    (found_steps c.args.found.now) (found_steps c.loop-at.found) (found_steps c.payload_run-at.new.found) c.loop-at.invariant.0
     c.payload_run-at.ensures.taken c.payload_run-at.ensures.sparse c.payload_run-at.ensures.stands (sym (take-add at run given)) in (
       batched_more c.args.self.now c.payload_run-at.new.self c.next_piece-at.new.self given (take count (drop (at + run) given)) (at + run) count
-          c.args.found.now.items c.payload_run-at.new.found.items c.next_piece-at.new.found.items ran
+          (found_steps c.args.found.now) (found_steps c.payload_run-at.new.found) (found_steps c.next_piece-at.new.found) ran
           c.next_piece-at.ensures.taken c.next_piece-at.ensures.sparse c.next_piece-at.ensures.stands (sym (take-add (at + run) count given)),
-      c.next_piece-at.ensures.capacity ∙ c.payload_run-at.ensures.capacity ∙ c.loop-at.invariant.1,
+      c.next_piece-at.ensures.room ∙ c.payload_run-at.ensures.room ∙ c.loop-at.invariant.1,
       c.next_piece-at.ensures.there,
     )
 
@@ -37,4 +38,4 @@ pub returns-clause-stands : goal.returns-clause-stands
 returns-clause-stands c =
     let l = length-bytes c.args.bytes.now in
     let past = c.loop-at-test.false in
-    batched_all c.args.self.now c.loop-at.self (bits_of_bytes c.args.bytes.now) c.loop-at.at c.args.found.now.items c.loop-at.found.items (omega (arith, l, past)) c.loop-at.invariant.0
+    batched_all c.args.self.now c.loop-at.self (bits_of_bytes c.args.bytes.now) c.loop-at.at (found_steps c.args.found.now) (found_steps c.loop-at.found) (omega (arith, l, past)) c.loop-at.invariant.0

@@ -1,0 +1,177 @@
+ghost use Rattle.std.specs.Prelude.{◌≡◌, ◌<◌, ◌≤◌, ◌+◌, ◌^◌, ◌∷◌, ◌++◌, [], IfOk, false, length};
+ghost use Rattle.lock_model.specs.PayloadSteps.{payload_steps};
+ghost use Rattle.lock_model.specs.Shows.{shown_in};
+ghost use Rattle.lane_lock.specs.Found.{found_steps};
+
+use lane_model::Role;
+use lk_base::{OutOfMemory, RxWord};
+use lock_model::LaneStep;
+use std::alloc::Global;
+use std::marker::Model;
+
+/// How many payload words are kept as words at most.
+pub const MOST_WORDS: usize = 64;
+
+/// The steps that bits of a lane show, in order: steps, then payload words that stand one after another, then steps. It takes
+/// memory when it is made, and none after.
+#[derive(Drop)]
+pub struct Found {
+    before: Vec<LaneStep>,
+    after: Vec<LaneStep>,
+    /// The payload words are the first `count` of these.
+    words: [RxWord; 64],
+    count: usize,
+    // proof: the number of the first payload word in its metaframe, which says what step each word is.
+    number: u32,
+    /// The bit position of the first payload word.
+    at: u64,
+    /// How many steps there is room for.
+    room: usize,
+}
+
+impl Model for Found {
+    ghost use Rattle.std.specs.Prelude.{◌≡◌, ◌≤◌, length, take, vec_capacity};
+    ghost use Rattle.lane_lock.specs.Found.{FoundSteps};
+
+    ghost Value = { FoundSteps };
+
+    ghost view = { λ f. record { before = f.before.items; after = f.after.items; words = take f.count f.words; number = f.number; at = f.at; room = f.room } };
+
+    ghost invariant = { λ f. (f.room ≤ vec_capacity f.before) × (f.room ≤ vec_capacity f.after) × (f.count ≤ 64) };
+}
+
+impl Found {
+    /// No steps, with room for this many.
+    pub fn new(alloc: Global, room: usize) -> Result<Found, OutOfMemory>
+        ensures { IfOk result (λ found. (found_steps found ≡ []) × (found.room ≡ room)) }
+    {
+        let before = Vec::with_capacity(alloc, room)?;
+        let after = Vec::with_capacity(alloc, room)?;
+        Ok(Found {
+            before,
+            after,
+            words: [RxWord::Bad; 64],
+            count: 0,
+            number: 0,
+            at: 0,
+            room,
+        })
+    }
+
+    /// Takes the steps away.
+    pub fn clear(&mut self)
+        ensures steps { found_steps self.new ≡ [] }
+        ensures room { self.new.room ≡ self.old.room }
+    {
+        self.before.clear();
+        self.after.clear();
+        self.count = 0;
+    }
+
+    /// Appends a step where it shows something.
+    #[inline(always)]
+    pub fn keep(&mut self, step: LaneStep)
+        requires { length (found_steps self.old) < self.old.room }
+        ensures steps { found_steps self.new ≡ found_steps self.old ++ shown_in (step ∷ []) }
+        ensures room { self.new.room ≡ self.old.room }
+    {
+        match step {
+            LaneStep::Nothing => {}
+            LaneStep::Word(..) | LaneStep::Locked(_) | LaneStep::Lost(..) | LaneStep::Ended => {
+                self.push(step)
+            }
+        }
+    }
+
+    // Appends a step.
+    fn push(&mut self, step: LaneStep)
+        requires { length (found_steps self.old) < self.old.room }
+        ensures steps { found_steps self.new ≡ found_steps self.old ++ step ∷ [] }
+        ensures room { self.new.room ≡ self.old.room }
+    {
+        if self.has_words() {
+            self.after.push_reserved(step);
+        } else {
+            self.before.push_reserved(step);
+        }
+    }
+
+    // Whether it has payload words, or steps after them.
+    fn has_words(&self) -> bool
+        ensures none { result ≡ false → (self.now.words ≡ []) × (self.now.after ≡ []) }
+    {
+        self.count > 0 || !self.after.is_empty()
+    }
+
+    /// Appends the steps of these payload words, the first of them with this number in its metaframe and at this bit position.
+    pub fn append_payloads(&mut self, words: &[RxWord], number: u32, at: u64)
+        requires few { length words.now ≤ 64 }
+        requires number { number < 2 ^ 24 }
+        requires at { at < 2 ^ 60 }
+        requires room { length (found_steps self.old) + length words.now ≤ self.old.room }
+        ensures steps { found_steps self.new ≡ found_steps self.old ++ payload_steps number at words.now }
+        ensures room { self.new.room ≡ self.old.room }
+    {
+        if self.has_words() {
+            self.push_each(words, number, at);
+        } else {
+            self.set_words(words, number, at);
+        }
+    }
+
+    // Appends them as steps.
+    fn push_each(&mut self, words: &[RxWord], number: u32, at: u64)
+        requires few { length words.now ≤ 64 }
+        requires number { number < 2 ^ 24 }
+        requires at { at < 2 ^ 60 }
+        requires room { length (found_steps self.old) + length words.now ≤ self.old.room }
+        ensures steps { found_steps self.new ≡ found_steps self.old ++ payload_steps number at words.now }
+        ensures room { self.new.room ≡ self.old.room }
+    {
+        for k in 0..words.len() {
+            let role = Role::Payload(number + k as u32);
+            self.push(LaneStep::Word(words[k], role, at + 67 * k as u64));
+        }
+    }
+
+    // Keeps them as words, where no payload words and no steps after them are kept.
+    fn set_words(&mut self, words: &[RxWord], number: u32, at: u64)
+        requires few { length words.now ≤ 64 }
+        requires none { (self.old.words ≡ []) × (self.old.after ≡ []) }
+        ensures steps { found_steps self.new ≡ found_steps self.old ++ payload_steps number at words.now }
+        ensures room { self.new.room ≡ self.old.room }
+    {
+        self.words[..words.len()].copy_from_slice(words);
+        self.count = words.len();
+        self.number = number;
+        self.at = at;
+    }
+
+    /// The steps before the payload words.
+    pub fn first_steps(&self) -> &[LaneStep]
+        ensures { result.now ≡ self.now.before }
+    {
+        self.before.as_slice()
+    }
+
+    /// The payload words.
+    pub fn payload_words(&self) -> &[RxWord]
+        ensures { result.now ≡ self.now.words }
+    {
+        &self.words[..self.count]
+    }
+
+    /// The bit position of the first payload word.
+    pub fn payload_at(&self) -> u64
+        ensures { result ≡ self.now.at }
+    {
+        self.at
+    }
+
+    /// The steps after the payload words.
+    pub fn last_steps(&self) -> &[LaneStep]
+        ensures { result.now ≡ self.now.after }
+    {
+        self.after.as_slice()
+    }
+}
