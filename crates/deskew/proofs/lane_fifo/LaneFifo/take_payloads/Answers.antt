@@ -1,5 +1,5 @@
 -- The words are put at once, where there is a lock.
-use Rattle.std.proofs.Common.{◌≡◌, ℕ, ◌+◌, ◌-◌, ◌*◌, ◌≤◌, sym, ap, ◌∙◌, subst, length, false, arith}
+use Rattle.std.proofs.Common.{◌+◌, ◌-◌, ◌*◌, ◌≤◌, sym, ap, ◌∙◌, subst, length, arith}
 use Rattle.deskew.specs.States.{LaneState}
 use Rattle.deskew.specs.Runs.{all_worded}
 use Rattle.deskew.proofs.Runs.{payloads_lost, payloads_none, payloads_put}

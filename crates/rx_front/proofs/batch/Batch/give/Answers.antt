@@ -1,5 +1,5 @@
 -- The deskew takes the steps in three parts.
-use Rattle.std.proofs.Common.{ℕ, ◌≡◌, ◌+◌, ◌-◌, ◌*◌, ◌^◌, ◌<◌, ◌≤◌, ◌++◌, sym, ap, ◌∙◌, subst, List, length, arith}
+use Rattle.std.proofs.Common.{ℕ, ◌+◌, ◌-◌, ◌*◌, ◌^◌, ◌<◌, ◌≤◌, ◌++◌, sym, ap, ◌∙◌, subst, List, length, arith}
 use Rattle.lk_base.specs.declared.word.RxWord.{RxWord}
 use Rattle.deskew.specs.Steps.{steps_taken}
 use Rattle.lock_model.specs.declared.types.LaneStep.{LaneStep}
