@@ -40,17 +40,15 @@ impl Model for Block {
 
 impl Block {
     /// A block of no words. It takes memory here, and no later call does.
-    pub fn make(alloc: Global) -> Result<Block, OutOfMemory>
+    pub fn new(alloc: Global) -> Result<Block, OutOfMemory>
         ensures { IfOk result (λ b. b ≡ []) }
     {
-        match Vec::with_capacity(alloc, ROOM) {
-            Ok(words) => Ok(Block {
-                words,
-                first: Pos { group: 0, index: 0 },
-                cursor: 0,
-            }),
-            Err(_) => Err(OutOfMemory),
-        }
+        let words = Vec::with_capacity(alloc, ROOM)?;
+        Ok(Block {
+            words,
+            first: Pos { group: 0, index: 0 },
+            cursor: 0,
+        })
     }
 
     /// Whether all words were taken.

@@ -92,7 +92,7 @@ fn take_bits(ring: &mut HeapCircularBuffer<u8>, count: u32) -> u64
     }
 }
 
-// The same byte by byte.
+// Takes this many bytes from a ring one by one, and returns the number of their bits, the first of them highest.
 fn gathered(ring: &mut HeapCircularBuffer<u8>, count: u32) -> u64
     requires most { count ≤ 7 }
     requires there { count ≤ length ring.old.items }
@@ -133,13 +133,10 @@ pub fn lock_of(step: LaneStep) -> Option<u64>
 
 impl FedLane {
     /// A lane of which no byte came.
-    pub fn make(alloc: Global, link: &Link) -> Result<FedLane, OutOfMemory>
+    pub fn new(alloc: Global, link: &Link) -> Result<FedLane, OutOfMemory>
         ensures { IfOk result (λ v. IsFresh link.now v × (length v.steps ≡ 8)) }
     {
-        let ring = match HeapCircularBuffer::with_capacity(alloc, ROOM) {
-            Ok(ring) => ring,
-            Err(_) => return Err(OutOfMemory),
-        };
+        let ring = HeapCircularBuffer::with_capacity(alloc, ROOM)?;
         let steps = LaneSteps::make(alloc, link)?;
         Ok(FedLane {
             ring,

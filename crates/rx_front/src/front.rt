@@ -73,7 +73,7 @@ impl Front {
         let lanes = fresh_lanes(alloc, link)?;
         let deskew = Deskew::new(alloc, link)?;
         let batch = Batch::new(alloc)?;
-        let block = Block::make(alloc)?;
+        let block = Block::new(alloc)?;
         link.keeps_limits();
         Ok(Front {
             lanes,

@@ -25,11 +25,8 @@ pub fn fresh_lanes(alloc: Global, link: &Link) -> Result<Vec<FedLane>, OutOfMemo
 {
     let mut lanes = Vec::new(alloc);
     for _lane in 0..link.lanes() {
-        let lane = FedLane::make(alloc, link)?;
-        match lanes.push(lane) {
-            Ok(()) => {}
-            Err(_) => return Err(OutOfMemory),
-        }
+        let lane = FedLane::new(alloc, link)?;
+        lanes.push(lane)?;
     }
     Ok(lanes)
 }
