@@ -1,9 +1,13 @@
-use Rattle.std.proofs.Common.{sym, subst, [], ◌∷◌, ◌++◌}
-use Rattle.reassembly.specs.States.{event_of}
+use Rattle.std.proofs.Common.{◌≡◌, true, false, sym, ap, ◌∙◌, subst, [], ◌∷◌, ◌++◌}
+use Rattle.reassembly.specs.States.{event_of, is_packet}
 use Rattle.receipts.specs.Receipts.{IsReceipt, MayCome}
 use Rattle.receipts.proofs.Following.{on_ok_then}
 use Rattle.receipts.proofs.Receiving.{flow_came}
 use Rattle.receipts.proofs.receipt.Receipt.take_other.Goals as goal
+
+-- what comes is no packet
+pub unreachable-requires : goal.unreachable-requires
+unreachable-requires c = let f : true ≡ false = sym (ap is_packet c.in-Packet.is) ∙ c.requires.other in cc
 
 pub returns-in-Dropped : goal.returns-in-Dropped
 returns-in-Dropped c = on_ok_then c.add_drop.result c.add_drop.ensures (λ more packet b outputs now is.
