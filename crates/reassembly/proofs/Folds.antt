@@ -1,5 +1,6 @@
 -- What data words do one after another is what they do at once.
 use Rattle.std.proofs.Common.{ℕ, zero, suc, ◌≡◌, ◌+◌, ◌-◌, ◌/◌, ◌%◌, ◌<◌, ◌≤◌, refl, sym, ap, ◌∙◌, Bool, true, false, cond, ◌||◌, ◌&&◌, not, ◌==◌, nat_lt, List, [], ◌∷◌, ◌++◌, append_assoc, append-nil, length, set, flat_map, Option, Some, None, is_some, arith, length-append}
+use Rattle.std.proofs.Math.Bool.{and-true}
 use Rattle.std.specs.Int.{w64, to_be_bytes}
 use Rattle.std.proofs.lemmas.Bool.{false≢true, lt-ltb, ne_eqb}
 use Rattle.std.proofs.lemmas.List.{set-get_or}
@@ -41,11 +42,7 @@ grown-more greatest [] bytes x = refl
 grown-more greatest (y ∷ ys) bytes x = grown-more greatest ys (grown greatest bytes y) x
 
 pub kept-more : (greatest : ℕ) (xs bytes : List ℕ) (x : ℕ) → are_kept greatest bytes (xs ++ x ∷ []) ≡ (are_kept greatest bytes xs && nat_lt (length (grown_by greatest bytes xs)) greatest)
-kept-more greatest [] bytes x = and_true (nat_lt (length bytes) greatest)
-  where
-    and_true : (a : Bool) → (a && true) ≡ a
-    and_true true = refl
-    and_true false = refl
+kept-more greatest [] bytes x = and-true (nat_lt (length bytes) greatest)
 kept-more greatest (y ∷ ys) bytes x =
     ap (λ (b : Bool). nat_lt (length bytes) greatest && b) (kept-more greatest ys (grown greatest bytes y) x)
     ∙ sym (and_assoc (nat_lt (length bytes) greatest) (are_kept greatest (grown greatest bytes y) ys) (nat_lt (length (grown_by greatest (grown greatest bytes y) ys)) greatest))

@@ -1,5 +1,6 @@
 -- Words of one group that are put many at once are put as one after another.
 use Rattle.std.proofs.Common.{ℕ, suc, ◌≡◌, inr, ◌+◌, ◌-◌, ◌<◌, ◌≤◌, refl, sym, ap, ◌∙◌, subst, Bool, true, false, cond, List, [], ◌∷◌, ◌++◌, append_assoc, append-nil, length, map, take, drop, get_or, arith}
+use Rattle.std.proofs.Math.Nat.{zero-add}
 use Rattle.std.specs.List.{list_all}
 use Rattle.std.proofs.lemmas.Bool.{and_parts, false≢true}
 use Rattle.std.proofs.Math.ListN.{drop_of_length-le}
@@ -92,9 +93,6 @@ pub record Running (old now : State) (g i : ℕ) (ws : List RxWord) (taken : ℕ
   pub state : now ≡ after_words old g i (take taken ws)
   pub quiet : goes_on ≡ true → NothingWaits now × (run_of ws ≡ taken + run_of (drop taken ws))
   pub last : goes_on ≡ false → run_of ws ≡ taken
-
-zero-add : (n : ℕ) → 0 + n ≡ n
-zero-add n = omega arith
 
 pub running-first : (old : State) (g i : ℕ) (ws : List RxWord) → NothingWaits old → Running old old g i ws 0 true
 running-first old g i ws waits = record { within = omega arith; state = refl; quiet = λ h. (waits, sym (zero-add (run_of ws))); last = λ h. absurd (false≢true (sym h)) }
