@@ -5,7 +5,7 @@ use Rattle.receive_model.specs.Events.{Event, shown_spans}
 use Rattle.link_reports.specs.Lines.{dropped_line}
 use Rattle.link_reports.specs.Drops.{drop_counts}
 use Rattle.link_reports.specs.Table.{span_table}
-use Rattle.link_reports.proofs.law.worked_texts.Goals as goal
+use Rattle.link_reports.proofs.laws.worked_texts.Goals as goal
 
 pub returns : goal.returns
 unfolding digits
