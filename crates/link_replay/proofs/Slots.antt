@@ -1,9 +1,11 @@
 -- The slots of a group.
-use Rattle.std.proofs.Common.{ℕ, ◌≡◌, sym, ap, ◌∙◌, subst, ◌+◌, ◌*◌, ◌/◌, ◌%◌, ◌<◌, refl, Some, None, arith}
+use Rattle.std.proofs.Common.{ℕ, ◌≡◌, sym, ap, ap₂, ◌∙◌, subst, ◌+◌, ◌*◌, ◌/◌, ◌%◌, ◌<◌, refl, Some, None, arith}
+use Rattle.std.proofs.Math.Nat.{div-add-mod, mul_comm}
+use Rattle.delivery_laws.specs.GroupPlaces.{group_place}
 use Rattle.lk_base.specs.declared.position.Pos.{Pos}
 use Rattle.lk_base.specs.Link.{Settings, IsLink, group_of}
 use Rattle.link_replay.specs.Places.{AreOwn, IsGroupSlot, IsSlot, place_of}
-use Rattle.link_replay.proofs.Numbers.{metaframe-few, places-own, slot-at, slot-below, step-times, whole-below}
+use Rattle.link_replay.proofs.Numbers.{metaframe-few, places-own, slot-at, slot-below, slot-place, step-times, whole-below}
 
 group-some : (s : Settings) → IsLink s → 0 < group_of s
 group-some s link = (let few = metaframe-few s link in let long = link.metaframe.0 in omega (arith, few, long))
@@ -23,4 +25,24 @@ slot_some s skew count first at inside g =
     let e : first + at.index ≡ m * group_of s + at.index = ap (λ k. k + at.index) g.2 in (
       subst (λ k. k < count) (sym e) (slot-below (group_of s) count m at.index inside g.1.0),
       slot-at at skew s.metaframe (group_of s) (group_of s) m refl g.1.1 inside ∙ ap (place_of s skew) (sym e),
+    )
+
+-- the slot k words on, in the same group
+pub slot_further : (s : Settings) (skew count n k : ℕ) (at : Pos) → IsLink s → count % group_of s ≡ 0 → at.index + k < group_of s → IsSlot (place_of s skew) count at (Some n) →
+    IsSlot (place_of s skew) count (record { group = at.group; index = at.index + k }) (Some (n + k))
+slot_further s skew count n k at link whole inside is =
+    let size = group_of s in
+    let step = 67 * s.metaframe in
+    let q = n / size in
+    let w = whole-below size count n (group-some s link) whole is.0 in
+    let d = div-add-mod n size in
+    let c = mul_comm size q in
+    let group : at.group ≡ skew + step * q = ap (λ (p : Pos). p.group) is.1 in
+    let index : at.index ≡ n % size = ap (λ (p : Pos). p.index) is.1 in
+    let low : n % size + k < size = omega (arith, inside, index) in
+    let here : q * size + (n % size + k) ≡ n + k = omega (arith, d, c) in (
+      subst (λ m. m < count) here (slot-below size count q (n % size + k) low w.0),
+      ap₂ (λ (g i : ℕ). let p : Pos = record { group = g; index = i } in p) group (ap (λ i. i + k) index)
+          ∙ sym (slot-place skew step size q (n % size + k) low)
+          ∙ ap (group_place skew step size) here,
     )

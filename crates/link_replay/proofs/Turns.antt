@@ -5,7 +5,6 @@ use Rattle.std.proofs.lemmas.Bool.{and_parts, ltb-false, ltb-true, eqb-true}
 use Rattle.std.proofs.lemmas.List.{length-drop, length-take, take_all}
 use Rattle.lk_base.specs.declared.word.Aligned.{Aligned}
 use Rattle.lk_base.specs.Link.{Settings}
-use Rattle.lk_base.proofs.Lists.{head_same, tail_same}
 use Rattle.lock_model.specs.declared.types.LaneStep.{LaneStep}
 use Rattle.epoch_model.proofs.Leasts.{clash}
 use Rattle.receive_model.proofs.Cuts.{split}

@@ -7,7 +7,7 @@ ghost use Rattle.epoch_model.specs.SoFar.{LaneSoFar};
 ghost use Rattle.rx_end.specs.Observing.{AreLater};
 ghost use Rattle.link_replay.specs.Groups.{starts_of};
 ghost use Rattle.link_replay.specs.Lanes.{HaveFew, strange_sum};
-ghost use Rattle.link_replay.specs.Standing.{Holds, IsSame, ShowsItem, TakesWord, TellsGroup, TellsItem, Watches, skews_of, with_break, with_group};
+ghost use Rattle.link_replay.specs.Standing.{Holds, IsSame, RunsOn, ShowsItem, TakesNext, TakesWord, TellsGroup, TellsItem, Watches, skews_of, with_break, with_group};
 
 use crate::counts::Accidents;
 use crate::group::is_sent_group;
@@ -15,7 +15,7 @@ use crate::lanes::{fresh_lanes, note_locks, strange_locks};
 use crate::places::{group_slot, made, slot_in};
 use crate::stretch::Stretch;
 use crate::watched_lane::WatchedLane;
-use lk_base::{Aligned, Link, OutOfMemory, Pos, RxWord};
+use lk_base::{Aligned, Link, OutOfMemory, Pos, RxWord, head, tail};
 use rx_front::Front;
 use std::alloc::Global;
 use std::marker::Model;
@@ -102,6 +102,49 @@ impl Watch {
         }
     }
 
+    // Takes words that stand one after another in a group of which `room` words are left, the first of them at this slot, if at one, as
+    // long as they are data words with which the stretch goes on as sent. Returns how many.
+    fn run(&mut self, sent: &WordList, slot: Option<usize>, room: u64, words: &[RxWord]) -> usize
+        requires slot { IfSome slot (λ n. n < length sent.now) }
+        requires few { length sent.now < 2 ^ 60 }
+        ensures few { result ≤ length words.now }
+        ensures runs { 1 ≤ result → RunsOn self.old self.new sent.now slot room words.now result }
+        ensures none { result ≡ 0 → self.new ≡ self.old }
+    {
+        match slot {
+            Some(slot) => {
+                let count = words.len().min(room as usize);
+                self.stretch.run(sent, slot, head(words, count))
+            }
+            None => 0,
+        }
+    }
+
+    // Takes the next of such words: a run of them, or the first, which stands at this place. Returns how many.
+    fn next(
+        &mut self,
+        sent: &WordList,
+        slot: Option<usize>,
+        room: u64,
+        at: Pos,
+        words: &[RxWord],
+    ) -> usize
+        requires slot { IfSome slot (λ n. n < length sent.now) }
+        requires few { length sent.now < 2 ^ 60 }
+        requires room { self.old.stretches < 2 ^ 63 }
+        requires some { 1 ≤ length words.now }
+        ensures some { 1 ≤ result }
+        ensures most { result ≤ length words.now }
+        ensures takes { TakesNext self.old self.new sent.now slot room at words.now result }
+    {
+        let count = self.run(sent, slot, room, words);
+        if count > 0 {
+            return count;
+        }
+        self.word(sent, slot, at, words[0]);
+        1
+    }
+
     /// Takes words that stand one after another in a group, the first of them at this place.
     pub fn words(&mut self, sent: &WordList, at: Pos, words: &[RxWord])
         requires room { self.old.stretches + length words.now < 2 ^ 63 }
@@ -114,14 +157,16 @@ impl Watch {
     {
         let size = self.link.group_words();
         let first = group_slot(&self.link, sent, self.skew, at.group);
-        let mut index = at.index as u64;
-        for word in words {
+        let mut done = 0;
+        while done < words.len() {
+            let index = at.index as u64 + done as u64;
             let place = Pos {
                 group: at.group,
                 index: index as u32,
             };
-            self.word(sent, slot_in(first, size, index), place, *word);
-            index += 1;
+            let slot = slot_in(first, size, index);
+            let room = size.saturating_sub(index);
+            done += self.next(sent, slot, room, place, tail(words, done));
         }
     }
 

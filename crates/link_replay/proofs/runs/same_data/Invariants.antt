@@ -1,0 +1,6 @@
+-- The words so far are the same.
+use Rattle.link_replay.specs.Runs.{AreSameData}
+use Rattle.link_replay.proofs.runs.same_data.Given as goal
+
+abbrev pub invariant-loop-place : goal.invariant-loop-place
+invariant-loop-place l = AreSameData l.received l.sent l.slot l.place
