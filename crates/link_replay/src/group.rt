@@ -20,7 +20,7 @@ fn are_numbered(lanes: &[WatchedLane], link: &Link, front: &Front, number: u64) 
     requires number { 67 * (number * link.now.metaframe) ≤ 2 ^ 60 }
     ensures { (words : List SentWord) → result ≡ have_number (record { settings = link.now; words = words; skews = skews_of lanes.now }) (starts_of front.now) number }
 {
-    // The settings of a link are within their limits.
+    // proof: the settings of a link are within their limits
     link.keeps_limits();
     let sent = 67 * (number * link.metaframe() as u64);
     for i in 0..lanes.len() {
@@ -50,7 +50,7 @@ pub fn is_sent_group(
     requires skew { skew ≡ lane_0 (skews_of lanes.now) }
     ensures { result ≡ are_sent_places (record { settings = link.now; words = sent.now; skews = skews_of lanes.now }) (starts_of front.now) }
 {
-    // The settings of a link are within their limits.
+    // proof: the settings of a link are within their limits
     link.keeps_limits();
     match number_at(link, made(link, sent), skew, name) {
         Some(number) => are_numbered(lanes, link, front, number),

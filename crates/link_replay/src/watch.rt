@@ -49,14 +49,14 @@ impl Watch {
         ensures watches { IfOk result (λ v. (words : List SentWord) (lanes : List LaneSoFar) (locks : ℕ → List ℕ) →
             length words % group_of link.now ≡ 0 → ((i : ℕ) → locks i ≡ []) → Watches v words lanes locks []) }
     {
-        // The settings of a link are within their limits.
+        // proof: the settings of a link are within their limits
         link.keeps_limits();
         let lanes = fresh_lanes(alloc, skews)?;
         Ok(Watch {
             link: *link,
             skew: skews[0],
             lanes,
-            stretch: Stretch::make(),
+            stretch: Stretch::new(),
             groups: 0,
             stretches: 0,
         })

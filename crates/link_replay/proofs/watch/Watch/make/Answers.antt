@@ -9,4 +9,4 @@ returns-clause-same c = (refl, ap skews_of c.in_ok-lanes.ensures ∙ fresh_skews
 
 pub returns-clause-watches : goal.returns-clause-watches
 returns-clause-watches c =
-    made_watches c.args.link.now _ c.in_ok-lanes.lanes.items c.make.result c.args.skews.now c.make.ensures c.keeps_limits.ensures c.in_ok-lanes.ensures c.requires refl
+    made_watches c.args.link.now _ c.in_ok-lanes.lanes.items c.new.result c.args.skews.now c.new.ensures c.keeps_limits.ensures c.in_ok-lanes.ensures c.requires refl
