@@ -8,7 +8,7 @@ use Rattle.lane_model.specs.Framing.{sync_payload}
 use Rattle.word_text.specs.Lines.{AreLinesOf}
 use Rattle.word_text.specs.CodeLines.{inversion_in, IsSync, IsState, sync_text, state_text, other_text, IsCodeLine, rest_line}
 use Rattle.word_text.specs.Refusals.{IsCodeLineOfAny, IsRestLine}
-use Rattle.word_text.specs.Read.{number_behind, byte_at}
+use Rattle.word_text.specs.Read.{number_after, byte_at}
 use Rattle.word_text.proofs.Decided.{Decided, same-text, decided}
 use Rattle.word_text.proofs.WordLine.{behind-below}
 use Rattle.word_text.proofs.CodeText.{decide-sync, decide-state, is-sync, is-state, is-other, one-code-line, read-sync, read-state, read-other}
@@ -77,11 +77,11 @@ one-code line = by-sync (byte_at line 1 == 121) refl
   where
     by-state : (byte_at line 1 ≡ 121 → ⊥) → (t : Bool) → (byte_at line 1 == 116) ≡ t → OneCode line
     by-state n true e =
-        let state = number_behind 16 0 (drop 8 line) % 0x400000000000000 in
+        let state = number_after 16 0 (drop 8 line) % 0x400000000000000 in
         let c = with-parts (byte_at line 6 == 49) 2 (0x2800000000000000 + state) (omega arith) (omega arith) in
         record { code = c.code; below = c.below; only = λ y h is. read-state c.code y line c.below h is (eqb-true (byte_at line 1) 116 e) c.inversion c.has_header c.has_payload }
     by-state n false e =
-        let c = with-parts (byte_at line 5 == 49) (2 * digit (byte_at (drop 7 line) 0 == 49) + digit (byte_at (drop 7 line) 1 == 49)) (number_behind 16 0 (drop 10 line)) (header-below (byte_at (drop 7 line) 0 == 49) (byte_at (drop 7 line) 1 == 49)) (behind-below 16 0 (drop 10 line) (omega arith)) in
+        let c = with-parts (byte_at line 5 == 49) (2 * digit (byte_at (drop 7 line) 0 == 49) + digit (byte_at (drop 7 line) 1 == 49)) (number_after 16 0 (drop 10 line)) (header-below (byte_at (drop 7 line) 0 == 49) (byte_at (drop 7 line) 1 == 49)) (behind-below 16 0 (drop 10 line) (omega arith)) in
         record { code = c.code; below = c.below; only = λ y h is. read-other c.code y line c.below h is n (eqb-false (byte_at line 1) 116 e) c.inversion c.has_header c.has_payload }
 
     by-sync : (t : Bool) → (byte_at line 1 == 121) ≡ t → OneCode line

@@ -13,7 +13,7 @@ use Rattle.word_text.specs.Lines.{ended, text_of, AreLinesOf}
 use Rattle.word_text.specs.CodeLines.{inversion_in, IsSync, IsState, IsCodeLine, rest_line, rest_lines}
 use Rattle.word_text.specs.Listings.{lane_head, IsLaneListing}
 use Rattle.word_text.specs.Refusals.{IsCodeLineOfAny, IsRestLine, IsFirstWrongCode, HasNoWholeBytes}
-use Rattle.word_text.specs.Read.{byte_at, number_behind}
+use Rattle.word_text.specs.Read.{byte_at, number_after}
 use Rattle.word_text.proofs.Spelled.{lacks}
 use Rattle.word_text.proofs.Fields.{hex-alone}
 use Rattle.word_text.proofs.CodeText.{decide-sync, decide-state, one-code-line, glyph-back, header-back, payload-below, read-sync, read-state, read-other, code-lacks}
@@ -35,7 +35,7 @@ one-code a b line h k is other = by-kind (decide-sync a) (decide-state a)
     by-kind (inr n) (inl t) =
         let text = is.state t in
         let low : payload_in a < 2 ^ 64 = payload-below a in
-        let state : number_behind 16 0 (drop 8 line) ≡ payload_in a % 2 ^ 58 = ap (λ (l : List ℕ). number_behind 16 0 (drop 8 l)) text ∙ hex-alone 15 (payload_in a % 2 ^ 58) (omega arith) (omega arith) in
+        let state : number_after 16 0 (drop 8 line) ≡ payload_in a % 2 ^ 58 = ap (λ (l : List ℕ). number_after 16 0 (drop 8 l)) text ∙ hex-alone 15 (payload_in a % 2 ^ 58) (omega arith) (omega arith) in
         let mark : payload_in a / 2 ^ 58 ≡ 10 = t.1 in
         read-state a b line h k other (ap (λ (l : List ℕ). byte_at l 1) text) (sym (ap (λ (l : List ℕ). byte_at l 6 == 49) text ∙ glyph-back (inversion_in a))) t.0 (omega (arith, state, mark, low))
     by-kind (inr n) (inr m) =
@@ -45,7 +45,7 @@ one-code a b line h k is other = by-kind (decide-sync a) (decide-state a)
         read-other a b line h k other (λ e. omega (arith, second, e)) (λ e. omega (arith, second, e))
         (sym (ap (λ (l : List ℕ). byte_at l 5 == 49) text ∙ glyph-back (inversion_in a)))
         (sym (ap (λ (l : List ℕ). 2 * digit (byte_at (drop 7 l) 0 == 49) + digit (byte_at (drop 7 l) 1 == 49)) text ∙ header-back (header_in a) (omega arith)))
-        (sym (ap (λ (l : List ℕ). number_behind 16 0 (drop 10 l)) text ∙ hex-alone 16 (payload_in a) (omega arith) low))
+        (sym (ap (λ (l : List ℕ). number_after 16 0 (drop 10 l)) text ∙ hex-alone 16 (payload_in a) (omega arith) low))
 
 -- ---- one list of codes for the bits
 

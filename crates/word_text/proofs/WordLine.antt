@@ -18,7 +18,7 @@ use Rattle.control_words.proofs.SameControl.{highest}
 use Rattle.word_text.specs.Lines.{AreLinesOf}
 use Rattle.word_text.specs.WordLines.{control_text, IsControlLine, IsWordLine, IsSized}
 use Rattle.word_text.specs.Refusals.{IsWordLineOfAny}
-use Rattle.word_text.specs.Read.{digit_of, number_behind, behind_equals, byte_at, end_at}
+use Rattle.word_text.specs.Read.{digit_of, number_after, after_equals, byte_at, end_at}
 use Rattle.word_text.proofs.Decided.{Decided, decided}
 use Rattle.word_text.proofs.Fields.{fields-read}
 use Rattle.word_text.proofs.Words.{arm-data, arm-control, arm-bad, arm-fields, one-line}
@@ -131,12 +131,12 @@ eight a b c d e f g h p q r s t u v w i j k l m n o x = rw (i, j, k, l, m, n, o,
 -- the number of the control word that a line can tell
 told-number : List ℕ → ℕ
 told-number line =
-    placed (digit (byte_at line 0 == 98)) (digit (byte_at (behind_equals line) 0 == 49)) (eop_format (end_at (byte_at (behind_equals (behind_equals line)) 0)))
-    (digit (byte_at (behind_equals (behind_equals (behind_equals line))) 0 == 49))
-    (number_behind 16 0 (behind_equals (behind_equals (behind_equals (behind_equals line)))) % 0x10000)
-    (number_behind 10 0 (behind_equals (behind_equals (behind_equals (behind_equals (behind_equals line))))) % 0x100)
-    (number_behind 10 0 (behind_equals (behind_equals (behind_equals (behind_equals (behind_equals (behind_equals line)))))) % 0x100)
-    (number_behind 16 0 (behind_equals (behind_equals (behind_equals (behind_equals (behind_equals (behind_equals (behind_equals line))))))) % 0x1000000)
+    placed (digit (byte_at line 0 == 98)) (digit (byte_at (after_equals line) 0 == 49)) (eop_format (end_at (byte_at (after_equals (after_equals line)) 0)))
+    (digit (byte_at (after_equals (after_equals (after_equals line))) 0 == 49))
+    (number_after 16 0 (after_equals (after_equals (after_equals (after_equals line)))) % 0x10000)
+    (number_after 10 0 (after_equals (after_equals (after_equals (after_equals (after_equals line))))) % 0x100)
+    (number_after 10 0 (after_equals (after_equals (after_equals (after_equals (after_equals (after_equals line)))))) % 0x100)
+    (number_after 16 0 (after_equals (after_equals (after_equals (after_equals (after_equals (after_equals (after_equals line))))))) % 0x1000000)
 
 told-only : (line : List ℕ) (c : Control) (crc x : ℕ) → IsWordOf c crc x → line ≡ control_text c crc → told-number line ≡ x
 unfolding told-number
@@ -164,10 +164,10 @@ one-below : (t : Bool) (a b : ℕ) → a < 2 ^ 64 → b < 2 ^ 64 → (if t then 
 one-below true a b h k = h
 one-below false a b h k = k
 
-pub behind-below : (base n : ℕ) (cs : List ℕ) → n < 2 ^ 64 → number_behind base n cs < 2 ^ 64
-unfolding number_behind
+pub behind-below : (base n : ℕ) (cs : List ℕ) → n < 2 ^ 64 → number_after base n cs < 2 ^ 64
+unfolding number_after
 behind-below base n [] h = h
-behind-below base n (c ∷ cs) h = one-below (nat_lt (digit_of c) base) (number_behind base ((n * base % 2 ^ 64 + digit_of c) % 2 ^ 64) cs) n (behind-below base ((n * base % 2 ^ 64 + digit_of c) % 2 ^ 64) cs (omega arith)) h
+behind-below base n (c ∷ cs) h = one-below (nat_lt (digit_of c) base) (number_after base ((n * base % 2 ^ 64 + digit_of c) % 2 ^ 64) cs) n (behind-below base ((n * base % 2 ^ 64 + digit_of c) % 2 ^ 64) cs (omega arith)) h
 
 -- the one word of which a line can be the line
 record OneWord (line : List ℕ) : Type 0 where
@@ -180,7 +180,7 @@ one-word line = by-data (byte_at line 0 == 100) refl
   where
     by-bad : (byte_at line 0 ≡ 100 → ⊥) → (byte_at line 0 ≡ 99 → ⊥) → (t : Bool) → (byte_at line 1 == 97) ≡ t → OneWord line
     by-bad n m true e = record {
-      word = file.Bad (number_behind 16 0 (drop 4 line));
+      word = file.Bad (number_after 16 0 (drop 4 line));
       sized = behind-below 16 0 (drop 4 line) (omega arith);
       only = λ w s is. arm-bad line w n m (eqb-true (byte_at line 1) 97 e) s is;
     }
@@ -192,7 +192,7 @@ one-word line = by-data (byte_at line 0 == 100) refl
 
     by-control : (byte_at line 0 ≡ 100 → ⊥) → (t : Bool) → (byte_at line 0 == 99) ≡ t → OneWord line
     by-control n true e = record {
-      word = file.Control (number_behind 16 0 (drop 8 line));
+      word = file.Control (number_after 16 0 (drop 8 line));
       sized = behind-below 16 0 (drop 8 line) (omega arith);
       only = λ w s is. arm-control line w (eqb-true (byte_at line 0) 99 e) s is;
     }
@@ -200,7 +200,7 @@ one-word line = by-data (byte_at line 0 == 100) refl
 
     by-data : (t : Bool) → (byte_at line 0 == 100) ≡ t → OneWord line
     by-data true e = record {
-      word = file.Data (number_behind 16 0 (drop 5 line));
+      word = file.Data (number_after 16 0 (drop 5 line));
       sized = behind-below 16 0 (drop 5 line) (omega arith);
       only = λ w s is. arm-data line w (eqb-true (byte_at line 0) 100 e) s is;
     }

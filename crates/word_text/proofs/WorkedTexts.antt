@@ -12,7 +12,7 @@ use Rattle.word_text.specs.WordLines.{IsSized, IsWordLine}
 use Rattle.word_text.specs.CodeLines.{IsSync, IsCodeLine}
 use Rattle.word_text.specs.Listings.{words_head, lane_head, IsWordsListing, IsLaneListing}
 use Rattle.word_text.specs.Refusals.{IsRefusedFor, IsCodeLineOfAny, IsRestLine}
-use Rattle.word_text.specs.Read.{number_behind, byte_at}
+use Rattle.word_text.specs.Read.{number_after, byte_at}
 use Rattle.word_text.proofs.Spelled.{lacks}
 use Rattle.word_text.proofs.CodeText.{is-sync, read-other, code-lacks}
 use Rattle.word_text.proofs.Pieces.{cut-once}
@@ -71,8 +71,8 @@ one-sync = record {
 abbrev other_spelling : List ℕ
 other_spelling = codes "code 0 10 78F678F678F678F6"
 
-number : number_behind 16 0 (codes "78F678F678F678F6") ≡ 0x78F678F678F678F6
-unfolding number_behind
+number : number_after 16 0 (codes "78F678F678F678F6") ≡ 0x78F678F678F678F6
+unfolding number_after
 number = refl
 
 no-code : (code : ℕ) → code < 2 ^ 67 → IsCodeLine code other_spelling → ⊥

@@ -3,7 +3,7 @@ ghost use Rattle.lk_base.specs.Checksum.{digit};
 ghost use Rattle.word_text.specs.Read.{byte_at};
 ghost use Rattle.word_text.specs.CodeLines.{IsCodeLine};
 
-use crate::cut::{after_start, behind, byte_at};
+use crate::cut::{after, after_start, byte_at};
 use crate::digits::number_of;
 use crate::line_of_code::{CONTROL, STATE_BITS, code_line};
 use coding_67b::code_with;
@@ -36,13 +36,13 @@ fn code_candidate(line: &[u8]) -> u128
         return code_with(is_one(fields, 0), CONTROL, SYNC);
     }
     if let Some(fields) = after_start(line, b"state ") {
-        let state = number_of(behind(fields, 2), 16) % (1 << STATE_BITS);
+        let state = number_of(after(fields, 2), 16) % (1 << STATE_BITS);
         return code_with(is_one(fields, 0), CONTROL, SCRAMBLER_STATE + state);
     }
     // after "code "
-    let fields = behind(line, 5);
-    let header = header_at(behind(fields, 2));
-    let payload = number_of(behind(fields, 5), 16);
+    let fields = after(line, 5);
+    let header = header_at(after(fields, 2));
+    let payload = number_of(after(fields, 5), 16);
     code_with(is_one(fields, 0), header, payload)
 }
 

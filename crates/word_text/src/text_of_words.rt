@@ -5,7 +5,7 @@ ghost use Rattle.word_text.specs.Answers.{words_error, ListsWords, AnswersWords}
 ghost use Rattle.word_text.specs.WordLines.{nine_bytes, IsSized, IsWordLine};
 ghost use Rattle.word_text.specs.Lines.{ended};
 
-use crate::cut::behind;
+use crate::cut::after;
 use crate::digits::{put, put_byte};
 use crate::error::WordsAt;
 use crate::line_of_word::word_line;
@@ -79,7 +79,7 @@ fn put_words_text(
             Err(refusal) => return Ok(Err(refusal)),
         };
         put_word(&mut line, out, word)?;
-        rest = behind(rest, 9);
+        rest = after(rest, 9);
         offset += 9;
         count += 1;
     }

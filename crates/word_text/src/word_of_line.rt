@@ -5,7 +5,7 @@ ghost use Rattle.word_text.specs.declared.word.FileWord.{FileWord};
 ghost use Rattle.word_text.specs.Read.{byte_at, end_at};
 ghost use Rattle.word_text.specs.WordLines.{IsWordLine, IsSized, control_text};
 
-use crate::cut::{behind, behind_equals, byte_at};
+use crate::cut::{after_equals, after_start, byte_at};
 use crate::digits::number_of;
 use crate::line_of_word::word_line;
 use crate::word::FileWord;
@@ -32,13 +32,13 @@ fn end_of(text: &[u8]) -> Eop
 fn control_of(line: &[u8]) -> u64
     ensures { (c : Control) (crc x : ℕ) → IsWordOf c crc x → line.now ≡ control_text c crc → result ≡ x }
 {
-    let sop = behind_equals(line);
-    let eop = behind_equals(sop);
-    let reset = behind_equals(eop);
-    let flow = behind_equals(reset);
-    let channel = behind_equals(flow);
-    let multi = behind_equals(channel);
-    let crc = behind_equals(multi);
+    let sop = after_equals(line);
+    let eop = after_equals(sop);
+    let reset = after_equals(eop);
+    let flow = after_equals(reset);
+    let channel = after_equals(flow);
+    let multi = after_equals(channel);
+    let crc = after_equals(multi);
     let c = Control {
         burst: byte_at(line, 0) == b'b',
         sop: byte_at(sop, 0) == b'1',
@@ -51,21 +51,22 @@ fn control_of(line: &[u8]) -> u64
     to_word(c, (number_of(crc, 16) % 0x100_0000) as u32)
 }
 
-// The word that a line can be the line of, and no other.
+// The word that a line can be the line of, and no other. A line is `data X`, `control X` or `bad X`, with the number X in
+// hexadecimal digits, or has the fields of a control word. What stands after the digits is not looked at: `word_of` spells the
+// word again and compares.
 fn candidate(line: &[u8]) -> FileWord
     ensures { (word : FileWord) → IsSized word → IsWordLine word line.now → result ≡ word }
 {
-    let first = byte_at(line, 0);
-    let second = byte_at(line, 1);
-    if first == b'd' {
-        FileWord::Data(number_of(behind(line, 5), 16))
-    } else if first == b'c' {
-        FileWord::Control(number_of(behind(line, 8), 16))
-    } else if second == b'a' {
-        FileWord::Bad(number_of(behind(line, 4), 16))
-    } else {
-        FileWord::Control(control_of(line))
+    if let Some(digits) = after_start(line, b"data ") {
+        return FileWord::Data(number_of(digits, 16));
     }
+    if let Some(digits) = after_start(line, b"control ") {
+        return FileWord::Control(number_of(digits, 16));
+    }
+    if let Some(digits) = after_start(line, b"bad ") {
+        return FileWord::Bad(number_of(digits, 16));
+    }
+    FileWord::Control(control_of(line))
 }
 
 // The word of which this is the line. `None` exactly where it is the line of no word. A word is spelled in the buffer.

@@ -8,6 +8,7 @@ use crate::cut::first_line;
 use crate::digits::{put, put_byte};
 use crate::word::FileWord;
 use crate::word_of_line::word_of;
+use byteorder::{BigEndian, ByteOrder};
 use lk_base::OutOfMemory;
 use std::alloc::Global;
 use words_files::TextError;
@@ -37,8 +38,10 @@ fn put_nine(bytes: &mut Vec<u8>, word: FileWord) -> Result<(), OutOfMemory>
     ensures ok { OnOk result (bytes.new.items ≡ bytes.old.items ++ nine_bytes word) }
     ensures kept { IsKept bytes.old.items bytes.new.items }
 {
+    let mut number = [0; 8];
+    BigEndian::write_u64(&mut number, number_in(word));
     put_byte(bytes, tag_of(word))?;
-    put(bytes, &number_in(word).to_be_bytes())
+    put(bytes, &number)
 }
 
 // Appends the bytes of the words of these lines, which come after the first line of a text, to `out`, or as many as there

@@ -40,10 +40,10 @@ pub loop-rest-preserved : goal.loop-rest-preserved
 loop-rest-preserved c =
     let some : 0 < length c.loop-rest.rest.now = search rules in
     let (sized, enough, nine) = (c.in-Ok.ensures {u = tt}).word in
-    let fewer = ap length c.behind-rest.ensures ∙ length-drop 9 c.loop-rest.rest.now in
+    let fewer = ap length c.after-rest.ensures ∙ length-drop 9 c.loop-rest.rest.now in
     record {
-      listed = more c.args.out.now.items c.loop-rest.out.items c.put_word.new.text.items c.args.bytes.now c.loop-rest.rest.now c.behind-rest.result.now c.loop-rest.count c.in-Ok.word sized nine c.behind-rest.ensures (c.in_ok-put_word.ensures {u = tt}).ok c.loop-rest.invariant.listed;
-      read = subst (λ (l : List ℕ). ReadSoFar c.args.bytes.now l (c.loop-rest.offset + 9)) (sym c.behind-rest.ensures) (read-more c.args.bytes.now c.loop-rest.rest.now c.loop-rest.offset c.in-Ok.word some nine c.loop-rest.invariant.read);
+      listed = more c.args.out.now.items c.loop-rest.out.items c.put_word.new.text.items c.args.bytes.now c.loop-rest.rest.now c.after-rest.result.now c.loop-rest.count c.in-Ok.word sized nine c.after-rest.ensures (c.in_ok-put_word.ensures {u = tt}).ok c.loop-rest.invariant.listed;
+      read = subst (λ (l : List ℕ). ReadSoFar c.args.bytes.now l (c.loop-rest.offset + 9)) (sym c.after-rest.ensures) (read-more c.args.bytes.now c.loop-rest.rest.now c.loop-rest.offset c.in-Ok.word some nine c.loop-rest.invariant.read);
       stands = omega (arith, c.loop-rest.invariant.stands, fewer, enough);
       few = omega (arith, c.loop-rest.invariant.few, fewer, enough);
     }

@@ -1,22 +1,16 @@
-use Rattle.std.proofs.Common.{sym, ap, ◌∙◌}
+use Rattle.std.proofs.Common.{ap, ◌∙◌}
 use Rattle.word_text.specs.declared.word.FileWord.TheVariants as file
-use Rattle.word_text.specs.Read.{number_behind}
-use Rattle.word_text.proofs.Words.{arm-data, arm-control, arm-bad, arm-fields}
+use Rattle.word_text.proofs.Words.{data-after, control-after, bad-after, fields-after}
 use Rattle.word_text.proofs.word_of_line.candidate.Goals as goal
 
-pub returns-then-first-eq100 : goal.returns-then-first-eq100
-returns-then-first-eq100 c word s e =
-    ap file.Data (c.number_of.ensures ∙ ap (number_behind 16 0) c.behind.ensures) ∙ arm-data c.args.line.now word (sym c.byte_at-first.ensures ∙ c.if-first-eq100.true) s e
+pub returns-in-Some : goal.returns-in-Some
+returns-in-Some c word s e = ap file.Data c.number_of.ensures ∙ data-after c.args.line.now c.in-Some.digits.now word c.in-Some.ensures s e
 
-pub returns-then-first-eq99 : goal.returns-then-first-eq99
-returns-then-first-eq99 c word s e =
-    ap file.Control (c.number_of-then-first-eq99.ensures ∙ ap (number_behind 16 0) c.behind-then-first-eq99.ensures) ∙ arm-control c.args.line.now word (sym c.byte_at-first.ensures ∙ c.if-first-eq99.true) s e
+pub returns-in-Some-after_start : goal.returns-in-Some-after_start
+returns-in-Some-after_start c word s e = ap file.Control c.number_of-in-Some-after_start.ensures ∙ control-after c.args.line.now c.in-Some-after_start.digits.now word c.in-Some-after_start.ensures s e
 
-pub returns-then-second-eq97 : goal.returns-then-second-eq97
-returns-then-second-eq97 c word s e =
-    ap file.Bad (c.number_of-then-second-eq97.ensures ∙ ap (number_behind 16 0) c.behind-then-second-eq97.ensures)
-    ∙ arm-bad c.args.line.now word (λ k. c.if-first-eq100.false (c.byte_at-first.ensures ∙ k)) (λ k. c.if-first-eq99.false (c.byte_at-first.ensures ∙ k)) (sym c.byte_at-second.ensures ∙ c.if-second-eq97.true) s e
+pub returns-in-Some-after_start-2 : goal.returns-in-Some-after_start-2
+returns-in-Some-after_start-2 c word s e = ap file.Bad c.number_of-in-Some-after_start-2.ensures ∙ bad-after c.args.line.now c.in-Some-after_start-2.digits.now word c.in-Some-after_start-2.ensures s e
 
-pub returns-else-second-eq97 : goal.returns-else-second-eq97
-returns-else-second-eq97 c word s e =
-    arm-fields c.args.line.now c.control_of.result word c.control_of.ensures (λ k. c.if-first-eq100.false (c.byte_at-first.ensures ∙ k)) (λ k. c.if-first-eq99.false (c.byte_at-first.ensures ∙ k)) (λ k. c.if-second-eq97.false (c.byte_at-second.ensures ∙ k)) e
+pub returns : goal.returns
+returns c word s e = fields-after c.args.line.now c.control_of.result word c.control_of.ensures c.in_default.ensures c.in_default-after_start.ensures c.in_default-after_start-2.ensures e
