@@ -28,10 +28,5 @@ pub fn add_part(text: &mut String, part: &str) -> Result<(), OutOfMemory> {
 ///
 /// `OutOfMemory` where memory ran out.
 pub fn hex_of(alloc: Global, bytes: &[u8]) -> Result<String, OutOfMemory> {
-    let mut digits = String::new(alloc);
-    for byte in bytes {
-        let two = format!(in alloc; "{:02X}", *byte)?;
-        digits.push_str(two.as_str())?;
-    }
-    Ok(digits)
+    Ok(hex::encode_upper(alloc, bytes)?)
 }
