@@ -12,28 +12,7 @@ use Rattle.burst_scheduler.proofs.Turning.{same_ring}
 
 -- the same scheduler with another ring, by whatever proof that its end is in range
 abbrev pub started_with : (s : Scheduler) → Held → IsInRange s.eop → Scheduler
-started_with s ring range = record {
-  sizes = s.sizes;
-  short = s.short;
-  group = s.group;
-  warm = s.warm;
-  channels = s.channels;
-  order = s.order;
-  queues = s.queues;
-  incoming = s.incoming;
-  outgoing = s.outgoing;
-  ready = ring;
-  started = true;
-  slot = s.slot;
-  run = s.run;
-  count = s.count;
-  given = s.given;
-  eop = s.eop;
-  free = s.free;
-  finish = s.finish;
-  held = s.held;
-  end_in_range = range;
-}
+started_with s ring range = record s { ready = ring; started = true; end_in_range = range }
 
 pub line_filled : (s : Scheduler) (a : Asked) (ring : Held) (range : IsInRange s.eop) → Holds s a → s.started ≡ false → IsSameSize s.ready ring → IsApart ring
     → ring_list ring ≡ filter (has_chunk s.queues.items) (places_of s.order.items) → Holds (started_with s ring range) a
@@ -59,7 +38,6 @@ line_filled s a ring range g fresh same apart is = record {
   at = g.at;
   only = g.only;
   room = (same_ring s.ready ring (length a.source.channels) same apart g.room.0, g.room.1);
-  waiting = λ _. tt;
   line = λ _. subst (λ ps. IsLine a.source (told_back a.source.entries a.source.flow) (planned s a) (channels_at s.channels.items ps)) (sym is) (first_line s a g fresh);
   unstarted = λ f. let no : true ≡ false = f in cc;
   long = g.long;
@@ -76,8 +54,8 @@ runs_filled s a ring range g fresh same apart is = record { words = line_filled 
 
 pub changed_first : (s : Scheduler) (a : Asked) (ring : Held) (range : IsInRange s.eop) → HasWords s a → s.started ≡ false → ring.links ≤ s.ready.links + length s.order.items → ChangesRing s (started_with s ring range) a 0
 changed_first s a ring range g fresh few = record {
-  first = let n : length s.order.items ≡ length a.source.channels = as_many a.source.channels s.order.items g.room.1 in omega (arith, few, n);
-  later = λ begun. let u = g.unstarted fresh in elim begun [
+  first = let n : length s.order.items ≡ length a.source.channels = as_many a.source.channels s.order.items g.holds.room.1 in omega (arith, few, n);
+  later = λ begun. let u = g.holds.unstarted fresh in elim begun [
     | inl w ↦ absurd (let l = ap length u.0 in omega (arith, w, l))
     | inr f ↦ absurd (let l = ap length u.1 in omega (arith, f, l))
   ];

@@ -65,28 +65,7 @@ no_finish s a d rest g come z is = let none : to_come s ≡ [] = nothing_behind 
 -- ---- a step and the next
 
 abbrev after_one : Scheduler → Scheduler
-after_one s = record {
-  sizes = s.sizes;
-  short = s.short;
-  group = s.group;
-  warm = s.warm;
-  channels = s.channels;
-  order = s.order;
-  queues = s.queues;
-  incoming = s.incoming;
-  outgoing = s.outgoing;
-  ready = s.ready;
-  started = s.started;
-  slot = s.slot + 1;
-  run = s.run;
-  count = s.count;
-  given = s.given + 1;
-  eop = s.eop;
-  free = s.free;
-  finish = s.finish;
-  held = s.held;
-  end_in_range = s.end_in_range;
-}
+after_one s = record s { slot = s.slot + 1; given = s.given + 1 }
 
 keeps_one : (s : Scheduler) → KeepsAllButGiven s (after_one s)
 keeps_one s = record {

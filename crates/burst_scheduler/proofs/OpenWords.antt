@@ -59,4 +59,4 @@ open_of_right source w right = record {
 
 -- the rest of the burst under way is left out
 pub words_are_open : (s : Scheduler) (a : Asked) → HasWords s a → IsOpenStream a.source a.words
-words_are_open s a has = open_front a.source a.words (map Data (to_come s)) (open_of_right a.source (planned s a) has.right)
+words_are_open s a has = open_front a.source a.words (map Data (to_come s)) (open_of_right a.source (planned s a) has.holds.right)

@@ -18,7 +18,6 @@ use Rattle.burst_scheduler.specs.declared.scheduler.Scheduler.{Scheduler}
 use Rattle.stream_model.proofs.Growing.{no_bursts}
 use Rattle.burst_scheduler.proofs.Blocks.{last_step, last_old}
 use Rattle.burst_scheduler.proofs.Due.{ready_by, ready_of, key_same}
-use Rattle.burst_scheduler.proofs.Refit.{holds}
 use Rattle.burst_scheduler.proofs.Rings.{apart_at, at_place, place_at}
 use Rattle.burst_scheduler.proofs.Turning.{listed_in}
 
@@ -84,11 +83,11 @@ holds_ready s a g on = record {
 
 -- a flow or a step was asked, so the line was filled
 pub ready_now : (s : Scheduler) (a : Asked) → HasWords s a → HasBegun a → HoldsReady s.ready a.source a.words
-ready_now s a g begun = holds_ready s a (holds s a g) (by s.started refl)
+ready_now s a g begun = holds_ready s a g.holds (by s.started refl)
   where
     by : (b : Bool) → s.started ≡ b → s.started ≡ true
     by true e = e
-    by false e = let u = g.unstarted e in elim begun [
+    by false e = let u = g.holds.unstarted e in elim begun [
       | inl w ↦ absurd (let l = ap length u.0 in omega (arith, w, l))
       | inr f ↦ absurd (let l = ap length u.1 in omega (arith, f, l))
     ]

@@ -7,6 +7,7 @@ use Rattle.stream_model.specs.BurstStream.{Source}
 use Rattle.stream_model.specs.declared.rows.FlowRow.{FlowRow}
 use Rattle.burst_scheduler.specs.Asked.{Asked, first_asked, packet_added}
 use Rattle.burst_scheduler.specs.Gives.{Gives}
+use Rattle.burst_scheduler.proofs.Calls.{has_words}
 use Rattle.duplex_model.specs.DuplexRun.{Settings, AreSettings, Ends, alone, rows_from, flow_rows, last_control, queue_before, peak, local_rows, source_of}
 use Rattle.duplex.specs.Queues.{names, empty_queue, queue_at, IsQueueOf, AreQueues}
 use Rattle.duplex.specs.Ways.{IsOnWay}
@@ -108,7 +109,7 @@ begins s settings ends packets f = record {
   hears = subst (λ (w : List Word). Hears s (source_of settings ends packets [] 0) [] w) (sym (nothing_sent (0 - settings.delay))) (record {
     asks = record {
       asked = f.asked;
-      gives = f.gives.words;
+      gives = has_words f.gives;
       source_is = f.source_is ∙ ap (λ (rows : List FlowRow). let source : Source = record (alone ends packets) { flow = rows } in source) (sym (no_rows settings));
       words = f.words;
       still = f.still;

@@ -8,7 +8,6 @@ use Rattle.stream_model.specs.declared.rows.LocalRow.{LocalRow}
 use Rattle.burst_scheduler.specs.Asked.{Asked, with_rows, MayCome, GivesAll}
 use Rattle.burst_scheduler.specs.declared.scheduler.Scheduler.{Scheduler}
 use Rattle.burst_scheduler.proofs.Prefix.{gives_prefix}
-use Rattle.burst_scheduler.proofs.Refit.{runs}
 use Rattle.tx_words.specs.Driving.{Drives, driven, having_rows}
 use Rattle.tx_words.proofs.Steps.{rest_all}
 
@@ -35,5 +34,5 @@ module _ (sch : Scheduler) (source : Source) (words : List Word) (f l : ℕ) (d 
   -- the words are the first of any stream of the source
   pub first_given : (w : List Word) → IsBurstStream source w → take (length words) w ≡ words
   first_given w stream =
-      gives_prefix sch asked (runs sch asked d.gives) (drop f source.flow) (drop l source.local) w rows_left
+      gives_prefix sch asked d.gives.runs (drop f source.flow) (drop l source.local) w rows_left
       (subst (λ (q : Source). IsBurstStream q w) (sym source_again) stream)

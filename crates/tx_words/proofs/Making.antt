@@ -39,4 +39,4 @@ pub few_started : (m : WordMaker) (source : Source) (words : List Word) → Each
 few_started m source words each k =
     let d = k.drives in
     let a = driven (having_rows source m.flow.now m.local.now) words m.flow_passed m.local_passed d.opened d.waits d.closed in
-    few_words a.source words (map Data (to_come m.scheduler)) each (follows_right a.source (planned m.scheduler a) d.gives.words.right)
+    few_words a.source words (map Data (to_come m.scheduler)) each (follows_right a.source (planned m.scheduler a) d.gives.runs.words.right)

@@ -11,4 +11,4 @@ returns-clause-none c a has before = by c.args.self.now.started refl
   where
     by : (b : Bool) → c.args.self.now.started ≡ b → ring_list c.args.self.now.ready ≡ []
     by true e = absurd (before (has.waiting e))
-    by false e = (has.unstarted e).2
+    by false e = (has.holds.unstarted e).2

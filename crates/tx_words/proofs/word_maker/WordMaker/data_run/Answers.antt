@@ -6,6 +6,7 @@ use Rattle.lk_base.specs.declared.word.Word.{Word}
 use Rattle.stream_model.specs.declared.rows.FlowRow.{FlowRow}
 use Rattle.stream_model.specs.declared.rows.LocalRow.{LocalRow}
 use Rattle.burst_scheduler.specs.Asked.{Asked, bound, stepped_by}
+use Rattle.burst_scheduler.proofs.Calls.{has_words}
 use Rattle.tx_words.specs.Driving.{Drives, FlowLater, LocalLater, driven, having_rows}
 use Rattle.tx_words.proofs.BlockWords.{rest_cut}
 use Rattle.tx_words.proofs.Passing.{later_before}
@@ -20,6 +21,9 @@ data_run-requires c =
     let src = having_rows source m.flow.now m.local.now in
     record { gives = (driven src words m.flow_passed m.local_passed d.opened d.waits d.closed, d.gives, few_words m.scheduler m.scheduler src words m.flow_passed m.local_passed m.flow_passed m.local_passed d k.timed) }
 
+pub slot-slot-requires : goal.slot-slot-requires
+slot-slot-requires c = let (source, words, k) = c.requires in record { words = (_, has_words k.drives.gives) }
+
 pub returns-clause-given : goal.returns-clause-given
 returns-clause-given c source words k =
     let m = c.args.self.now in
@@ -29,7 +33,7 @@ returns-clause-given c source words k =
     let src = having_rows source m.flow.now m.local.now in
     let a : Asked = driven src words f l d.opened d.waits d.closed in
     let more = nat_lt f (length m.flow.now) in
-    let at = c.slot-slot.ensures.count _ d.gives.words in
+    let at = c.slot-slot.ensures.count _ (has_words d.gives) in
     let vs : List Word = take c.data_run.result c.data_run.new.out in
     let within = c.data_run.ensures.within in
     let same = c.data_run.ensures.long in

@@ -3,27 +3,28 @@ use Rattle.std.proofs.lemmas.Bool.{ltb-true, ltb-false}
 use Rattle.stream_model.specs.BurstStream.{Source, IsBurstStream}
 use Rattle.burst_scheduler.specs.Asked.{words_of, stepped}
 use Rattle.burst_scheduler.specs.Gives.{Gives}
+use Rattle.burst_scheduler.proofs.Calls.{has_words}
 use Rattle.tx_words.specs.Driving.{FlowLater, LocalLater, having_rows, driven}
 use Rattle.tx_words.proofs.Leftover.{all_given}
 use Rattle.tx_words.proofs.Steps.{may, few_words, given, stayed}
 use Rattle.tx_words.proofs.word_maker.WordMaker.next.Goals as goal
 
 pub slot-slot-requires : goal.slot-slot-requires
-slot-slot-requires c = let (source, words, k) = c.requires in record { words = (_, k.drives.gives.words) }
+slot-slot-requires c = let (source, words, k) = c.requires in record { words = (_, has_words k.drives.gives) }
 
 pub pass_local-self-requires-clause-gives : goal.pass_local-self-requires-clause-gives
 pass_local-self-requires-clause-gives c =
     let (source, words, k) = c.requires in
     let m = c.args.self.now in
     let d = k.drives in
-    (driven (having_rows source m.flow.now m.local.now) words m.flow_passed m.local_passed d.opened d.waits d.closed, d.gives, refl, c.slot-slot.ensures.count _ d.gives.words)
+    (driven (having_rows source m.flow.now m.local.now) words m.flow_passed m.local_passed d.opened d.waits d.closed, d.gives, refl, c.slot-slot.ensures.count _ (has_words d.gives))
 
 pub pass_flow-self-requires-clause-gives : goal.pass_flow-self-requires-clause-gives
 pass_flow-self-requires-clause-gives c =
     let (source, words, k) = c.requires in
     let m = c.args.self.now in
     let d = k.drives in
-    let at = c.slot-slot.ensures.count _ d.gives.words in
+    let at = c.slot-slot.ensures.count _ (has_words d.gives) in
     let src = having_rows source m.flow.now m.local.now in (
       driven src words m.flow_passed c.pass_local-self.result d.opened d.waits d.closed,
       c.pass_local-self.ensures.gives (driven src words m.flow_passed m.local_passed d.opened d.waits d.closed) d.gives refl at,
@@ -37,7 +38,7 @@ step-requires c =
     let (source, words, k) = c.requires in
     let m = c.args.self.now in
     let d = k.drives in
-    let at = c.slot-slot.ensures.count _ d.gives.words in
+    let at = c.slot-slot.ensures.count _ (has_words d.gives) in
     let src = having_rows source m.flow.now m.local.now in
     let l = c.pass_local-self.result in
     let f = c.pass_flow-self.result in
@@ -56,7 +57,7 @@ pub returns-clause-some : goal.returns-clause-some
 returns-clause-some c source words word k is =
     let m = c.args.self.now in
     let d = k.drives in
-    let at = c.slot-slot.ensures.count _ d.gives.words in
+    let at = c.slot-slot.ensures.count _ (has_words d.gives) in
     let src = having_rows source m.flow.now m.local.now in
     let l = c.pass_local-self.result in
     let f = c.pass_flow-self.result in
@@ -83,7 +84,7 @@ pub returns-clause-none : goal.returns-clause-none
 returns-clause-none c source words k is =
     let m = c.args.self.now in
     let d = k.drives in
-    let at = c.slot-slot.ensures.count _ d.gives.words in
+    let at = c.slot-slot.ensures.count _ (has_words d.gives) in
     let src = having_rows source m.flow.now m.local.now in
     let l = c.pass_local-self.result in
     let f = c.pass_flow-self.result in
