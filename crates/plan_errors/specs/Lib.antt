@@ -1,2 +1,3 @@
 -- cited by public clauses
 pub mod Texts
+pub mod Rows
