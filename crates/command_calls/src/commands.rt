@@ -4,19 +4,8 @@ ghost use Rattle.std.specs.Prelude.{◌<◌, ◌^◌};
 use lk_base::OutOfMemory;
 use lk_outside::MemStore;
 use run_shell::FileCommand;
-use run_stops::{Fault, Stop, fault_line};
+use run_stops::fault_line;
 use std::alloc::Global;
-
-// The fault that stopped a command.
-fn fault_of(alloc: Global, stop: Stop) -> Result<Fault, OutOfMemory> {
-    match stop {
-        Stop::Plan(why) => Ok(Fault::Plan(why)),
-        Stop::Input(name, why) => Ok(Fault::Input(name, why)),
-        Stop::Store(name) => Ok(Fault::Store(name)),
-        Stop::StoreNoMemory => Ok(Fault::Store(String::from_str(alloc, "?")?)),
-        Stop::OutOfMemory => Err(OutOfMemory),
-    }
-}
 
 /// The text of a command of the file of this name, or the line of what stopped it.
 pub fn obeyed<C: FileCommand>(
@@ -30,8 +19,7 @@ pub fn obeyed<C: FileCommand>(
         Ok(finished) => Ok(finished.text),
         Err(stop) => {
             let mut line = Vec::new(alloc);
-            let fault = fault_of(alloc, stop)?;
-            fault_line(alloc, &mut line, &fault)?;
+            fault_line(alloc, &mut line, &stop)?;
             Ok(line)
         }
     }

@@ -1,5 +1,5 @@
 //! How the work of a command ends, and the saying of its text.
-ghost use Rattle.std.specs.Prelude.{◌≡◌, ◌++◌, ◌<◌, ◌^◌, OnOk, IfOk};
+ghost use Rattle.std.specs.Prelude.{◌≡◌, ◌<◌, ◌^◌, IfOk};
 ghost use Rattle.run_stops.specs.Stops.{stop_text, is_of_store};
 ghost use Rattle.run_shell.specs.Ends.{stop_status, held_status};
 ghost use Rattle.run_shell.specs.Run.{Says, sink_failed};
@@ -10,7 +10,7 @@ use crate::command::Command;
 use crate::status::Status;
 use lk_base::OutOfMemory;
 use lk_outside::{Sink, Store, WriteError};
-use run_stops::{Stop, input_line, memory_line, plan_line, store_line, usage_line};
+use run_stops::{Stop, fault_line, memory_line, usage_line};
 use std::alloc::Global;
 use std::marker::Model;
 
@@ -74,27 +74,12 @@ fn is_of_store(stop: &Stop) -> bool
     matches!(stop, Stop::Store(_) | Stop::StoreNoMemory)
 }
 
-// Appends the line of a stop.
-fn append_stop(alloc: Global, line: &mut Vec<u8>, stop: &Stop) -> Result<(), OutOfMemory>
-    ensures { OnOk result (line.new.items ≡ line.old.items ++ stop_text stop.now) }
-{
-    match stop {
-        Stop::Plan(why) => plan_line(alloc, line, why),
-        Stop::Input(name, why) => input_line(alloc, line, name.as_str(), why),
-        Stop::Store(name) => store_line(alloc, line, name.as_str()),
-        Stop::StoreNoMemory | Stop::OutOfMemory => {
-            line.extend_from_slice(memory_line())?;
-            Ok(())
-        }
-    }
-}
-
 // The one line of a stop.
 fn stop_line(alloc: Global, stop: &Stop) -> Result<Vec<u8>, OutOfMemory>
     ensures { IfOk result (λ line. line.items ≡ stop_text stop.now) }
 {
     let mut line = Vec::new(alloc);
-    append_stop(alloc, &mut line, stop)?;
+    fault_line(alloc, &mut line, stop)?;
     Ok(line)
 }
 

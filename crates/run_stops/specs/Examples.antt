@@ -6,23 +6,24 @@ use Rattle.plan_errors.specs.declared.error.Key.TheVariants as key
 use Rattle.pcap_files.specs.declared.error.PcapError.TheVariants as capture
 use Rattle.words_files.specs.declared.text_error.TextError.TheVariants as listing
 use Rattle.run_stops.specs.declared.faults.InputError.TheVariants as cause
-use Rattle.run_stops.specs.declared.faults.Fault.TheVariants as fault
-use Rattle.run_stops.specs.Faults.{input_line, store_line, fault_line}
+use Rattle.run_stops.specs.declared.stop.Stop.TheVariants as stop
+use Rattle.run_stops.specs.Faults.{usage_line, input_line, store_line}
+use Rattle.run_stops.specs.Stops.{stop_text}
 
 abbrev pub line : List ℕ → List ℕ
 line text = text ++ codes "\n"
 
 pub record WorkedLines : Type 0 where
-  pub usage : fault_line fault.Usage ≡ line (codes "usage: interlaken COMMAND FILE, or interlaken generate NUMBER PREFIX")
-  pub no_plan : fault_line (fault.Plan refusal.NoFile) ≡ line (codes "plan refused: no file")
-  pub faulty_row : fault_line (fault.Plan (refusal.Clash 3)) ≡ line (codes "plan refused: row 3: clash")
-  pub missing_key : fault_line (fault.Plan (refusal.Missing key.Metaframe)) ≡ line (codes "plan refused: missing metaframe")
-  pub missing_samples : fault_line (fault.Plan (refusal.Missing key.Oob)) ≡ line (codes "plan refused: missing oob")
-  pub missing_events : fault_line (fault.Plan (refusal.Missing key.Events)) ≡ line (codes "plan refused: missing events")
-  pub missing_plan : fault_line (fault.Plan (refusal.Missing key.Plan)) ≡ line (codes "plan refused: missing plan")
-  pub missing_delay : fault_line (fault.Plan (refusal.Missing key.Delay)) ≡ line (codes "plan refused: missing delay")
-  pub missing_mark : fault_line (fault.Plan (refusal.Missing key.Mark)) ≡ line (codes "plan refused: missing mark")
-  pub missing_slots : fault_line (fault.Plan (refusal.Missing key.Slots)) ≡ line (codes "plan refused: missing slots")
+  pub usage : usage_line ≡ line (codes "usage: interlaken COMMAND FILE, or interlaken generate NUMBER PREFIX")
+  pub no_plan : stop_text (stop.Plan refusal.NoFile) ≡ line (codes "plan refused: no file")
+  pub faulty_row : stop_text (stop.Plan (refusal.Clash 3)) ≡ line (codes "plan refused: row 3: clash")
+  pub missing_key : stop_text (stop.Plan (refusal.Missing key.Metaframe)) ≡ line (codes "plan refused: missing metaframe")
+  pub missing_samples : stop_text (stop.Plan (refusal.Missing key.Oob)) ≡ line (codes "plan refused: missing oob")
+  pub missing_events : stop_text (stop.Plan (refusal.Missing key.Events)) ≡ line (codes "plan refused: missing events")
+  pub missing_plan : stop_text (stop.Plan (refusal.Missing key.Plan)) ≡ line (codes "plan refused: missing plan")
+  pub missing_delay : stop_text (stop.Plan (refusal.Missing key.Delay)) ≡ line (codes "plan refused: missing delay")
+  pub missing_mark : stop_text (stop.Plan (refusal.Missing key.Mark)) ≡ line (codes "plan refused: missing mark")
+  pub missing_slots : stop_text (stop.Plan (refusal.Missing key.Slots)) ≡ line (codes "plan refused: missing slots")
   pub no_lanes : input_line (codes "p.plan") (cause.Rows (refusal.Missing key.Lanes)) ≡ line (codes "input refused: p.plan: missing lanes")
   pub cut_capture : input_line (codes "a.pcap") (cause.Pcap (capture.Short 24)) ≡ line (codes "input refused: a.pcap: short at 24")
   pub faulty_flow : input_line (codes "f") (cause.Rows (refusal.Number 2)) ≡ line (codes "input refused: f: row 2: number")
@@ -31,4 +32,4 @@ pub record WorkedLines : Type 0 where
   pub no_whole_bytes : input_line (codes "a.txt") (cause.Text listing.Length) ≡ line (codes "input refused: a.txt: length")
   pub bad_sample : input_line (codes "o.oob") (cause.Samples 11) ≡ line (codes "input refused: o.oob: sample at 11")
   pub store : store_line (codes "a.pcap.words") ≡ line (codes "store fault: a.pcap.words")
-  pub memory : fault_line fault.OutOfMemory ≡ line (codes "out of memory")
+  pub memory : stop_text stop.OutOfMemory ≡ line (codes "out of memory")

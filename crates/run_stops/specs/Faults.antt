@@ -1,5 +1,5 @@
 -- The one line of a run that was stopped.
-use Rattle.std.specs.Prelude.{ℕ, List, ◌++◌, string_bytes}
+use Rattle.std.specs.Prelude.{ℕ, List, ◌++◌}
 use lib.Chars.{codes}
 use Rattle.std.specs.Fmt.{decimal}
 use Rattle.pcap_files.specs.Texts.{refusal_text}
@@ -7,8 +7,6 @@ use Rattle.words_files.specs.Texts.{words_refusal_text, text_refusal_text}
 use Rattle.plan_errors.specs.Texts.{refusal_text as rows_text}
 use Rattle.plan_errors.specs.declared.error.PlanError.{PlanError}
 use Rattle.run_stops.specs.declared.faults.InputError.{InputError}
-use Rattle.run_stops.specs.declared.faults.Fault.{Fault}
-use Rattle.run_stops.specs.declared.faults.Fault.TheVariants as fault
 use Rattle.run_stops.specs.declared.faults.InputError.TheVariants.{NoFile, TooLarge, Pcap, Words, Rows, Text, Samples}
 
 -- the name of the cause
@@ -38,11 +36,3 @@ store_line name = codes "store fault: " ++ (name ++ codes "\n")
 
 abbrev pub memory_line : List ℕ
 memory_line = codes "out of memory\n"
-
--- the one line of a fault
-abbrev pub fault_line : Fault → List ℕ
-fault_line fault.Usage = usage_line
-fault_line (fault.Plan why) = plan_line why
-fault_line (fault.Input name why) = input_line (string_bytes name) why
-fault_line (fault.Store name) = store_line (string_bytes name)
-fault_line fault.OutOfMemory = memory_line

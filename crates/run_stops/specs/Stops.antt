@@ -1,8 +1,18 @@
 -- Why the work of a command stopped: its line, and the store's count.
-use Rattle.std.specs.Prelude.{Bool, true, false, ◌≡◌, ℕ, ◌+◌, List, Result, Ok, Err, string_bytes}
-use Rattle.run_stops.specs.Faults.{plan_line, input_line, store_line, memory_line}
+use Rattle.std.specs.Prelude.{Bool, true, false, ◌≡◌, ℕ, ◌+◌, List, ◌++◌, Result, Ok, Err, string_bytes}
+use lib.Chars.{codes}
+use Rattle.plan_errors.specs.Texts.{refusal_text as rows_text}
+use Rattle.run_stops.specs.Faults.{why_text, plan_line, input_line, store_line, memory_line}
 use Rattle.run_stops.specs.declared.stop.Stop.{Stop}
 use Rattle.run_stops.specs.declared.stop.Stop.TheVariants as stop
+
+-- what is said of it, with no line end
+abbrev pub stop_words : Stop → List ℕ
+stop_words (stop.Plan why) = codes "plan refused: " ++ rows_text why
+stop_words (stop.Input name why) = codes "input refused: " ++ (string_bytes name ++ (codes ": " ++ why_text why))
+stop_words (stop.Store name) = codes "store fault: " ++ string_bytes name
+stop_words stop.StoreNoMemory = codes "out of memory"
+stop_words stop.OutOfMemory = codes "out of memory"
 
 -- the one line of it
 abbrev pub stop_text : Stop → List ℕ

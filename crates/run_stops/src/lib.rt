@@ -6,9 +6,7 @@ mod inputs;
 mod law;
 mod stop;
 
-pub use faults::{
-    Fault, InputError, fault_line, input_line, memory_line, plan_line, store_line, usage_line,
-};
+pub use faults::{InputError, fault_line, memory_line, usage_line};
 pub use inputs::{probe_input, read_input, read_piece, read_plan};
 pub use law::worked_lines;
 pub use stop::{Stop, input_stop, store_stop};

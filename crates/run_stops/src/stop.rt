@@ -7,9 +7,11 @@ use crate::faults::InputError;
 use lk_base::OutOfMemory;
 use plan_errors::PlanError;
 use std::alloc::{AllocError, AllocFailed, Global};
+use std::fmt;
+use thiserror::Error;
 
 /// What stopped a command.
-#[derive(Debug, Drop)]
+#[derive(Debug, Drop, Error)]
 pub enum Stop {
     /// The plan is refused.
     Plan(PlanError),
@@ -21,6 +23,22 @@ pub enum Stop {
     StoreNoMemory,
     /// Memory ran out.
     OutOfMemory,
+}
+
+impl fmt::Display for Stop {
+    ghost use Rattle.std.specs.Prelude.{Some};
+    ghost use Rattle.run_stops.specs.Stops.{stop_words};
+
+    ghost output = { λ s. Some (stop_words s) };
+
+    fn fmt<W: fmt::Write>(&self, f: &mut fmt::Formatter<W>) -> fmt::Result {
+        match self {
+            Stop::Plan(why) => write!(f, "plan refused: {why}"),
+            Stop::Input(name, why) => write!(f, "input refused: {name}: {why}"),
+            Stop::Store(name) => write!(f, "store fault: {name}"),
+            Stop::StoreNoMemory | Stop::OutOfMemory => f.write_str("out of memory"),
+        }
+    }
 }
 
 impl From<OutOfMemory> for Stop {

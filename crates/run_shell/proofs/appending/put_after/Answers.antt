@@ -2,7 +2,7 @@ use Rattle.std.proofs.Common.{ℕ, List, ◌≡◌, ◌==◌, ◌++◌, drop, le
 use Rattle.std.proofs.lemmas.Result.{err_from_is_err_and}
 use Rattle.run_stops.specs.declared.stop.Stop.TheVariants as stop
 use Rattle.run_shell.proofs.Appends.{behind_none, of_equal, pieces_as, pieces_only, put_none}
-use Rattle.run_shell.proofs.appending.put_behind.Goals as goal
+use Rattle.run_shell.proofs.appending.put_after.Goals as goal
 
 pub append_pieces-requires-clause-count : goal.append_pieces-requires-clause-count
 append_pieces-requires-clause-count g c = c.requires.count
