@@ -1,0 +1,2 @@
+-- Worked examples.
+use Rattle.std.specs.Prelude.{ℕ, ◌≡◌, refl, List, [], ◌∷◌, true, false, Some, None}

@@ -1,0 +1,88 @@
+//! The rules of a sender's words, by name.
+ghost use Rattle.std.specs.Prelude.{◌≡◌};
+ghost use Rattle.word_rules.specs.Names.{name_of};
+
+use std::fmt;
+
+/// A rule that a sender's words keep, in the order in which faults of one word are told.
+#[derive(Clone, Copy, Debug, PartialEq, Eq)]
+pub enum Rule {
+    /// A word that is neither Data nor Control.
+    Bad,
+    /// A Control word that no receiver accepts.
+    Control,
+    /// A CRC24 that is not that of the Data words before the word and of itself.
+    Crc,
+    /// Data after a Control word that begins no burst, or before any word.
+    Data,
+    /// A burst of more than BurstMax.
+    Max,
+    /// A burst word with no Data after it.
+    Empty,
+    /// A burst word fewer than BurstShort after the burst word before it.
+    Short,
+    /// An end format after no Data of a burst.
+    End,
+    /// A last Data word whose bytes past the end are not all 0.
+    Fill,
+    /// A burst that does not end a packet and is no multiple of 32 bytes.
+    Part,
+    /// A burst of fewer bytes than BurstMin that is not the whole of a packet.
+    Min,
+    /// SOP on a channel whose packet has not ended.
+    Sop,
+    /// No SOP on a channel whose packet has ended.
+    Open,
+    /// A burst on a channel that is not listed.
+    Channel,
+    /// A packet of more bytes than the most.
+    Long,
+    /// An idle with bits that no idle has.
+    Idle,
+    /// A burst word with multiple use where channel numbers are narrow.
+    Multi,
+    /// Reset Calendar that is not as is due, or a flow bit past the last entry that is 0.
+    Calendar,
+    /// A burst on a channel that flow control has turned off.
+    Off,
+}
+
+impl Rule {
+    /// The rule's name, as it stands in the table of faults.
+    pub fn name(self) -> &'static str
+        ensures { result.now ≡ name_of self }
+    {
+        match self {
+            Rule::Bad => "bad",
+            Rule::Control => "control",
+            Rule::Crc => "crc",
+            Rule::Data => "data",
+            Rule::Max => "max",
+            Rule::Empty => "empty",
+            Rule::Short => "short",
+            Rule::End => "end",
+            Rule::Fill => "fill",
+            Rule::Part => "part",
+            Rule::Min => "min",
+            Rule::Sop => "sop",
+            Rule::Open => "open",
+            Rule::Channel => "channel",
+            Rule::Long => "long",
+            Rule::Idle => "idle",
+            Rule::Multi => "multi",
+            Rule::Calendar => "calendar",
+            Rule::Off => "off",
+        }
+    }
+}
+
+impl fmt::Display for Rule {
+    ghost use Rattle.std.specs.Prelude.{Some};
+    ghost use Rattle.word_rules.specs.Names.{name_of};
+
+    ghost output = { λ rule. Some (name_of rule) };
+
+    fn fmt<W: fmt::Write>(&self, f: &mut fmt::Formatter<W>) -> fmt::Result {
+        write!(f, "{}", self.name())
+    }
+}

@@ -1,0 +1,14 @@
+/// The numbers of a plan that the rules of words read.
+#[derive(Clone, Copy, Debug, PartialEq, Eq)]
+pub struct Settings {
+    /// The most bytes of a burst, a multiple of 8.
+    pub burst_max: u64,
+    /// The least bytes from one burst word to the next, a multiple of 8.
+    pub burst_short: u64,
+    /// The least bytes of a burst that is not the whole of a packet.
+    pub burst_min: u64,
+    /// The most bytes of a packet.
+    pub max_packet: u64,
+    /// Whether channel numbers are wide: 16 bits in place of 8.
+    pub wide: bool,
+}
