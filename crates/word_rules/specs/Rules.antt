@@ -1,6 +1,6 @@
 -- Each rule of a sender's words: whether the word at a place breaks it, by the words before the place, `earlier`, the latest first.
-use Rattle.std.specs.Prelude.{ℕ, ◌+◌, ◌-◌, ◌*◌, ◌/◌, ◌%◌, ◌^◌, ◌==◌, nat_lt, nat_le, Bool, true, false, ◌&&◌, ◌||◌, not, cond, List, [], ◌∷◌, length, reverse, filter, filter_map, find, position, Option, Some, None, is_some}
-use Rattle.std.specs.List.{range_with_len, list_any, list_all}
+use Rattle.std.specs.Prelude.{ℕ, ◌+◌, ◌-◌, ◌*◌, ◌/◌, ◌%◌, ◌^◌, ◌==◌, nat_lt, nat_le, Bool, true, false, ◌&&◌, ◌||◌, not, cond, List, [], ◌∷◌, length, reverse, filter, filter_map, position, Option, Some, is_some}
+use Rattle.std.specs.List.{range_with_len, list_any}
 use Rattle.std.specs.Option.{option_map, option_map_or}
 use Rattle.std.specs.Int.{bit_at}
 use Rattle.lk_base.specs.declared.word.RxWord.{RxWord}
@@ -141,9 +141,9 @@ abbrev pub breaks_long : Settings → List RxWord → ℕ → Bool
 breaks_long s earlier x =
     is_control_word x
     && option_map_or
-        (λ word. option_map_or (passes_limit s.max_packet (end_of x)) (since_sop (bursts_on s.wide (channel_number s.wide word) x (known earlier))) false)
-        (burst_before earlier)
-        false
+    (λ word. option_map_or (passes_limit s.max_packet (end_of x)) (since_sop (bursts_on s.wide (channel_number s.wide word) x (known earlier))) false)
+    (burst_before earlier)
+    false
 
 -- `idle`: it is an accepted idle that has SOP, or a channel that is not 0, or multiple use that is not 0
 abbrev pub breaks_idle : ℕ → Bool

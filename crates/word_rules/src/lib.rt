@@ -2,9 +2,11 @@
 #![tactic(auto)]
 
 mod fault;
+mod laws;
 mod rule;
 mod settings;
 
 pub use fault::Fault;
+pub use laws::examples;
 pub use rule::Rule;
 pub use settings::Settings;

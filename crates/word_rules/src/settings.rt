@@ -2,13 +2,13 @@
 #[derive(Clone, Copy, Debug, PartialEq, Eq)]
 pub struct Settings {
     /// The most bytes of a burst, a multiple of 8.
-    pub burst_max: u64,
+    pub burst_max: u32,
     /// The least bytes from one burst word to the next, a multiple of 8.
-    pub burst_short: u64,
+    pub burst_short: u32,
     /// The least bytes of a burst that is not the whole of a packet.
-    pub burst_min: u64,
+    pub burst_min: u32,
     /// The most bytes of a packet.
-    pub max_packet: u64,
+    pub max_packet: u32,
     /// Whether channel numbers are wide: 16 bits in place of 8.
     pub wide: bool,
 }

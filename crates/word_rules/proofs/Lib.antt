@@ -1,0 +1,2 @@
+-- What this crate alone cites.
+mod ExamplesHold
