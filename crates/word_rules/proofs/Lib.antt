@@ -1,2 +1,10 @@
 -- What this crate alone cites.
 mod ExamplesHold
+mod Befores
+mod Lifted
+mod KeptBursts
+mod KeptChannels
+mod Dues
+mod FlowRows
+mod Keeping
+mod Making

@@ -6,16 +6,8 @@ use Rattle.lk_base.specs.declared.word.RxWord.TheVariants.{Data, Control, Bad}
 use Rattle.lk_base.specs.Fields.{is_control_word, has_sop, has_end, channel_number}
 use Rattle.control_words.specs.declared.fields.Eop.{Eop}
 use Rattle.control_words.specs.declared.fields.Eop.TheVariants as eops
+use Rattle.word_rules.specs.declared.burst.Burst.{Burst}
 use Rattle.word_rules.specs.Places.{is_burst_word}
-
--- a burst that a Control word closes
-pub record Burst : Type 0 where
-  -- its burst word
-  pub word : ℕ
-  -- its Data words
-  pub size : ℕ
-  -- the Control word that closes it, accepted or not
-  pub closer : ℕ
 
 -- The bursts of words of which none is Bad, the last first, where `n` Data words come after them and then the Control word
 -- `next`. Since no word is Bad, the first Control word after a burst word closes its burst.

@@ -3,4 +3,12 @@ pub mod Places
 pub mod Bursts
 pub mod Rules
 pub mod Faults
+pub mod Stands
+pub mod ByFields
 pub mod Examples
+pub mod Channels
+pub mod Due
+pub mod Flows
+pub mod ControlRows
+pub mod Checks
+pub mod Made

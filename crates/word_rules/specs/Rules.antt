@@ -17,7 +17,8 @@ use Rattle.stream_model.specs.Calendar.{is_on}
 use Rattle.stream_model.specs.declared.rows.FlowRow.{FlowRow}
 use Rattle.word_rules.specs.declared.settings.Settings.{Settings}
 use Rattle.word_rules.specs.Places.{control_number, is_burst_word, known, since_control, data_before, burst_before, follows_bad, words_since_burst}
-use Rattle.word_rules.specs.Bursts.{Burst, bursts_on, ends, is_ended, burst_bytes, whole_bytes, since_sop}
+use Rattle.word_rules.specs.declared.burst.Burst.{Burst}
+use Rattle.word_rules.specs.Bursts.{bursts_on, ends, is_ended, burst_bytes, whole_bytes, since_sop}
 
 -- ---- Data words
 
@@ -39,12 +40,16 @@ breaks_max s earlier = is_some (burst_before earlier) && (length (data_before ea
 abbrev pub breaks_control : ℕ → Bool
 breaks_control x = not (is_control_word x)
 
+-- the Data words after the Control word before it, or from the start, in order
+abbrev pub covered : List RxWord → List ℕ
+covered earlier = reverse (filter_map data_number (since_control earlier))
+
 -- `crc`: no Bad word stands between it and the Control word before it, or the start, and its bits 23:0 are not the CRC24 of the
 -- Data words between and of itself
 abbrev pub breaks_crc : List RxWord → ℕ → Bool
 breaks_crc earlier x =
     not (list_any is_bad (since_control earlier))
-    && has_wrong_crc (reverse (filter_map data_number (since_control earlier))) x
+    && has_wrong_crc (covered earlier) x
 
 -- a next word is there, and is a Control word, accepted or not
 abbrev pub is_next_control : Option RxWord → Bool

@@ -1,0 +1,218 @@
+//! The pass over a sender's words.
+ghost use Rattle.std.specs.Prelude.{◌≡◌, ◌<◌, ◌^◌, ◌++◌, ◌∷◌, [], ℕ, List, Option, true, slice_get, slice_set, IfOk, OnOk, length};
+ghost use Rattle.lk_base.specs.declared.word.RxWord.{RxWord};
+ghost use Rattle.lk_base.specs.declared.word.RxWord.TheVariants.{Data, Control, Bad};
+ghost use Rattle.word_rules.specs.Faults.{Plan, faults, faults_at};
+ghost use Rattle.word_rules.specs.Made.{AreUnused, unused};
+ghost use Rattle.word_rules.specs.Rules.{accepted_before};
+ghost use Rattle.word_rules.specs.Due.{IsDue};
+ghost use Rattle.word_rules.specs.Checks.{Keeps};
+ghost use Rattle.word_rules.specs.Flows.{InOrder};
+
+use crate::before::{Before, start};
+use crate::channel::Channel;
+use crate::channels::close_before;
+use crate::control_rows::{breaks_off, control_rows, field_rows};
+use crate::due::{Due, no_word};
+use crate::fault::Fault;
+use crate::flow::Flow;
+use crate::rows::tell;
+use crate::rule::Rule;
+use crate::settings::Settings;
+use control_words::ControlWord;
+use lk_base::{OutOfMemory, RxWord};
+use std::alloc::Global;
+use stream_model::FlowRow;
+
+/// What the rules read of the words that came so far.
+#[derive(Drop)]
+pub struct Checker {
+    settings: Settings,
+    // The entries of the calendar.
+    entries: u64,
+    // What is kept of the channels, by number.
+    kept: Vec<Channel>,
+    // How many Bad words came.
+    bads: u64,
+    before: Before,
+    due: Due,
+    flow: Flow,
+}
+
+impl Checker {
+    // A Data word comes.
+    fn data(&mut self, x: u64, faults: &mut Vec<Fault>) -> Result<(), OutOfMemory>
+        requires { (p : Plan) × (earlier : List RxWord) × Keeps self.old p earlier × (length earlier < 2 ^ 57) }
+        ensures rows { (p : Plan) (earlier : List RxWord) (next : Option RxWord) → Keeps self.old p earlier → OnOk result (faults.new.items ≡ faults.old.items ++ faults_at p earlier (Data x) next) }
+        ensures keeps { (p : Plan) (earlier : List RxWord) → Keeps self.old p earlier → OnOk result (Keeps self.new p (Data x ∷ earlier)) }
+    {
+        self.before.data_rows(self.settings, faults)?;
+        self.before = self.before.after_data(x);
+        Ok(())
+    }
+
+    // A Bad word comes.
+    fn bad(&mut self, faults: &mut Vec<Fault>) -> Result<(), OutOfMemory>
+        requires { (p : Plan) × (earlier : List RxWord) × Keeps self.old p earlier × (length earlier < 2 ^ 57) }
+        ensures rows { (p : Plan) (earlier : List RxWord) (next : Option RxWord) → Keeps self.old p earlier → OnOk result (faults.new.items ≡ faults.old.items ++ faults_at p earlier Bad next) }
+        ensures keeps { (p : Plan) (earlier : List RxWord) → Keeps self.old p earlier → OnOk result (Keeps self.new p (Bad ∷ earlier)) }
+    {
+        tell(faults, self.before.number, Rule::Bad, None, true)?;
+        self.before = self.before.after_bad_word();
+        self.due = no_word();
+        self.bads += 1;
+        Ok(())
+    }
+
+    // The Control word `x` comes, before the next word, if there is one.
+    fn control(
+        &mut self,
+        x: u64,
+        next: Option<RxWord>,
+        faults: &mut Vec<Fault>,
+    ) -> Result<(), OutOfMemory>
+        requires { (p : Plan) × (earlier : List RxWord) × Keeps self.old p earlier × (length earlier < 2 ^ 57) }
+        ensures rows { (p : Plan) (earlier : List RxWord) → Keeps self.old p earlier → InOrder p.flow → OnOk result (faults.new.items ≡ faults.old.items ++ faults_at p earlier (Control x) next) }
+        ensures keeps { (p : Plan) (earlier : List RxWord) → Keeps self.old p earlier → OnOk result (Keeps self.new p (Control x ∷ earlier)) }
+    {
+        let off = breaks_off(
+            &mut self.flow,
+            &self.kept,
+            self.settings,
+            self.before.number,
+            x,
+        );
+        let own = close_before(&mut self.kept, self.before, self.settings, self.bads, x);
+        let calendar = self.due.breaks_calendar(self.entries, x);
+        control_rows(self.before, self.settings, own, x, next, faults)?;
+        field_rows(self.before.number, self.settings, calendar, off, x, faults)?;
+        self.before = self.before.after_control(x);
+        self.due = self.due.after_control(x);
+        Ok(())
+    }
+    /// Takes the next word, and puts the rows of its faults after the others, in the order of the rules; `next` is the word after it,
+    /// if there is one.
+    ///
+    /// # Errors
+    ///
+    /// `OutOfMemory`. What the checker gives after it means nothing.
+    pub fn step(
+        &mut self,
+        word: RxWord,
+        next: Option<RxWord>,
+        faults: &mut Vec<Fault>,
+    ) -> Result<(), OutOfMemory>
+        requires { (p : Plan) × (earlier : List RxWord) × Keeps self.old p earlier × (length earlier < 2 ^ 57) }
+        ensures rows { (p : Plan) (earlier : List RxWord) → Keeps self.old p earlier → InOrder p.flow → OnOk result (faults.new.items ≡ faults.old.items ++ faults_at p earlier word next) }
+        ensures keeps { (p : Plan) (earlier : List RxWord) → Keeps self.old p earlier → OnOk result (Keeps self.new p (word ∷ earlier)) }
+    {
+        match word {
+            RxWord::Data(x) => self.data(x, faults),
+            RxWord::Control(x) => self.control(x, next, faults),
+            RxWord::Bad => self.bad(faults),
+        }
+    }
+}
+
+// A listed channel, of which nothing is kept.
+fn list(kept: &mut Vec<Channel>, channel: u16)
+    requires { length kept.old.items ≡ 65536 }
+    ensures { kept.new.items ≡ slice_set kept.old.items channel (unused true) }
+{
+    kept[channel as usize] = Channel {
+        since: 0,
+        going: None,
+        packet: None,
+        listed: true,
+    };
+}
+
+// The channels before any word, of which these are listed.
+fn made(alloc: Global, channels: &[u16]) -> Result<Vec<Channel>, OutOfMemory>
+    ensures all { IfOk result (λ kept. length kept.items ≡ 65536) }
+    ensures fresh { IfOk result (λ kept. AreUnused kept.items channels.now) }
+{
+    let unused = Channel {
+        since: 0,
+        going: None,
+        packet: None,
+        listed: false,
+    };
+    let mut kept = vec![in alloc; unused; 65536]?;
+    for i in 0..channels.len() {
+        list(&mut kept, channels[i]);
+    }
+    Ok(kept)
+}
+
+impl Checker {
+    /// A checker of the words of a plan with these settings, listed channels, entries of the calendar, and rows of flow control in
+    /// order of slot. No word came yet.
+    ///
+    /// # Errors
+    ///
+    /// `OutOfMemory`.
+    pub fn new(
+        alloc: Global,
+        settings: Settings,
+        channels: &[u16],
+        entries: &[u16],
+        flow: &[FlowRow],
+    ) -> Result<Checker, OutOfMemory>
+        requires { length entries.now < 2 ^ 32 }
+        ensures { IfOk result (λ checker. Keeps checker (record { settings = settings; channels = channels.now; entries = entries.now; flow = flow.now }) []) }
+    {
+        let kept = made(alloc, channels)?;
+        let flow = Flow::make(alloc, entries, flow)?;
+        Ok(Checker {
+            settings,
+            entries: entries.len() as u64,
+            kept,
+            bads: 0,
+            before: start(),
+            due: no_word(),
+            flow,
+        })
+    }
+}
+
+// No rows.
+fn no_faults(alloc: Global) -> Vec<Fault>
+    ensures { result.items ≡ [] }
+{
+    Vec::new(alloc)
+}
+
+// The word of this number, if there is one.
+fn word_at(words: &[RxWord], number: usize) -> Option<RxWord>
+    ensures { result ≡ slice_get words.now number }
+{
+    words.get(number).copied()
+}
+
+/// The faults of a list of words by a plan: for each word in order a row for each rule that it breaks, in the order of the rules.
+///
+/// # Errors
+///
+/// `OutOfMemory`.
+pub fn check(
+    alloc: Global,
+    settings: Settings,
+    channels: &[u16],
+    entries: &[u16],
+    flow: &[FlowRow],
+    words: &[RxWord],
+) -> Result<Vec<Fault>, OutOfMemory>
+    requires few { length entries.now < 2 ^ 32 }
+    requires rows { InOrder flow.now }
+    requires words { length words.now < 2 ^ 57 }
+    ensures { IfOk result (λ found. found.items ≡ faults (record { settings = settings; channels = channels.now; entries = entries.now; flow = flow.now }) words.now) }
+{
+    let mut checker = Checker::new(alloc, settings, channels, entries, flow)?;
+    let mut found = no_faults(alloc);
+    for i in 0..words.len() {
+        let next = word_at(words, i + 1);
+        checker.step(words[i], next, &mut found)?;
+    }
+    Ok(found)
+}

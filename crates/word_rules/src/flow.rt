@@ -1,0 +1,91 @@
+//! Which channels flow control has turned off at a slot.
+ghost use Rattle.std.specs.Prelude.{◌≡◌, ◌≤◌, ◌<◌, ◌++◌, ◌∷◌, [], ℕ, List, All, IfOk, length, take, get_or, not};
+ghost use Rattle.stream_model.specs.Calendar.{is_on};
+ghost use Rattle.stream_model.specs.declared.rows.FlowRow.{FlowRow};
+ghost use Rattle.calendar.specs.Incoming.{Stands, StandsFor};
+ghost use Rattle.word_rules.specs.Flows.{InOrder, IsFlow, no_row};
+
+use arrayvec::ArrayVec;
+use calendar::CalendarIn;
+use control_words::{Control, ControlWord};
+use lk_base::OutOfMemory;
+use lk_crc::crc24_of;
+use std::alloc::Global;
+use stream_model::FlowRow;
+
+// The fields of a flow row's word, where it is valid.
+fn valid_word(word: u64) -> Option<Control>
+    ensures { StandsFor result word }
+{
+    let empty: [u64; 0] = [];
+    let control = match ControlWord(word).control() {
+        Ok(control) => control,
+        Err(_) => return None,
+    };
+    if ControlWord(word).crc() == crc24_of(&empty, word) {
+        Some(control)
+    } else {
+        None
+    }
+}
+
+// Takes the word of one row.
+fn take_row(calendar: &mut CalendarIn, row: FlowRow)
+    requires stands { (entries : List ℕ) × (rows : List FlowRow) × Stands calendar.old entries rows }
+    ensures { (entries : List ℕ) (rows : List FlowRow) → Stands calendar.old entries rows → Stands calendar.new entries (rows ++ row ∷ []) }
+{
+    let mut changed = ArrayVec::new();
+    calendar.take(valid_word(row.word), &mut changed);
+}
+
+// Takes the rows of slot `t` at most, from number `taken` on, and returns how many are taken then.
+fn take_rows(calendar: &mut CalendarIn, rows: &[FlowRow], taken: usize, t: u64) -> usize
+    requires part { taken ≤ length rows.now }
+    requires stands { (entries : List ℕ) × Stands calendar.old entries (take taken rows.now) }
+    ensures part { result ≤ length rows.now }
+    ensures stands { (entries : List ℕ) → Stands calendar.old entries (take taken rows.now) → Stands calendar.new entries (take result rows.now) }
+    ensures early { All (λ (row : FlowRow). row.slot ≤ t) (take taken rows.now) → All (λ (row : FlowRow). row.slot ≤ t) (take result rows.now) }
+    ensures late { result < length rows.now → t < (get_or rows.now result no_row).slot }
+{
+    for n in taken..rows.len() {
+        let row = rows[n];
+        if t < row.slot {
+            return n;
+        }
+        take_row(calendar, row);
+    }
+    rows.len()
+}
+
+/// The rows of flow control, of which the first were taken.
+#[derive(Drop)]
+pub struct Flow {
+    calendar: CalendarIn,
+    rows: Vec<FlowRow>,
+    taken: usize,
+}
+
+impl Flow {
+    /// No row is taken.
+    pub fn make(alloc: Global, entries: &[u16], rows: &[FlowRow]) -> Result<Flow, OutOfMemory>
+        ensures { IfOk result (λ flow. (t : ℕ) → IsFlow flow entries.now rows.now t) }
+    {
+        let calendar = CalendarIn::make(alloc, entries)?;
+        let own = Vec::from_slice(alloc, rows)?;
+        Ok(Flow {
+            calendar,
+            rows: own,
+            taken: 0,
+        })
+    }
+
+    /// Whether the channel is off at slot `t`, which is not below that of an earlier call.
+    pub fn is_off(&mut self, channel: u16, t: u64) -> bool
+        requires flow { (entries : List ℕ) × (rows : List FlowRow) × (s : ℕ) × IsFlow self.old entries rows s × (s ≤ t) }
+        ensures flow { (entries : List ℕ) (rows : List FlowRow) (s : ℕ) → IsFlow self.old entries rows s → s ≤ t → IsFlow self.new entries rows t }
+        ensures off { (entries : List ℕ) (rows : List FlowRow) (s : ℕ) → IsFlow self.old entries rows s → s ≤ t → InOrder rows → result ≡ not (is_on entries rows channel t) }
+    {
+        self.taken = take_rows(&mut self.calendar, &self.rows, self.taken, t);
+        !self.calendar.is_on(channel)
+    }
+}
