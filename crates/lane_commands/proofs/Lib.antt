@@ -1,0 +1,7 @@
+-- What this crate alone cites.
+mod LaneContents
+mod Given
+mod SentAgain
+mod Filling
+mod StripeLaws
+mod NoWords

@@ -1,0 +1,4 @@
+-- cited by public clauses
+pub mod SentWords
+pub mod Stripe
+pub mod StripeLaws
