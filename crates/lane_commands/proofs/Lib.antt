@@ -1,3 +1,5 @@
+-- What other crates cite.
+pub mod StripeWork
 -- What this crate alone cites.
 mod LaneContents
 mod Given

@@ -2,3 +2,5 @@
 pub mod SentWords
 pub mod Stripe
 pub mod StripeLaws
+-- needed by private functions and proofs alone
+pub mod Values

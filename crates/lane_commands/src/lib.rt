@@ -2,5 +2,10 @@
 #![tactic(auto)]
 
 mod law;
+mod plan_words;
+mod sent_words;
+mod stripe;
+mod striped;
 
 pub use law::{stripe_sends_burst, striped_streams, worked_examples};
+pub use stripe::Stripe;

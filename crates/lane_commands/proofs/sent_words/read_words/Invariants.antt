@@ -1,0 +1,15 @@
+use Rattle.std.proofs.Common.{◌≡◌, ◌+◌, length}
+use Rattle.words_files.specs.WordsOfFile.{cut_file}
+use Rattle.lane_commands.specs.SentWords.{given_from, has_unsent_tag, sent_word_in, sent_words_of_file}
+use Rattle.lane_commands.proofs.Given.{ahead}
+use Rattle.lane_commands.proofs.sent_words.read_words.Given as goal
+
+-- the words so far and what the bytes that are left give are the whole
+abbrev pub invariant-loop-rest : goal.invariant-loop-rest
+invariant-loop-rest l = record {
+  whole : sent_words_of_file l.bytes ≡ ahead l.words (given_from has_unsent_tag sent_word_in l.offset (cut_file l.rest));
+  stands : l.offset + length l.rest ≡ length l.bytes;
+}
+
+abbrev pub decreases-loop-rest : goal.decreases-loop-rest
+decreases-loop-rest l = length l.rest
