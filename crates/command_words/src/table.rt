@@ -34,6 +34,8 @@ pub enum Name {
     OobRead,
     /// The stream of a plan is carried over a link that loses, repeats and delays.
     Resend,
+    /// The words file of a plan becomes lane files.
+    Stripe,
     /// A words file or a lane file becomes its listing.
     List,
     /// A text becomes the file of which it is the listing.
@@ -101,6 +103,11 @@ static ROWS: &[Row] = &[
     Row {
         word: "resend",
         command: Name::Resend,
+        rule: Rule::File,
+    },
+    Row {
+        word: "stripe",
+        command: Name::Stripe,
         rule: Rule::File,
     },
     Row {

@@ -7,6 +7,7 @@ use case_commands::GenerateCase;
 use command_words::{Arguments, CommandLine, Name, arguments_of, line_of, read_line, row_in, rows};
 use duplex_commands::DuplexFile;
 use join_commands::{JoinPlan, JoinWords};
+use lane_commands::Stripe;
 use link_commands::LinkPlan;
 use listing_commands::{AssembleText, ListFile};
 use lk_base::OutOfMemory;
@@ -46,6 +47,8 @@ pub enum Request<'w> {
     OobRead(WithFile<'w, OobRead>),
     /// The stream of a plan is carried over a link that loses, repeats and delays.
     Resend(WithFile<'w, ResendPlan>),
+    /// The words file of a plan becomes lane files.
+    Stripe(WithFile<'w, Stripe>),
     /// A words file or a lane file becomes its listing.
     ListFile(WithFile<'w, ListFile>),
     /// A text becomes the file of which it is the listing.
@@ -71,6 +74,7 @@ impl Command for Request<'_> {
             Request::OobWrite(write) => write.obey(alloc, store),
             Request::OobRead(read) => read.obey(alloc, store),
             Request::Resend(resend) => resend.obey(alloc, store),
+            Request::Stripe(stripe) => stripe.obey(alloc, store),
             Request::ListFile(list) => list.obey(alloc, store),
             Request::AssembleText(assemble) => assemble.obey(alloc, store),
         }
@@ -122,6 +126,7 @@ fn request_for<'w>(command: Name, arguments: &Arguments<'w>) -> Request<'w>
         Name::OobWrite => Request::OobWrite(WithFile::new(arguments.file)),
         Name::OobRead => Request::OobRead(WithFile::new(arguments.file)),
         Name::Resend => Request::Resend(WithFile::new(arguments.file)),
+        Name::Stripe => Request::Stripe(WithFile::new(arguments.file)),
         Name::List => Request::ListFile(WithFile::new(arguments.file)),
         Name::Assemble => Request::AssembleText(WithFile::new(arguments.file)),
     }
