@@ -16,6 +16,7 @@ import words_file
 from accidents import Sent, accidents, missing
 from duplex import duplex_run
 from epochs import Epoch, epoch_of_words, epochs_of_lanes
+from fields import CONTROL, Word
 from files import CAPTURES_LIMIT, DONE, HELD, read_input, read_plan
 from link import Link, Shape
 from plan import Plan
@@ -119,9 +120,9 @@ def burst(name: str) -> Answer:
     return stream_answer(source, stream, [("%s.words" % (name if plan is None else plan.out), made)])
 
 
-def sent_lanes(plan: Plan, stream: Stream) -> list[str]:
-    """The bits of the lanes that carry a stream."""
-    return [lanes.lane_bits(stream.words, plan.link, lane) for lane in range(plan.link.lanes)]
+def sent_lanes(plan: Plan, words: Sequence[Word]) -> list[str]:
+    """The bits of the lanes that carry the words of a stream."""
+    return [lanes.lane_bits(words, plan.link, lane) for lane in range(plan.link.lanes)]
 
 
 def lane_files(plan: Plan, bits: Sequence[str]) -> list[tuple[str, bytes]]:
@@ -134,12 +135,24 @@ def lane_name(plan: Plan, lane: int) -> str:
     return "%s.lane.%d" % (plan.out, lane)
 
 
+# An idle that resets the calendar, with all flow bits 1 and the CRC24 of itself alone.
+FILLER = Word(CONTROL, 0x81FFFF0000188177)
+
+
+def stripe(name: str) -> Answer:
+    """The bits of the lanes that carry the words of a plan's words file, whose last group is filled with idles."""
+    plan = read_plan(name, plans.plan_of)
+    words = read_input(plan.out + ".words", files.WORDS_LIMIT, words_file.sent_words_of_file)
+    words += [FILLER] * (-len(words) % plan.link.group)
+    return Answer(DONE, lane_files(plan, sent_lanes(plan, words)), [texts.slots_line(len(words))])
+
+
 def send(name: str) -> Answer:
     """The bits of the lanes that carry the stream of a plan."""
     plan = read_plan(name, plans.plan_of)
     source = source_of_plan(plan)
     stream = payload_stream(source)
-    return stream_answer(source, stream, lane_files(plan, sent_lanes(plan, stream)))
+    return stream_answer(source, stream, lane_files(plan, sent_lanes(plan, stream.words)))
 
 
 # ---- received words
@@ -221,7 +234,7 @@ def link(name: str) -> Answer:
     source = source_of_plan(plan)
     damages = damages_of_plan(plan)
     stream = payload_stream(source)
-    made = lane_files(plan, [lanes.received(bits, damage) for bits, damage in zip(sent_lanes(plan, stream), damages)])
+    made = lane_files(plan, [lanes.received(bits, damage) for bits, damage in zip(sent_lanes(plan, stream.words), damages)])
     front = front_of([data for _, data in made], plan.link)
     outcome = reassembled(front.epochs, plan.settings)
     sent = Sent(stream.words, plan.link, [damage.skew for damage in damages])
@@ -307,5 +320,5 @@ def assemble(name: str) -> Answer:
 
 COMMANDS = {
     "burst": burst, "join": join, "send": send, "receive": receive, "link": link, "generate": generate, "duplex": duplex,
-    "oobwrite": oobwrite, "oobread": oobread, "resend": resend, "list": list_file, "assemble": assemble,
+    "oobwrite": oobwrite, "oobread": oobread, "resend": resend, "stripe": stripe, "list": list_file, "assemble": assemble,
 }

@@ -250,6 +250,22 @@ def join_case(r: Random) -> Case:
     return Case(["join", "p.plan"], files, d.wide)
 
 
+def stripe_case(r: Random) -> Case:
+    """`stripe` of a stream's words, mutated or not, cut or not, and of any words; now and then one is bad, has another tag or is
+    not whole, and the plan or the words file is not there."""
+    d = Drawn(r)
+    words = [word for word in mutated_words(r, payload_stream(d.source()).words) if word.kind != BAD or r.randrange(40) == 0]
+    words = r.choice([words, words, words[:r.randrange(len(words) + 1)], [random_listings.word(r) for _ in range(r.choice([0, 1, 30]))]])
+    data = words_file.file_of_words(words)
+    if r.randrange(8) == 0:
+        at = 9 * r.randrange(len(data) // 9 + 1)
+        data = r.choice([data[:at] + bytes([r.choice([0, 3, 4, 255])]) + data[at + 1:], data[:r.randrange(len(data) + 1)]])
+    files = {"p.plan": drawn.spelled(r, far_end(r, d)), "o.words": data}
+    if r.randrange(12) == 0:
+        files = r.choice([{"p.plan": files["p.plan"]}, {"o.words": data}, {**files, "p.plan": drawn.spoiled_plan(r, d.rows)}])
+    return Case(["stripe", "p.plan"], files, d.wide)
+
+
 # ---- received lanes
 
 def receive_case(r: Random) -> Case:
@@ -584,12 +600,13 @@ KINDS: dict[str, Callable[[Random], Case]] = {
     "capture": capture_case, "burst": plan_case("burst"), "join": join_case, "send": plan_case("send"), "receive": receive_case,
     "regular": regular_case, "link": link_case, "mimic": mimic_case, "channels": channels_case, "words": words_case,
     "generate": generate_case, "list": list_case, "assemble": assemble_case, "duplex": duplex_case, "oobwrite": oobwrite_case,
-    "oobread": oobread_case, "resend": resend_case,
+    "oobread": oobread_case, "resend": resend_case, "stripe": stripe_case,
 }
 # Kinds that have large cases, and kinds that have wide plans.
 LARGE = ("generate", "channels")
 WIDE = (
     "burst", "join", "send", "receive", "regular", "link", "mimic", "channels", "words", "duplex", "oobwrite", "oobread", "resend",
+    "stripe",
 )
 
 

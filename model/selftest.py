@@ -536,6 +536,10 @@ class Runs(unittest.TestCase):
             with open(name.replace("_", "."), "wb") as file:
                 file.write(data)
 
+    def read(self, name):
+        with open(name, "rb") as file:
+            return file.read()
+
     def test_accepted_words(self):
         for words in ([], ["burst"], ["burst", "-x"], ["frob", "x"], ["burst", "x" * 256], ["generate", "1" * 21, "g"],
                       ["generate", str(2 ** 64), "g"]):
@@ -550,6 +554,29 @@ class Runs(unittest.TestCase):
         self.assertEqual((status, text.splitlines()[:2]), (0, ["got channel=0 packets=1 bytes=60", "spans 2"]))
         with open("a.pcap.words.0.pcap", "rb") as file:
             self.assertEqual(file.read(), pcap.written([bytes(60)], 1))
+
+    def test_stripe(self):
+        self.write(p_plan=b"lanes,1\nmetaframe,32\nwarmup,4\nchannel,0\nout,o\n", o_words=b"")
+        self.assertEqual(interlaken.run(["stripe", "p.plan"]), (0, "slots 0\n"))
+        self.assertEqual(self.read("o.lane.0"), b"")
+        idle = bytes.fromhex("0281FFFF0000188177")
+        self.write(o_words=3 * idle)
+        self.assertEqual(interlaken.run(["stripe", "p.plan"]), (0, "slots 28\n"))
+        lane = self.read("o.lane.0")
+        self.write(o_words=28 * idle)
+        self.assertEqual(interlaken.run(["stripe", "p.plan"]), (0, "slots 28\n"))
+        self.assertEqual(self.read("o.lane.0"), lane)
+        for data, why in ((idle + b"\3" + idle[1:], "tag at 9"), (idle + b"\3", "tag at 9"), (idle[:8], "short at 0"), (idle + b"\1", "short at 9")):
+            self.write(o_words=data)
+            self.assertEqual(interlaken.run(["stripe", "p.plan"]), (5, "input refused: o.words: %s\n" % why))
+
+    def test_stripe_after_burst_makes_the_lanes_of_send(self):
+        self.write(p_plan=b"lanes,2\nmetaframe,32\nwarmup,4\nchannel,1,a.pcap\nout,o\n", a_pcap=pcap.written([bytes(60)], 1))
+        status, text = interlaken.run(["send", "p.plan"])
+        sent = [self.read("o.lane.%d" % lane) for lane in range(2)]
+        interlaken.run(["burst", "p.plan"])
+        self.assertEqual(interlaken.run(["stripe", "p.plan"]), (0, text.splitlines()[-1] + "\n"))
+        self.assertEqual([self.read("o.lane.%d" % lane) for lane in range(2)], sent)
 
     def test_link(self):
         self.write(p_plan=b"lanes,2\nmetaframe,32\nwarmup,4\nchannel,1,one.pcap\nchannel,2,two.pcap\nschedule,s\nout,o\n",

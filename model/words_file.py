@@ -13,14 +13,19 @@ def file_of_words(words: Sequence[Word]) -> bytes:
     return b"".join(bytes([word.kind]) + word.number.to_bytes(8, "big") for word in words)
 
 
-def words_of_file(data: bytes) -> list[Word]:
-    """Refused for the least offset at which something is wrong: a byte that should be 1, 2 or 3 and is not, or the last
-    word that is not whole; at one offset the tag goes first."""
+def words_of_file(data: bytes, kinds: Sequence[int] = (DATA, CONTROL, BAD)) -> list[Word]:
+    """Refused for the least offset at which something is wrong: a byte that should be one of these kinds and is not, or the
+    last word that is not whole; at one offset the tag goes first."""
     words = []
     for at in range(0, len(data), SIZE):
-        if data[at] not in (DATA, CONTROL, BAD):
+        if data[at] not in kinds:
             raise Refusal("tag at %d" % at)
         if len(data) - at < SIZE:
             raise Refusal("short at %d" % at)
         words.append(Word(data[at], int.from_bytes(data[at + 1:at + SIZE], "big")))
     return words
+
+
+def sent_words_of_file(data: bytes) -> list[Word]:
+    """The same where each word was sent, so that none is bad."""
+    return words_of_file(data, (DATA, CONTROL))
