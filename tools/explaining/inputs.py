@@ -68,6 +68,11 @@ class Inputs:
         if self.has_data:
             self.folder.words_bytes(self.plan.out + ".words" if self.plan else self.name)
 
+    def take_stripe(self):
+        self.take_plan()
+        if self.has_data:
+            self.folder.words_bytes(self.plan.out + ".words", has_bad=False)
+
     def take_receive(self):
         """The plan, and the lanes, of which the program asks here whether they are there."""
         self.take_plan()
@@ -151,6 +156,7 @@ COMMANDS = {
     "oobwrite": Command("FILE", "a plan", Inputs.take_oobwrite),
     "oobread": Command("FILE", "a plan with a row `oob`", Inputs.take_oobread),
     "resend": Command("FILE", "a plan with a row `events`", Inputs.take_resend),
+    "stripe": Command("FILE", "a plan", Inputs.take_stripe),
     "list": Command("FILE", "a words file where FILE ends in .words, else a lane file", Inputs.take_list),
     "assemble": Command("FILE", "a listing", Inputs.take_assemble),
 }

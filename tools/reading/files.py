@@ -104,13 +104,14 @@ class Folder:
         data = self.words_bytes(name)
         return [(data[i], int.from_bytes(data[i + 1:i + 9], "big")) for i in range(0, len(data), 9)]
 
-    def words_bytes(self, name):
-        """The bytes of a words file, nine for each word."""
+    def words_bytes(self, name, has_bad=True):
+        """The bytes of a words file, nine for each word, which may be bad or not."""
         data = self.content(name, WORDS_LIMIT)
-        wrong, whole = data[::9].translate(None, b"\1\2\3"), len(data) - len(data) % 9
+        wrong, whole = data[::9].translate(None, b"\1\2\3" if has_bad else b"\1\2"), len(data) - len(data) % 9
         if wrong:
             at = 9 * data[::9].index(wrong[:1])
-            refuse(name, "tag at %d" % at, "a word begins with 1 (data), 2 (control) or 3 (bad), and here is %d" % data[at])
+            kinds = "1 (data), 2 (control) or 3 (bad)" if has_bad else "1 (data) or 2 (control), a bad one cannot be sent"
+            refuse(name, "tag at %d" % at, "a word begins with %s, and here is %d" % (kinds, data[at]))
         if whole < len(data):
             refuse(name, "short at %d" % whole, "a word has 9 bytes, and the last has %d" % (len(data) - whole))
         return data
