@@ -1,0 +1,25 @@
+-- The results of calls.
+use Rattle.std.specs.Prelude.{ℕ}
+use Rattle.interlaken_c.specs.declared.misuse.Misuse.{Misuse}
+use Rattle.interlaken_c.specs.declared.misuse.Misuse.TheVariants as misuses
+
+abbrev pub done : ℕ
+done = 0
+
+abbrev pub out_of_memory : ℕ
+out_of_memory = 1
+
+abbrev pub bad_plan : ℕ
+bad_plan = 2
+
+abbrev pub no_receiver : ℕ
+no_receiver = 7
+
+abbrev pub in_use : ℕ
+in_use = 8
+
+abbrev pub code_of : Misuse → ℕ
+code_of misuses.NoLane = 3
+code_of misuses.Finished = 4
+code_of misuses.TooMany = 5
+code_of misuses.NoPacket = 6

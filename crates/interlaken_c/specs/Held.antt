@@ -1,0 +1,79 @@
+-- What a call does by a handle.
+use Rattle.std.specs.Prelude.{ℕ, ◌≡◌, List, Option, Some, None, Result, Ok, Err}
+use Rattle.lock_model.specs.declared.types.LaneReport.{LaneReport}
+use Rattle.rx_end.specs.declared.event.RxEvent.{RxEvent}
+use Rattle.rx_end.specs.Nexts.{IsNext}
+use Rattle.interlaken_c.specs.Calls.{IsFeed, IsFinish, IsRead, IsReport}
+use Rattle.plan_errors.specs.declared.error.PlanError.{PlanError}
+use Rattle.plan_errors.specs.declared.error.PlanError.TheVariants as errors
+use Rattle.interlaken_c.specs.Codes.{bad_plan, code_of, done, in_use, no_receiver, out_of_memory}
+use Rattle.interlaken_c.specs.Opens.{IsOfPlan, IsRefused}
+use Rattle.interlaken_c.specs.Refusals.{of_row, refusal_of}
+use Rattle.interlaken_c.specs.declared.refusal.Refusal.{Refusal}
+use Rattle.interlaken_c.specs.Reports.{as_report, no_report}
+use Rattle.interlaken_c.specs.Shown.{shown}
+use Rattle.interlaken_c.specs.declared.event.Event.{Event}
+use Rattle.interlaken_c.specs.declared.report.Report.{Report}
+use Rattle.interlaken_c.specs.declared.misuse.Misuse.{Misuse}
+use Rattle.interlaken_c.specs.declared.session.Session.{Session}
+
+-- what holds where there is no session, before and after, and where there is one; none is made and none is lost
+abbrev pub OnSession : Type 0 → (Session → Session → Type 0) → Option Session → Option Session → Type 0
+OnSession absent present None None = absent
+OnSession absent present (Some s) (Some t) = present s t
+OnSession absent present None (Some t) = ⊥
+OnSession absent present (Some s) None = ⊥
+
+-- a count is given where the call did what it was asked, else 0
+abbrev pub GivesCount : Result ℕ Misuse → ℕ → ℕ → Type 0
+GivesCount (Ok n) code count = (code ≡ done) × (count ≡ n)
+GivesCount (Err why) code count = (code ≡ code_of why) × (count ≡ 0)
+
+abbrev pub GivesCode : Result (Unit {0}) Misuse → ℕ → Type 0
+GivesCode (Ok u) code = code ≡ done
+GivesCode (Err why) code = code ≡ code_of why
+
+abbrev pub GivesReport : Result LaneReport Misuse → ℕ → Report → Type 0
+GivesReport (Ok found) code report = (code ≡ done) × (report ≡ as_report found)
+GivesReport (Err why) code report = (code ≡ code_of why) × (report ≡ no_report)
+
+-- the result of a refusal
+abbrev pub refused_code : PlanError → ℕ
+refused_code errors.OutOfMemory = out_of_memory
+refused_code why = bad_plan
+
+-- ---- the calls
+
+-- a receiver of the plan is made, or the plan is refused so, or memory ran out
+abbrev pub Opens : List ℕ → Option Session → ℕ → Refusal → Type 0
+Opens plan (Some s) code refusal = IsOfPlan plan s × (code ≡ done) × (refusal ≡ of_row 0 0)
+Opens plan None code refusal = (why : PlanError) × IsRefused plan why × (code ≡ refused_code why) × (refusal ≡ refusal_of why)
+
+-- a handle that has a receiver keeps it
+abbrev pub Makes : Option Session → Option Session → List ℕ → ℕ → Refusal → Type 0
+Makes None new plan code refusal = Opens plan new code refusal
+Makes (Some s) new plan code refusal = (new ≡ Some s) × (code ≡ in_use) × (refusal ≡ of_row 0 0)
+
+-- afterwards there is no receiver
+abbrev pub Frees : Option Session → Option Session → ℕ → Type 0
+Frees None new code = (new ≡ None) × (code ≡ no_receiver)
+Frees (Some s) new code = (new ≡ None) × (code ≡ done)
+
+abbrev pub Feeds : Option Session → Option Session → ℕ → List ℕ → ℕ → ℕ → Type 0
+Feeds old new lane bytes code taken =
+    OnSession ((code ≡ no_receiver) × (taken ≡ 0)) (λ s t. (result : Result ℕ Misuse) × IsFeed s t lane bytes result × GivesCount result code taken) old new
+
+abbrev pub Finishes : Option Session → Option Session → ℕ → ℕ → Type 0
+Finishes old new lane code = OnSession (code ≡ no_receiver) (λ s t. (result : Result (Unit {0}) Misuse) × IsFinish s t lane result × GivesCode result code) old new
+
+abbrev pub GivesEvent : Option Session → Option Session → ℕ → Event → Type 0
+GivesEvent old new code event =
+    OnSession ((code ≡ no_receiver) × (event ≡ shown None)) (λ s t. (result : Option RxEvent) × IsNext s.receiver t.receiver result × (code ≡ done) × (event ≡ shown result)) old new
+
+abbrev pub Reads : Option Session → Option Session → ℕ → List ℕ → List ℕ → ℕ → ℕ → Type 0
+Reads old new offset before after code count =
+    OnSession ((code ≡ no_receiver) × (count ≡ 0) × (after ≡ before)) (λ s t. (result : Result ℕ Misuse) × IsRead s offset before after result × GivesCount result code count × (t ≡ s)) old new
+
+abbrev pub Reports : Option Session → Option Session → ℕ → ℕ → Report → Type 0
+Reports old new lane code report =
+    OnSession ((code ≡ no_receiver) × (report ≡ no_report)) (λ s t. (result : Result LaneReport Misuse) × IsReport s lane result × GivesReport result code report × (t ≡ s)) old new

@@ -1,0 +1,11 @@
+pub mod Calls
+pub mod CallsLaw
+pub mod Codes
+pub mod Held
+pub mod Misuses
+pub mod Opens
+pub mod Owned
+pub mod Refusals
+pub mod Reports
+pub mod Runs
+pub mod Shown

@@ -1,0 +1,227 @@
+//! The calls on a receiver.
+ghost use Rattle.std.specs.Prelude.{◌≡◌, IfOk, IfErr};
+ghost use Rattle.interlaken_c.specs.Held.{Feeds, Finishes, Frees, GivesCode, GivesCount, GivesEvent, GivesReport, Makes, Reads, Reports, refused_code};
+ghost use Rattle.interlaken_c.specs.Opens.{IsOfPlan, IsRefused};
+
+use crate::codes::{BAD_PLAN, DONE, IN_USE, NO_RECEIVER, OUT_OF_MEMORY, code_of};
+use crate::event::{Event, shown};
+use crate::misuse::Misuse;
+use crate::receiver::Receiver;
+use crate::refusal::{Refusal, no_refusal, refusal_of};
+use crate::report::{Report, as_report, no_report};
+use crate::session::Session;
+use link_plan::{PlanError, read_plan};
+use lock_model::LaneReport;
+use std::alloc::Global;
+
+// A receiver of the plan of these bytes.
+fn opened(alloc: Global, plan: &[u8]) -> Result<Session, PlanError>
+    ensures made { IfOk result (λ s. IsOfPlan plan.now s) }
+    ensures refused { IfErr result (IsRefused plan.now) }
+{
+    let plan = read_plan(alloc, plan)?;
+    match Session::make(alloc, &plan) {
+        Ok(session) => Ok(session),
+        Err(_) => Err(PlanError::OutOfMemory),
+    }
+}
+
+// The same in a box of its own.
+fn boxed(alloc: Global, plan: &[u8]) -> Result<Box<Session, Global>, PlanError>
+    ensures made { IfOk result (λ b. IsOfPlan plan.now b.value) }
+    ensures refused { IfErr result (IsRefused plan.now) }
+{
+    let session = opened(alloc, plan)?;
+    match Box::new(alloc, session) {
+        Ok(session) => Ok(session),
+        Err(_) => Err(PlanError::OutOfMemory),
+    }
+}
+
+// The result of a refusal.
+fn refused(why: PlanError) -> u32
+    ensures { result ≡ refused_code why }
+{
+    match why {
+        PlanError::OutOfMemory => OUT_OF_MEMORY,
+        _ => BAD_PLAN,
+    }
+}
+
+/// Opens a receiver of the plan of these bytes behind a handle that has none, and writes why a plan is refused. It is `DONE`,
+/// `OUT_OF_MEMORY`, `BAD_PLAN` or `IN_USE`.
+#[unsafe(no_mangle)]
+pub extern "C" fn interlaken_receiver_new(
+    alloc: Global,
+    receiver: &mut Receiver,
+    plan: &[u8],
+    refusal: &mut Refusal,
+) -> u32
+    ensures { Makes receiver.old.at.session receiver.new.at.session plan.now result refusal.new }
+{
+    *refusal = no_refusal();
+    if let Some(session) = receiver.take(alloc) {
+        receiver.put(session);
+        return IN_USE;
+    }
+    match boxed(alloc, plan) {
+        Ok(session) => {
+            receiver.put(session);
+            DONE
+        }
+        Err(why) => {
+            *refusal = refusal_of(why);
+            refused(why)
+        }
+    }
+}
+
+/// Frees a receiver. Its handle has none afterwards. It is `DONE` or `NO_RECEIVER`.
+#[unsafe(no_mangle)]
+pub extern "C" fn interlaken_receiver_free(alloc: Global, receiver: &mut Receiver) -> u32
+    ensures { Frees receiver.old.at.session receiver.new.at.session result }
+{
+    match receiver.take(alloc) {
+        Some(_) => DONE,
+        None => NO_RECEIVER,
+    }
+}
+
+// The result of a call that counts bytes.
+fn counted(answer: Result<usize, Misuse>, count: &mut usize) -> u32
+    ensures { GivesCount answer result count.new }
+{
+    match answer {
+        Ok(n) => {
+            *count = n;
+            DONE
+        }
+        Err(why) => {
+            *count = 0;
+            code_of(why)
+        }
+    }
+}
+
+/// Feeds a lane with the longest prefix of these bytes that its ring has room for, and writes how many that is. It is `DONE`,
+/// `NO_LANE`, `FINISHED`, `TOO_MANY` or `NO_RECEIVER`.
+#[unsafe(no_mangle)]
+pub extern "C" fn interlaken_receiver_feed(
+    alloc: Global,
+    receiver: &mut Receiver,
+    lane: u32,
+    bytes: &[u8],
+    taken: &mut usize,
+) -> u32
+    ensures { Feeds receiver.old.at.session receiver.new.at.session lane bytes.now result taken.new }
+{
+    *taken = 0;
+    let Some(mut session) = receiver.take(alloc) else {
+        return NO_RECEIVER;
+    };
+    let answer = session.feed(lane, bytes);
+    receiver.put(session);
+    counted(answer, taken)
+}
+
+// The result of a call that gives nothing.
+fn ended(answer: Result<(), Misuse>) -> u32
+    ensures { GivesCode answer result }
+{
+    match answer {
+        Ok(()) => DONE,
+        Err(why) => code_of(why),
+    }
+}
+
+/// No further byte of this lane comes. It is `DONE`, `NO_LANE`, `FINISHED` or `NO_RECEIVER`.
+#[unsafe(no_mangle)]
+pub extern "C" fn interlaken_receiver_finish(
+    alloc: Global,
+    receiver: &mut Receiver,
+    lane: u32,
+) -> u32
+    ensures { Finishes receiver.old.at.session receiver.new.at.session lane result }
+{
+    let Some(mut session) = receiver.take(alloc) else {
+        return NO_RECEIVER;
+    };
+    let answer = session.finish(lane);
+    receiver.put(session);
+    ended(answer)
+}
+
+/// Writes the next event, or none where a lane that is not finished lacks bytes, or after the end. It is `DONE` or `NO_RECEIVER`.
+#[unsafe(no_mangle)]
+pub extern "C" fn interlaken_receiver_next(
+    alloc: Global,
+    receiver: &mut Receiver,
+    event: &mut Event,
+) -> u32
+    ensures { GivesEvent receiver.old.at.session receiver.new.at.session result event.new }
+{
+    *event = shown(None);
+    let Some(mut session) = receiver.take(alloc) else {
+        return NO_RECEIVER;
+    };
+    let next = session.next();
+    receiver.put(session);
+    *event = shown(next);
+    DONE
+}
+
+/// Copies bytes of the packet that `next` gave last, from the offset on, as many as there is room for, and writes how many that
+/// is. It is `DONE`, `NO_PACKET` or `NO_RECEIVER`.
+#[unsafe(no_mangle)]
+pub extern "C" fn interlaken_receiver_read(
+    alloc: Global,
+    receiver: &mut Receiver,
+    offset: u32,
+    bytes: &mut [u8],
+    count: &mut usize,
+) -> u32
+    ensures { Reads receiver.old.at.session receiver.new.at.session offset bytes.old bytes.new result count.new }
+{
+    *count = 0;
+    let Some(session) = receiver.take(alloc) else {
+        return NO_RECEIVER;
+    };
+    let answer = session.read(offset, bytes);
+    receiver.put(session);
+    counted(answer, count)
+}
+
+// The result of a call that gives a report.
+fn reported(answer: Result<LaneReport, Misuse>, report: &mut Report) -> u32
+    ensures { GivesReport answer result report.new }
+{
+    match answer {
+        Ok(found) => {
+            *report = as_report(&found);
+            DONE
+        }
+        Err(why) => {
+            *report = no_report();
+            code_of(why)
+        }
+    }
+}
+
+/// Writes the report of a lane over the bytes that were taken from its ring. It is `DONE`, `NO_LANE` or `NO_RECEIVER`.
+#[unsafe(no_mangle)]
+pub extern "C" fn interlaken_receiver_report(
+    alloc: Global,
+    receiver: &mut Receiver,
+    lane: u32,
+    report: &mut Report,
+) -> u32
+    ensures { Reports receiver.old.at.session receiver.new.at.session lane result report.new }
+{
+    *report = no_report();
+    let Some(session) = receiver.take(alloc) else {
+        return NO_RECEIVER;
+    };
+    let answer = session.report(lane);
+    receiver.put(session);
+    reported(answer, report)
+}

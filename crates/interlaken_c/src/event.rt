@@ -1,0 +1,156 @@
+//! Events as C sees them.
+ghost use Rattle.std.specs.Prelude.{◌≡◌};
+ghost use Rattle.interlaken_c.specs.Shown.{drop_number, dropped, fault_number, fault_span, flow, no_event, packet, place_of, shown};
+
+use lk_base::{DropWhy, Pos, Why};
+use receive_model::Span;
+use rx_end::RxEvent;
+
+/// The place of a word: its group, named by the received bit position of its Sync on lane 0, and the index of the word in it. Where
+/// there is none all is 0.
+#[repr(C)]
+#[derive(Clone, Copy)]
+pub struct Place {
+    pub known: u32,
+    pub index: u32,
+    pub group: u64,
+}
+
+/// An event, or none. A field that its kind lacks is 0.
+#[repr(C)]
+#[derive(Clone, Copy)]
+pub struct Event {
+    /// 0 none, 1 a packet, 2 a dropped piece, 3 a fault span, 4 a verified control word, 5 the end.
+    pub kind: u32,
+    /// The channel of a packet, or of a dropped piece.
+    pub channel: u32,
+    /// How many bytes a packet has.
+    pub length: u32,
+    /// Why a piece is dropped, or what a span is for.
+    pub why: u32,
+    /// A packet's SOP word, the verified word before a span, or the place of a control word.
+    pub first: Place,
+    /// The word that ends a packet, or the verified word after a span.
+    pub last: Place,
+    /// A control word.
+    pub word: u64,
+}
+
+fn place_of(pos: Option<Pos>) -> Place
+    ensures { result ≡ place_of pos }
+{
+    match pos {
+        None => Place {
+            known: 0,
+            index: 0,
+            group: 0,
+        },
+        Some(pos) => Place {
+            known: 1,
+            index: pos.index,
+            group: pos.group,
+        },
+    }
+}
+
+fn no_event(kind: u32) -> Event
+    ensures { result ≡ no_event kind }
+{
+    Event {
+        kind,
+        channel: 0,
+        length: 0,
+        why: 0,
+        first: place_of(None),
+        last: place_of(None),
+        word: 0,
+    }
+}
+
+fn drop_number(why: DropWhy) -> u32
+    ensures { result ≡ drop_number why }
+{
+    match why {
+        DropWhy::Bad => 0,
+        DropWhy::Crc => 1,
+        DropWhy::Protocol => 2,
+        DropWhy::Lost => 3,
+        DropWhy::End => 4,
+        DropWhy::TooLong => 5,
+        DropWhy::Unlisted => 6,
+        DropWhy::SenderError => 7,
+    }
+}
+
+fn fault_number(why: Why) -> u32
+    ensures { result ≡ fault_number why }
+{
+    match why {
+        Why::Start => 0,
+        Why::Bad => 1,
+        Why::Crc => 2,
+        Why::Protocol => 3,
+        Why::Lost => 4,
+        Why::End => 5,
+    }
+}
+
+fn packet(channel: u16, length: u32, first: Pos, last: Pos) -> Event
+    ensures { result ≡ packet channel length first last }
+{
+    let mut event = no_event(1);
+    event.channel = channel as u32;
+    event.length = length;
+    event.first = place_of(Some(first));
+    event.last = place_of(Some(last));
+    event
+}
+
+fn fault_span(found: Span) -> Event
+    ensures { result ≡ fault_span found }
+{
+    let mut event = no_event(3);
+    event.why = fault_number(found.why);
+    event.first = place_of(found.after);
+    event.last = place_of(found.before);
+    event
+}
+
+fn flow(at: Pos, word: u64) -> Event
+    ensures { result ≡ flow at word }
+{
+    let mut event = no_event(4);
+    event.first = place_of(Some(at));
+    event.word = word;
+    event
+}
+
+fn dropped(channel: u16, why: DropWhy) -> Event
+    ensures { result ≡ dropped channel why }
+{
+    let mut event = no_event(2);
+    event.channel = channel as u32;
+    event.why = drop_number(why);
+    event
+}
+
+/// An event, or none, as C sees it.
+pub fn shown(event: Option<RxEvent>) -> Event
+    ensures { result ≡ shown event }
+{
+    match event {
+        None => no_event(0),
+        Some(
+            RxEvent::Packet {
+                channel,
+                length,
+                first,
+                last,
+            },
+        ) => packet(channel, length, first, last),
+        Some(RxEvent::Dropped { channel, why }) => dropped(channel, why),
+        Some(RxEvent::Span(found)) => fault_span(found),
+        Some(RxEvent::Flow { at, word }) => flow(at, word),
+        Some(RxEvent::Ended) => no_event(5),
+    }
+}

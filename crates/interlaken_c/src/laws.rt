@@ -1,0 +1,8 @@
+//! The law on calls.
+ghost use Rattle.interlaken_c.specs.CallsLaw.{CallsGiveFirst};
+
+/// After any calls on a receiver, in any order and with any misuse among them, the events that it gave are the first of those of
+/// all lanes whose bytes begin with what was fed, and are equal to it on finished lanes.
+pub fn calls_give_first()
+    ensures { CallsGiveFirst }
+{}

@@ -1,0 +1,14 @@
+//! Calls for C: a receiver of the lanes of a link, behind a handle.
+#![tactic(auto)]
+
+mod calls;
+mod codes;
+mod event;
+mod handle;
+mod laws;
+mod misuse;
+mod parts;
+mod receiver;
+mod refusal;
+mod report;
+mod session;

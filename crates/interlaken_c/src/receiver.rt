@@ -1,0 +1,52 @@
+//! What C holds: a receiver, or none.
+ghost use Rattle.std.specs.Prelude.{◌≡◌, is_some, Some, None, IfSome, IfNone};
+
+use crate::handle::Handle;
+use crate::parts::Parts;
+use crate::session::Session;
+use std::alloc::Global;
+use std::mem;
+
+/// A handle of a receiver, or of none. All zeros is a handle of none.
+#[repr(C)]
+#[derive(Drop)]
+pub struct Receiver {
+    pub at: Handle,
+    live: bool,
+    ghost marked: { live ≡ is_some at.session },
+}
+
+impl Receiver {
+    // No receiver.
+    fn absent(alloc: Global) -> Receiver
+        ensures { result.at.session ≡ None }
+    {
+        Receiver {
+            at: Handle::absent(alloc),
+            live: false,
+        }
+    }
+
+    /// Gives the session away, if there is one. There is none afterwards.
+    pub fn take(&mut self, alloc: Global) -> Option<Box<Session, Global>>
+        ensures gone { self.new.at.session ≡ None }
+        ensures some { IfSome result (λ b. self.old.at.session ≡ Some b.value) }
+        ensures none { IfNone result (self.old.at.session ≡ None) }
+    {
+        let receiver = mem::replace(self, Receiver::absent(alloc));
+        if !receiver.live {
+            return None;
+        }
+        Some(receiver.at.into_parts().into_box())
+    }
+
+    /// Holds a session from now on.
+    pub fn put(&mut self, session: Box<Session, Global>)
+        ensures { self.new.at.session ≡ Some session.value }
+    {
+        *self = Receiver {
+            at: Handle::of(Parts::of(session)),
+            live: true,
+        };
+    }
+}
