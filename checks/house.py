@@ -25,7 +25,7 @@ def edges_of(top):
         line = line.split("#")[0].strip()
         if line:
             name, rest = line.split(":")
-            edges[name] = rest.split()
+            edges[name.split()[0]] = rest.split()
     return edges
 
 

@@ -1,3 +1,3 @@
-pub mod AsBox
-pub mod Feeding
-pub mod Following
+mod AsBox
+mod Feeding
+mod Following
