@@ -1,0 +1,159 @@
+/* The receiving end of an Interlaken link, for C and C++: bytes of lanes in, packets, fault spans and control words out.
+ *
+ * A call returns one of `enum interlaken_result`, and is defined for every value of its numbers and every content of its bytes, as
+ * long as
+ * - each pointer is valid for what it points to, and is never null, also where a count is 0;
+ * - no two pointers of one call lead to the same bytes;
+ * - a handle is all zeros, or as the last call on it left it, and is in one place: it may be moved, but of a copy and what it was
+ *   copied of only one is used from then on;
+ * - a handle is used by one call at a time, and by calls of one thread.
+ * Misuse of any other kind has a result, and changes nothing. After `interlaken_receiver_new` no call takes memory.
+ *
+ * Memory comes from three functions of the user's, which examples/c/alloc.c has over malloc, realloc and free. */
+#ifndef INTERLAKEN_H
+#define INTERLAKEN_H
+
+#include <stddef.h>
+#include <stdint.h>
+
+#ifdef __cplusplus
+extern "C" {
+#endif
+
+/* The results of calls. */
+enum interlaken_result {
+  INTERLAKEN_DONE = 0,          /* the call did what it was asked */
+  INTERLAKEN_OUT_OF_MEMORY = 1, /* memory ran out: there is no receiver */
+  INTERLAKEN_BAD_PLAN = 2,      /* the plan is refused: there is no receiver */
+  INTERLAKEN_NO_LANE = 3,       /* the link has no such lane */
+  INTERLAKEN_FINISHED = 4,      /* the lane was finished before */
+  INTERLAKEN_TOO_MANY = 5,      /* the lane has 2^40 bytes or more, or the piece has */
+  INTERLAKEN_NO_PACKET = 6,     /* the last event was no packet */
+  INTERLAKEN_NO_RECEIVER = 7,   /* the handle has no receiver: it is all zeros, or its receiver was freed */
+  INTERLAKEN_IN_USE = 8         /* the handle has a receiver already, and keeps it */
+};
+
+/* A handle of a receiver, or of none. All zeros is a handle of none, as in `interlaken_receiver r = {0};`. Both members are the
+ * library's own. */
+typedef struct interlaken_receiver {
+  void *at;
+  uint8_t live;
+} interlaken_receiver;
+
+/* Causes of a refusal. Rows are counted from 1. */
+enum interlaken_cause {
+  INTERLAKEN_NO_CAUSE = 0,    /* the plan is not refused */
+  INTERLAKEN_TEXT = 1,        /* a field of the row is not UTF-8 */
+  INTERLAKEN_UNKNOWN_KEY = 2, /* the row's first field names no key */
+  INTERLAKEN_FIELDS = 3,      /* the row has another number of fields */
+  INTERLAKEN_NUMBER = 4,      /* a field of the row is not of its form */
+  INTERLAKEN_RANGE = 5,       /* a number, a length or a count of rows is out of range */
+  INTERLAKEN_REPEAT = 6,      /* the row is a second one of what may stand once */
+  INTERLAKEN_MISSING = 7,     /* no row has the key: 1 `lanes`, 2 `metaframe`, 3 `channel`, 4 `out` */
+  INTERLAKEN_CLASH = 8        /* the row contradicts others */
+};
+
+/* Why a plan is refused. */
+typedef struct interlaken_refusal {
+  uint32_t cause; /* of enum interlaken_cause */
+  uint32_t row;   /* the row, from 1; 0 where a key is missing, or there is no cause */
+  uint32_t key;   /* the key that is missing; else 0 */
+} interlaken_refusal;
+
+/* Kinds of events. */
+enum interlaken_kind {
+  INTERLAKEN_NONE = 0,    /* no event: a lane that is not finished lacks bytes, or the end came before */
+  INTERLAKEN_PACKET = 1,  /* a packet: channel, length, first, last; its bytes can be read until the next call of `next` */
+  INTERLAKEN_DROPPED = 2, /* a piece of a packet is dropped: channel, why of enum interlaken_drop */
+  INTERLAKEN_SPAN = 3,    /* a fault span: first, last, why of enum interlaken_fault */
+  INTERLAKEN_FLOW = 4,    /* a verified control word, for whoever reads flow control: first, word */
+  INTERLAKEN_ENDED = 5    /* the end: all lanes are finished, and all other events were given */
+};
+
+enum interlaken_drop {
+  INTERLAKEN_DROP_BAD = 0,         /* a Bad word came before the piece was whole */
+  INTERLAKEN_DROP_CRC = 1,         /* a checksum was wrong before the piece was whole */
+  INTERLAKEN_DROP_PROTOCOL = 2,    /* the words broke the rules, or a packet began inside another or without a beginning */
+  INTERLAKEN_DROP_LOST = 3,        /* a lane lost its lock before the piece was whole */
+  INTERLAKEN_DROP_END = 4,         /* the words were over before the piece was whole */
+  INTERLAKEN_DROP_TOO_LONG = 5,    /* the packet is longer than the receiver takes */
+  INTERLAKEN_DROP_UNLISTED = 6,    /* the plan does not list the channel */
+  INTERLAKEN_DROP_SENDER_ERROR = 7 /* the sender ended the packet with an error */
+};
+
+enum interlaken_fault {
+  INTERLAKEN_FAULT_START = 0,    /* no control word was verified before */
+  INTERLAKEN_FAULT_BAD = 1,      /* a stretch has a Bad word */
+  INTERLAKEN_FAULT_CRC = 2,      /* a stretch's checksum is wrong */
+  INTERLAKEN_FAULT_PROTOCOL = 3, /* a stretch's words break the rules of bursts and ends */
+  INTERLAKEN_FAULT_LOST = 4,     /* a lane lost its lock */
+  INTERLAKEN_FAULT_END = 5       /* a lane's bits, or the words, were over */
+};
+
+/* The place of a payload word. */
+typedef struct interlaken_place {
+  uint32_t known; /* 1 where there is a place; else 0, as are index and group */
+  uint32_t index; /* the word in its group, from 0 */
+  uint64_t group; /* the received bit position of the group's Sync on lane 0 */
+} interlaken_place;
+
+/* An event. A member that its kind lacks is 0. */
+typedef struct interlaken_event {
+  uint32_t kind;          /* of enum interlaken_kind */
+  uint32_t channel;       /* 0 to 65535 */
+  uint32_t length;        /* bytes of the packet */
+  uint32_t why;           /* of enum interlaken_drop or enum interlaken_fault */
+  interlaken_place first; /* a packet's SOP word, the verified word before a span, a control word */
+  interlaken_place last;  /* the word that ends a packet, the verified word after a span */
+  uint64_t word;          /* a control word */
+} interlaken_event;
+
+/* What the locks of a lane were, and how many of the words that they cover are wrong, over the bytes that were taken from the
+ * lane's ring so far. */
+typedef struct interlaken_report {
+  uint64_t locks;     /* declared locks */
+  uint64_t has_first; /* 1 where a lock was declared; else 0 */
+  uint64_t first;     /* the bit position of the first declaring Sync; 0 where there is none */
+  uint64_t lost;      /* declared locks that were lost */
+  uint64_t unframed;  /* losses before a declaration, and searches that were given up */
+  uint64_t bad;       /* Bad words */
+  uint64_t sync;      /* Sync words that are wrong */
+  uint64_t state;     /* Scrambler State words that are not that of the running key */
+  uint64_t diag;      /* Diagnostic words that are not right */
+} interlaken_report;
+
+/* Opens a receiver of the plan of these bytes (the text of a plan file) behind a handle that has none. The plan is not kept: its
+ * bytes are the caller's. `refusal` is written; its cause is INTERLAKEN_NO_CAUSE where the plan is not refused.
+ * Results: DONE, OUT_OF_MEMORY, BAD_PLAN, IN_USE. */
+uint32_t interlaken_receiver_new(interlaken_receiver *receiver, const uint8_t *plan, size_t count, interlaken_refusal *refusal);
+
+/* Frees a receiver with all its memory. Its handle is one of none afterwards.
+ * Results: DONE, NO_RECEIVER. */
+uint32_t interlaken_receiver_free(interlaken_receiver *receiver);
+
+/* Feeds a lane, counted from 0, with the next of its bytes, first bit first: the longest prefix of `bytes` that its ring of 4,096
+ * bytes has room for. `taken` is how many that are; what was not taken is fed again, after `next` gave what it had.
+ * Results: DONE, NO_LANE, FINISHED, TOO_MANY, NO_RECEIVER; `taken` is 0 where it is not DONE. */
+uint32_t interlaken_receiver_feed(interlaken_receiver *receiver, uint32_t lane, const uint8_t *bytes, size_t count, size_t *taken);
+
+/* No further byte of this lane comes.
+ * Results: DONE, NO_LANE, FINISHED, NO_RECEIVER. */
+uint32_t interlaken_receiver_finish(interlaken_receiver *receiver, uint32_t lane);
+
+/* Writes the next event; INTERLAKEN_NONE where there is none so far.
+ * Results: DONE, NO_RECEIVER; the event is INTERLAKEN_NONE where it is not DONE. */
+uint32_t interlaken_receiver_next(interlaken_receiver *receiver, interlaken_event *event);
+
+/* Copies bytes of the packet that `next` gave last, from `offset` on, as many as there are and as `count` allows; `copied` is how
+ * many. The bytes after these stay as they are.
+ * Results: DONE, NO_PACKET, NO_RECEIVER; `copied` is 0 where it is not DONE. */
+uint32_t interlaken_receiver_read(interlaken_receiver *receiver, uint32_t offset, uint8_t *bytes, size_t count, size_t *copied);
+
+/* Writes the report of a lane, counted from 0.
+ * Results: DONE, NO_LANE, NO_RECEIVER; the report is all 0 where it is not DONE. */
+uint32_t interlaken_receiver_report(interlaken_receiver *receiver, uint32_t lane, interlaken_report *report);
+
+#ifdef __cplusplus
+}
+#endif
+#endif
