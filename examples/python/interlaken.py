@@ -1,0 +1,289 @@
+"""The receiving end of an Interlaken link: bytes of lanes in, packets, fault spans and control words out.
+
+    with Receiver(plan, library="lib/libinterlaken.so") as receiver:
+        for event in receiver.feed_all(lanes):
+            ...
+
+Where bytes come live, call `feed` and `finish` for each lane, and take `events()` after each.
+
+It calls the C library that tools/library makes. A call that is misused raises Misuse, and changes nothing; a plan that is refused
+raises BadPlan, with the row and the cause. A Receiver is used by one thread.
+"""
+
+from __future__ import annotations
+
+import ctypes
+import enum
+from dataclasses import dataclass
+from typing import Iterator, Optional, Sequence
+
+
+class Result(enum.IntEnum):
+    """The results of calls, as in interlaken.h."""
+
+    DONE = 0
+    OUT_OF_MEMORY = 1
+    BAD_PLAN = 2
+    NO_LANE = 3
+    FINISHED = 4
+    TOO_MANY = 5
+    NO_PACKET = 6
+    NO_RECEIVER = 7
+    IN_USE = 8
+
+
+class Cause(enum.IntEnum):
+    """Why a plan is refused."""
+
+    NO_CAUSE = 0
+    TEXT = 1
+    UNKNOWN_KEY = 2
+    FIELDS = 3
+    NUMBER = 4
+    RANGE = 5
+    REPEAT = 6
+    MISSING = 7
+    CLASH = 8
+
+
+class Drop(enum.IntEnum):
+    """Why a piece of a packet is dropped."""
+
+    BAD = 0
+    CRC = 1
+    PROTOCOL = 2
+    LOST = 3
+    END = 4
+    TOO_LONG = 5
+    UNLISTED = 6
+    SENDER_ERROR = 7
+
+
+class Fault(enum.IntEnum):
+    """What a fault span is for."""
+
+    START = 0
+    BAD = 1
+    CRC = 2
+    PROTOCOL = 3
+    LOST = 4
+    END = 5
+
+
+class Misuse(Exception):
+    """A call was asked what it does not do; `result` says what."""
+
+    def __init__(self, result: Result):
+        super().__init__(result.name)
+        self.result = result
+
+
+class BadPlan(Exception):
+    """The plan is refused: the cause, the row from 1 (0 where a key is missing), and the number of the missing key, else 0."""
+
+    def __init__(self, cause: Cause, row: int, key: int):
+        super().__init__("row %d: %s" % (row, cause.name) if row else "%s, key %d" % (cause.name, key))
+        self.cause, self.row, self.key = cause, row, key
+
+
+@dataclass(frozen=True)
+class Place:
+    """The place of a payload word: the received bit position of its group's Sync on lane 0, and the word in the group."""
+
+    group: int
+    index: int
+
+
+@dataclass(frozen=True)
+class Packet:
+    """A packet, with the places of its SOP word and of the word that ends it."""
+
+    channel: int
+    data: bytes
+    first: Place
+    last: Place
+
+
+@dataclass(frozen=True)
+class Dropped:
+    """A piece of a packet is dropped."""
+
+    channel: int
+    why: Drop
+
+
+@dataclass(frozen=True)
+class Span:
+    """A fault span, with the verified words before it and after it, where there are such."""
+
+    after: Optional[Place]
+    before: Optional[Place]
+    why: Fault
+
+
+@dataclass(frozen=True)
+class Flow:
+    """A verified control word."""
+
+    at: Place
+    word: int
+
+
+@dataclass(frozen=True)
+class Ended:
+    """The end: all lanes are finished, and all other events were given."""
+
+
+Event = Packet | Dropped | Span | Flow | Ended
+
+
+@dataclass(frozen=True)
+class Report:
+    """What the locks of a lane were, and how many of the words that they cover are wrong. `first` is the bit position of the first
+    declaring Sync, or None."""
+
+    locks: int
+    first: Optional[int]
+    lost: int
+    unframed: int
+    bad: int
+    sync: int
+    state: int
+    diag: int
+
+
+class _Handle(ctypes.Structure):
+    _fields_ = [("at", ctypes.c_void_p), ("live", ctypes.c_uint8)]
+
+
+class _Refusal(ctypes.Structure):
+    _fields_ = [(name, ctypes.c_uint32) for name in ("cause", "row", "key")]
+
+
+class _Place(ctypes.Structure):
+    _fields_ = [("known", ctypes.c_uint32), ("index", ctypes.c_uint32), ("group", ctypes.c_uint64)]
+
+    def value(self) -> Optional[Place]:
+        return Place(self.group, self.index) if self.known else None
+
+
+class _Event(ctypes.Structure):
+    _fields_ = [(name, ctypes.c_uint32) for name in ("kind", "channel", "length", "why")] + [
+        ("first", _Place),
+        ("last", _Place),
+        ("word", ctypes.c_uint64),
+    ]
+
+
+class _Report(ctypes.Structure):
+    _fields_ = [
+        (name, ctypes.c_uint64)
+        for name in ("locks", "has_first", "first", "lost", "unframed", "bad", "sync", "state", "diag")
+    ]
+
+
+_size = ctypes.c_size_t
+_u32 = ctypes.c_uint32
+_handle = ctypes.POINTER(_Handle)
+_CALLS = {
+    "new": (_handle, ctypes.c_char_p, _size, ctypes.POINTER(_Refusal)),
+    "free": (_handle,),
+    "feed": (_handle, _u32, ctypes.c_char_p, _size, ctypes.POINTER(_size)),
+    "finish": (_handle, _u32),
+    "next": (_handle, ctypes.POINTER(_Event)),
+    "read": (_handle, _u32, ctypes.c_char_p, _size, ctypes.POINTER(_size)),
+    "report": (_handle, _u32, ctypes.POINTER(_Report)),
+}
+
+
+class Receiver:
+    """A receiver of the lanes of a plan. As a context manager it is closed at the end."""
+
+    def __init__(self, plan: bytes, library: str = "libinterlaken.so"):
+        """`plan` is the text of a plan file, and `library` the path of the shared library."""
+        self._calls = ctypes.CDLL(library)
+        for name, types in _CALLS.items():
+            call = getattr(self._calls, "interlaken_receiver_" + name)
+            call.argtypes, call.restype = types, _u32
+        self._handle = _Handle()
+        refusal = _Refusal()
+        result = Result(self._calls.interlaken_receiver_new(self._handle, plan, len(plan), refusal))
+        if result is Result.BAD_PLAN:
+            raise BadPlan(Cause(refusal.cause), refusal.row, refusal.key)
+        if result is Result.OUT_OF_MEMORY:
+            raise MemoryError
+        if result is not Result.DONE:
+            raise Misuse(result)
+
+    def _call(self, name: str, *words: object) -> None:
+        result = Result(getattr(self._calls, "interlaken_receiver_" + name)(self._handle, *words))
+        if result is not Result.DONE:
+            raise Misuse(result)
+
+    def close(self) -> None:
+        """Frees the receiver; a second time does nothing. Each further call raises Misuse."""
+        self._calls.interlaken_receiver_free(self._handle)
+
+    def __enter__(self) -> "Receiver":
+        return self
+
+    def __exit__(self, *error: object) -> None:
+        self.close()
+
+    def feed(self, lane: int, data: bytes) -> int:
+        """Feeds a lane with the next of its bytes, as many as its ring of 4,096 bytes has room for, and returns how many."""
+        taken = _size()
+        self._call("feed", lane, data, len(data), taken)
+        return taken.value
+
+    def finish(self, lane: int) -> None:
+        """No further byte of this lane comes."""
+        self._call("finish", lane)
+
+    def next(self) -> Optional[Event]:
+        """The next event; None where there is none so far, and after the end."""
+        event = _Event()
+        self._call("next", event)
+        first, last = event.first.value(), event.last.value()
+        if event.kind == 1:
+            return Packet(event.channel, self._packet(event.length), first, last)
+        if event.kind == 2:
+            return Dropped(event.channel, Drop(event.why))
+        if event.kind == 3:
+            return Span(first, last, Fault(event.why))
+        if event.kind == 4:
+            return Flow(first, event.word)
+        return Ended() if event.kind == 5 else None
+
+    def _packet(self, length: int) -> bytes:
+        data, copied = ctypes.create_string_buffer(max(length, 1)), _size()
+        self._call("read", 0, data, length, copied)
+        return data.raw[: copied.value]
+
+    def events(self) -> Iterator[Event]:
+        """The events that there are so far."""
+        while (event := self.next()) is not None:
+            yield event
+
+    def feed_all(self, lanes: Sequence[bytes]) -> Iterator[Event]:
+        """Feeds these lanes, of which nothing was fed, to their ends, and yields all events as they come."""
+        fed = [0] * len(lanes)
+        over = [False] * len(lanes)
+        while True:
+            for event in self.events():
+                yield event
+                if isinstance(event, Ended):
+                    return
+            for lane, data in enumerate(lanes):
+                if fed[lane] < len(data):
+                    fed[lane] += self.feed(lane, data[fed[lane] : fed[lane] + 4096])
+                elif not over[lane]:
+                    self.finish(lane)
+                    over[lane] = True
+
+    def report(self, lane: int) -> Report:
+        """The report of a lane over the bytes that were taken from its ring so far."""
+        report = _Report()
+        self._call("report", lane, report)
+        first = report.first if report.has_first else None
+        return Report(report.locks, first, report.lost, report.unframed, report.bad, report.sync, report.state, report.diag)
