@@ -1,0 +1,78 @@
+#!/usr/bin/env bash
+# Tries the C library: the header's calls beside those of the archive, the C example and the Python module on lanes that the program
+# made, in drawn pieces and orders, beside what `receive` prints and writes; drawn sequences of calls with wrong ones among them, as C
+# and as C++, with the sanitizers where the compiler has them; and each allocation failing. Needs the archive that `rt lib` makes in
+# crates/interlaken_c. CASES=1000 compares as many generated cases, SEQUENCES=100000 tries as many sequences.
+set -u
+. "$(dirname "$0")/program.bash"
+wants cc gcc
+crate=$top/crates/interlaken_c
+archive=$crate/out/libinterlaken_c.a
+if [ ! -f "$archive" ] || [ -n "$(find "$crate"/{src,specs,proofs} -newer "$archive" -print -quit)" ]; then
+  echo "$name: skipped, no archive of these sources (rt lib in crates/interlaken_c makes it)"
+  exit 77
+fi
+folder=$(mktemp -d)
+trap 'rm -rf "$folder"' EXIT
+cd "$folder" || exit 1
+"$top/tools/library" "$folder/library" >library.txt 2>&1 || { cat library.txt; gives_up 'tools/library makes no library'; }
+include=$folder/library/include
+strict=(-Wall -Wextra -Werror -pedantic -O1 "-I$include")
+
+holds 'calls of the header and of the archive' "$(grep -o '^uint32_t interlaken_[a-z_]*' "$include/interlaken.h" | cut -d ' ' -f 2 | sort)" \
+  "$(nm -g --defined-only "$archive" 2>/dev/null | grep -o '\binterlaken_receiver_[a-z]*$' | sort -u)"
+holds 'calls of the shared library' "$(nm -D --defined-only library/lib/libinterlaken.so | awk '$2 == "T" { sub(/@.*/, "", $3); print $3 }' | sort)" \
+  "$(nm -g --defined-only "$archive" 2>/dev/null | grep -o '\binterlaken_receiver_[a-z]*$' | sort -u)"
+
+cc -std=c99 "${strict[@]}" -o receive "$top/examples/c/receive.c" "$archive" "$top/examples/c/alloc.c" || gives_up 'examples/c is not compiled'
+if ! lacks pkg-config pkg-config 'the example compiled with the words of pkg-config'; then
+  # The words are several.
+  # shellcheck disable=SC2046
+  PKG_CONFIG_PATH=$folder/library/lib/pkgconfig cc -std=c99 -o by_words "$top/examples/c/receive.c" \
+    $(PKG_CONFIG_PATH=$folder/library/lib/pkgconfig pkg-config --cflags --libs interlaken)
+  holds 'the example by pkg-config' "$?" 0
+fi
+
+# Passes where the example and `receive` print the same of these lanes, and write the same.
+same_as_receive() { # WHAT PLAN PREFIX SEED..
+  local what=$1 plan=$2 prefix=$3 seed file written wanted
+  shift 3
+  wanted=$("$program" receive "$plan" 2>&1)
+  mkdir -p wanted && rm -f wanted/* && mv "$prefix".*.pcap "$prefix".spans.csv wanted
+  for seed; do
+    # No seed is no word.
+    # shellcheck disable=SC2086
+    holds "$what, seed ${seed:-none}: lines" "$(./receive "$plan" "$prefix" got $seed 2>&1)" "$wanted"
+    written=same
+    for file in wanted/*; do
+      cmp -s "$file" "got.${file#wanted/"$prefix".}" || written="${file#wanted/} differs"
+    done
+    holds "$what, seed ${seed:-none}: files" "$written" same
+    rm -f got.*
+  done
+}
+
+cp "$top"/examples/{damaged.plan,damaged.schedule,one.pcap,two.pcap} . && "$program" link damaged.plan >/dev/null || gives_up 'link fails'
+same_as_receive 'examples/damaged.plan' damaged.plan damaged '' 1 2
+for case in $(seq 1 "${CASES:-12}"); do
+  rm -f g*
+  "$program" generate "$case" g >/dev/null 2>&1
+  [ $? -le 3 ] && [ -f g.plan ] || continue
+  same_as_receive "case $case" g.plan "$(awk -F, '$1 == "out" { print $2 }' g.plan)" '' "$case"
+done
+
+sanitize=(-fsanitize=address,undefined)
+echo 'int main(void) { return 0; }' >empty.c
+cc "${sanitize[@]}" -o empty empty.c 2>/dev/null && ./empty || { echo "$name: not tried, no sanitizers of cc (Debian package gcc): drawn calls under them"; sanitize=(); }
+cc -std=c99 "${strict[@]}" "${sanitize[@]}" -o calls "$top/checks/clib/calls.c" "$archive"
+holds 'drawn calls' "$(./calls damaged.plan damaged.lane.0 damaged.lane.1 "${SEQUENCES:-500}" 2>&1 | sed 's/^[0-9]* tried, //')" '0 wrong'
+if ! lacks c++ g++ 'the same calls as C++'; then
+  c++ "${strict[@]}" -x c++ "$top/checks/clib/calls.c" -x none -o calls_plus "$archive"
+  holds 'drawn calls as C++' "$(./calls_plus damaged.plan damaged.lane.0 damaged.lane.1 100 2>&1 | sed 's/^[0-9]* tried, //')" '0 wrong'
+fi
+
+if ! lacks python3 python3 'examples/python'; then
+  holds 'examples/python' "$(python3 -B "$top/examples/python/packets.py" library/lib/libinterlaken.so damaged.plan damaged.lane.0 damaged.lane.1 2>&1 | cut -d ' ' -f 1-2)" \
+    "$(printf '%s\n' 'span start' 'span crc' 'packet channel=1' 'packet channel=2' 'span end' 'lane 0' 'lane 1')"
+fi
+ends

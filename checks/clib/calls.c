@@ -1,0 +1,223 @@
+/* Calls of the C library in drawn sequences, wrong ones among them, with the result of each as the header states it; and each
+ * allocation failing. It is C and C++.
+ *
+ *     calls PLAN LANE0 LANE1 SEQUENCES
+ *
+ * PLAN is a plan of two lanes, and LANE0 and LANE1 are the files of its lanes. */
+#include "interlaken.h"
+#include <stdio.h>
+#include <stdlib.h>
+#include <string.h>
+
+#ifdef __cplusplus
+extern "C" {
+#endif
+struct tried {
+  uint8_t memory;
+  void *at;
+};
+struct tried rattle_alloc(size_t size, size_t align);
+struct tried rattle_realloc(void *at, size_t kept, size_t size, size_t align);
+void rattle_dealloc(void *at);
+#ifdef __cplusplus
+}
+#endif
+
+static long allocations, live, failing = -1;
+static char none;
+
+static struct tried tried(void *at) {
+  struct tried answer;
+  answer.memory = at != NULL;
+  answer.at = at != NULL ? at : &none;
+  return answer;
+}
+
+struct tried rattle_alloc(size_t size, size_t align) {
+  void *at = allocations++ == failing ? NULL : malloc(size != 0 ? size : align);
+  live += at != NULL;
+  return tried(at);
+}
+
+struct tried rattle_realloc(void *at, size_t kept, size_t size, size_t align) {
+  (void)kept;
+  return tried(allocations++ == failing ? NULL : realloc(at, size != 0 ? size : align));
+}
+
+void rattle_dealloc(void *at) {
+  live--;
+  free(at);
+}
+
+static long wrong, tries;
+
+static void want(const char *what, int holds) {
+  tries++;
+  if (holds) return;
+  if (wrong++ < 20) printf("%s\n", what);
+}
+
+struct bytes {
+  uint8_t *at;
+  size_t count;
+};
+
+static struct bytes load(const char *name) {
+  struct bytes file;
+  FILE *in = fopen(name, "rb");
+  if (in == NULL) exit(2);
+  fseek(in, 0, SEEK_END);
+  file.count = (size_t)ftell(in);
+  rewind(in);
+  file.at = (uint8_t *)malloc(file.count + 1);
+  if (fread(file.at, 1, file.count, in) != file.count) exit(2);
+  fclose(in);
+  return file;
+}
+
+static uint64_t state;
+
+static uint32_t below(uint32_t bound) {
+  state ^= state << 13, state ^= state >> 7, state ^= state << 17;
+  return (uint32_t)(state >> 20) % bound;
+}
+
+/* A handle, and what is known of it. */
+struct known {
+  interlaken_receiver receiver;
+  int has, lends, over[2], ended;
+  uint32_t length;
+  size_t fed[2];
+};
+
+static struct known absent;
+static struct bytes plan, lanes[2];
+
+static uint32_t lane_result(const struct known *k, uint32_t lane) {
+  if (!k->has) return INTERLAKEN_NO_RECEIVER;
+  if (lane >= 2) return INTERLAKEN_NO_LANE;
+  return k->over[lane] ? INTERLAKEN_FINISHED : INTERLAKEN_DONE;
+}
+
+static uint32_t some_lane(void) {
+  static const uint32_t few[] = {0, 1, 0, 1, 0, 1, 2, 63, 64, 0xffffffff};
+  return few[below(10)];
+}
+
+static void try_new(struct known *k) {
+  interlaken_refusal refusal;
+  int bad = below(4) == 0;
+  uint32_t result = interlaken_receiver_new(&k->receiver, bad ? (const uint8_t *)"lanes,x\n" : plan.at, bad ? below(9) : plan.count, &refusal);
+  want("new", result == (uint32_t)(k->has ? INTERLAKEN_IN_USE : bad ? INTERLAKEN_BAD_PLAN : INTERLAKEN_DONE));
+  want("refusal", (refusal.cause != 0) == (result == INTERLAKEN_BAD_PLAN));
+  if (result == INTERLAKEN_DONE) k->has = 1;
+}
+
+static void try_free(struct known *k) {
+  uint32_t result = interlaken_receiver_free(&k->receiver);
+  want("free", result == (uint32_t)(k->has ? INTERLAKEN_DONE : INTERLAKEN_NO_RECEIVER));
+  want("freed", k->receiver.live == 0);
+  *k = absent;
+}
+
+static void try_feed(struct known *k) {
+  uint32_t lane = some_lane(), wanted = lane_result(k, lane), from = lane < 2 ? lane : 0, result;
+  size_t left = lanes[from].count - k->fed[from], count = below(6000), taken = 99;
+  int long_piece = below(50) == 0;
+  if (count > left) count = left;
+  if (wanted == INTERLAKEN_DONE && long_piece) wanted = INTERLAKEN_TOO_MANY;
+  result = interlaken_receiver_feed(&k->receiver, lane, lanes[from].at + k->fed[from], long_piece ? (size_t)1 << 40 : count, &taken);
+  want("feed", result == wanted);
+  want("taken", result == INTERLAKEN_DONE ? taken <= count && (taken == count || taken <= 4096) : taken == 0);
+  if (result == INTERLAKEN_DONE) k->fed[from] += taken;
+}
+
+static void try_finish(struct known *k) {
+  uint32_t lane = some_lane(), wanted = lane_result(k, lane);
+  want("finish", interlaken_receiver_finish(&k->receiver, lane) == wanted);
+  if (wanted == INTERLAKEN_DONE) k->over[lane] = 1;
+}
+
+static void try_next(struct known *k) {
+  interlaken_event event;
+  uint32_t result = interlaken_receiver_next(&k->receiver, &event);
+  want("next", result == (uint32_t)(k->has ? INTERLAKEN_DONE : INTERLAKEN_NO_RECEIVER));
+  want("kind", event.kind <= (uint32_t)(k->has ? INTERLAKEN_ENDED : INTERLAKEN_NONE));
+  want("end", event.kind != INTERLAKEN_ENDED || (k->over[0] && k->over[1] && !k->ended));
+  want("none after the end", !k->ended || event.kind == INTERLAKEN_NONE);
+  if (event.kind == INTERLAKEN_ENDED) k->ended = 1;
+  k->lends = event.kind == INTERLAKEN_PACKET;
+  k->length = event.length;
+}
+
+static void try_read(struct known *k) {
+  uint8_t bytes[300];
+  size_t copied = 99, count = below(301), left;
+  uint32_t offset = below(8) == 0 ? 0xffffffff - below(2) : below(400), result;
+  result = interlaken_receiver_read(&k->receiver, offset, bytes, count, &copied);
+  want("read", result == (uint32_t)(!k->has ? INTERLAKEN_NO_RECEIVER : k->lends ? INTERLAKEN_DONE : INTERLAKEN_NO_PACKET));
+  left = k->length > offset ? k->length - offset : 0;
+  want("copied", copied == (result == INTERLAKEN_DONE ? (count < left ? count : left) : 0));
+}
+
+static void try_report(struct known *k) {
+  interlaken_report report;
+  uint32_t lane = some_lane(), result = interlaken_receiver_report(&k->receiver, lane, &report);
+  want("report", result == (uint32_t)(!k->has ? INTERLAKEN_NO_RECEIVER : lane < 2 ? INTERLAKEN_DONE : INTERLAKEN_NO_LANE));
+}
+
+static void sequence(void) {
+  struct known two[2] = {absent, absent};
+  uint32_t calls = 20 + below(200);
+  while (calls-- > 0) {
+    struct known *k = &two[below(2)];
+    long before = allocations;
+    switch (below(40)) {
+      case 0: case 1: try_new(k); before = allocations; break;
+      case 2: if (below(4) == 0) try_free(k); break;
+      case 3: if (below(3) == 0) try_finish(k); break;
+      case 4: case 5: case 6: try_read(k); break;
+      case 7: case 8: try_report(k); break;
+      default: if (below(2)) try_feed(k); else try_next(k); break;
+    }
+    want("no allocation after new", allocations == before);
+  }
+  try_free(&two[0]), try_free(&two[1]);
+  want("nothing leaks", live == 0);
+}
+
+/* A call that an allocation fails has no memory, or does without it, as a sort does without its buffer. */
+static void each_allocation(void) {
+  long fails, refused = 0, taken = 1;
+  for (fails = 0; fails < taken; fails++) {
+    struct known k = absent;
+    interlaken_refusal refusal;
+    uint32_t result;
+    failing = fails, allocations = 0;
+    result = interlaken_receiver_new(&k.receiver, plan.at, plan.count, &refusal);
+    failing = -1, taken = allocations > fails ? fails + 2 : fails;
+    want("no cause", refusal.cause == 0);
+    if (result == INTERLAKEN_DONE) {
+      interlaken_receiver_free(&k.receiver);
+    } else {
+      want("out of memory", result == INTERLAKEN_OUT_OF_MEMORY && k.receiver.live == 0);
+      refused++;
+    }
+    want("nothing leaks", live == 0);
+  }
+  want("it needs memory", refused > 10);
+}
+
+int main(int argc, char **argv) {
+  long left;
+  if (argc != 5) return 2;
+  plan = load(argv[1]), lanes[0] = load(argv[2]), lanes[1] = load(argv[3]);
+  each_allocation();
+  for (left = atol(argv[4]); left > 0; left--) {
+    state = (uint64_t)left * 2654435761u + 88172645463325252u;
+    sequence();
+  }
+  printf("%ld tried, %ld wrong\n", tries, wrong);
+  free(plan.at), free(lanes[0].at), free(lanes[1].at);
+  return wrong != 0;
+}
