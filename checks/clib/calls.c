@@ -186,7 +186,7 @@ static void sequence(void) {
   want("nothing leaks", live == 0);
 }
 
-/* A call that an allocation fails has no memory, or does without it, as a sort does without its buffer. */
+/* Where an allocation fails the call has no memory, or does without it. */
 static void each_allocation(void) {
   long fails, refused = 0, taken = 1;
   for (fails = 0; fails < taken; fails++) {
