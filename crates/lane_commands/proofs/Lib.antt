@@ -1,7 +1,6 @@
 -- What other crates cite.
 pub mod StripeWork
 -- What this crate alone cites.
-mod LaneContents
 mod Given
 mod SentAgain
 mod Filling

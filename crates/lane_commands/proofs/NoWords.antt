@@ -1,5 +1,5 @@
 -- No words make no bytes.
-use Rattle.std.proofs.Common.{◌≡◌, ℕ, zero, suc, ◌+◌, ◌*◌, ◌/◌, ◌%◌, ◌<◌, ◌≤◌, List, [], ◌∷◌, length, map, get_or, refl, sym, ap, ◌∙◌, subst, arith, zero-mul, div-le_self}
+use Rattle.std.proofs.Common.{◌≡◌, ℕ, zero, suc, ◌/◌, ◌%◌, List, [], ◌∷◌, map, get_or, refl, sym, ap, ◌∙◌, subst, arith, zero-mul, div-le_self}
 use Rattle.std.specs.List.{range_with_len}
 use Rattle.std.proofs.lemmas.List.{length-map}
 use Rattle.std.proofs.lemmas.List.FromFn.{length-map-range_with_len}
@@ -11,12 +11,11 @@ use Rattle.lane_model.specs.LaneBits.{IsFileOf, bits_of_codes, lane_bits, stream
 use Rattle.lane_model.specs.LaneWords.{lane_words, sent_at}
 use Rattle.lane_model.specs.Striping.{lane_payload}
 use Rattle.run_shell.specs.Names.{lane_name, lane_names}
-use Rattle.run_shell.specs.Outcome.{Outcome}
 use Rattle.run_shell.specs.Outputs.{blank, outs}
 use Rattle.tx_end.specs.Lanes.{AreLaneFiles}
 use Rattle.stream_commands.specs.Outputs.{AreLaneOutputs}
-use Rattle.lane_commands.proofs.LaneContents.{one_list}
-use Rattle.lane_commands.specs.Stripe.{IsStriped, PlanWords, Stripes}
+use Rattle.stream_commands.proofs.LaneContents.{one_list}
+use Rattle.lane_commands.specs.Stripe.{Stripes}
 use Rattle.lane_commands.specs.StripeLaws.{NoWordsNoBytes}
 use Rattle.lane_commands.proofs.Filling.{stripe_once, stripes_whole}
 

@@ -1,10 +1,9 @@
 -- `stripe` after `burst` sends what `send` sends; and no words make no bytes.
-use Rattle.std.proofs.Common.{◌≡◌, ℕ, zero, suc, ◌+◌, ◌*◌, ◌/◌, ◌<◌, ◌≤◌, ◌^◌, false, List, [], ◌∷◌, length, map, replicate, get_or, All, refl, sym, ap, ◌∙◌, subst, arith, nat_lt, cond, Option, Some, None, Result, Ok, Err, MatchResult}
+use Rattle.std.proofs.Common.{◌≡◌, ℕ, ◌<◌, ◌≤◌, ◌^◌, false, List, [], ◌∷◌, length, get_or, All, refl, sym, ap, ◌∙◌, subst, arith, nat_lt, cond, Some, None, Ok, MatchResult}
 use Rattle.std.proofs.lemmas.Bool.{false_from_ne_true, ltb-true}
-use Rattle.std.proofs.lemmas.List.{get_or-replicate, length-replicate}
 use Rattle.std.proofs.lemmas.Option.{slice_get-get_or}
 use Rattle.lk_base.specs.Limits.{words_limit}
-use Rattle.lk_base.specs.Link.{Settings, group_of}
+use Rattle.lk_base.specs.Link.{group_of}
 use Rattle.lk_base.specs.Words.{payload}
 use Rattle.lk_base.specs.declared.word.Word.{Word}
 use Rattle.lk_outside.specs.Files.{Files, file}
@@ -12,17 +11,16 @@ use Rattle.stream_model.specs.BurstStream.{Source, IsBurstStream}
 use Rattle.stream_model.proofs.OneStream.{one_stream}
 use Rattle.words_files.specs.WordsFile.{words_file}
 use Rattle.tx_end.proofs.Shapes.{whole_groups}
-use Rattle.plan_inputs.specs.Inputs.{Reading, plan_in}
 use Rattle.plan_inputs.proofs.SameSource.{same_source}
-use Rattle.run_stops.specs.Reading.{Refusal, behind, bytes_by, bytes_in}
+use Rattle.run_stops.specs.Reading.{behind, bytes_by, bytes_in}
 use Rattle.run_shell.specs.Names.{words_name}
-use Rattle.run_shell.specs.Outcome.{Output, Outcome, content_of}
+use Rattle.run_shell.specs.Outcome.{Output, content_of}
 use Rattle.run_shell.specs.Work.{refused_outcome}
 use Rattle.run_shell.proofs.Fills.{same}
 use Rattle.stream_commands.specs.Outputs.{AreLaneOutputs}
-use Rattle.lane_commands.proofs.LaneContents.{one_list}
+use Rattle.stream_commands.proofs.LaneContents.{one_list}
 use Rattle.lane_commands.specs.SentWords.{sent_words_by, sent_words_in, sent_words_of_file}
-use Rattle.lane_commands.specs.Stripe.{IsStriped, PlanWords, Stripes, plan_words_in, with_words}
+use Rattle.lane_commands.specs.Stripe.{IsStriped, Stripes, plan_words_in, with_words}
 use Rattle.lane_commands.specs.StripeLaws.{StripeSendsBurst}
 use Rattle.lane_commands.proofs.Filling.{stripe_once, stripes_whole}
 use Rattle.lane_commands.proofs.SentAgain.{sent_again}

@@ -16,7 +16,7 @@ use Rattle.run_stops.specs.Reading.{Reads, behind, vec_items}
 use Rattle.run_stops.proofs.Readings.{behind_ok, behind_stops, first_stops, second_reads}
 use Rattle.run_shell.specs.declared.status.Status.TheVariants.{Done}
 use Rattle.run_shell.specs.Names.{lane_name, lane_names, words_name}
-use Rattle.run_shell.specs.Outcome.{Output, Outcome}
+use Rattle.run_shell.specs.Outcome.{Outcome}
 use Rattle.run_shell.specs.Meaning.{IsMeaning}
 use Rattle.run_shell.specs.Work.{IsWork}
 use Rattle.run_shell.specs.Ends.{held_status}
@@ -26,10 +26,10 @@ use Rattle.run_shell.specs.declared.finished.Finished.{Finished}
 use Rattle.run_shell.proofs.Writing.{one_writes}
 use Rattle.run_shell.proofs.Works.{is_meaning}
 use Rattle.stream_commands.specs.Outputs.{AreLaneOutputs}
-use Rattle.lane_commands.proofs.LaneContents.{one_list, some_list}
+use Rattle.stream_commands.proofs.LaneContents.{one_list, some_list}
 use Rattle.stream_commands.proofs.OneOutcome.{same_parts}
 use Rattle.lane_commands.specs.SentWords.{sent_words_in}
-use Rattle.lane_commands.specs.Stripe.{IsReadFor, IsStriped, PlanWords, Stripes, plan_words_in, stripe_meaning, stripe_work, with_words}
+use Rattle.lane_commands.specs.Stripe.{IsReadFor, IsStriped, PlanWords, plan_words_in, stripe_meaning, stripe_work, with_words}
 use Rattle.tx_end.specs.Lanes.{AreLaneFiles}
 use Rattle.lane_commands.specs.Values.{AreStriped, words_value}
 use Rattle.lane_commands.specs.declared.striped.StripedLanes.{StripedLanes}

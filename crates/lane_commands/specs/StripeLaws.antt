@@ -6,14 +6,12 @@ use Rattle.lk_base.specs.declared.word.Word.{Word}
 use Rattle.lk_base.specs.declared.word.Word.TheVariants.{Data, Control}
 use Rattle.lk_outside.specs.Files.{Files, file}
 use Rattle.words_files.specs.Examples.{last_byte_missing, word_of_each_kind}
-use Rattle.words_files.specs.WordsFile.{words_file}
 use Rattle.words_files.specs.WordsOfFile.{cut_file, has_wrong_tag, word_in, words_of_file}
 use Rattle.words_files.specs.declared.error.WordsError.TheVariants.{Tag, Short}
 use Rattle.plan_inputs.specs.Inputs.{Reading, plan_in}
 use Rattle.run_shell.specs.Names.{words_name, lane_names}
-use Rattle.run_shell.specs.Outcome.{Output, Outcome, content_of}
+use Rattle.run_shell.specs.Outcome.{Outcome, content_of}
 use Rattle.run_shell.specs.Outputs.{outs, blank}
-use Rattle.stream_commands.specs.Outputs.{AreLaneOutputs}
 use Rattle.stream_commands.specs.Plan.{burst_plan_work, send_plan_work}
 use Rattle.lane_commands.specs.SentWords.{given_from, sent_words_of_file}
 use Rattle.lane_commands.specs.Stripe.{PlanWords, Stripes, IsStriped, filler, stripe_meaning}

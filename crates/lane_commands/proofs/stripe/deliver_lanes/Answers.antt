@@ -1,4 +1,4 @@
-use Rattle.std.proofs.Common.{◌∙◌, false, refl, sym, ap, map, string_bytes, List, ℕ, length, subst}
+use Rattle.std.proofs.Common.{◌∙◌, false, refl, ap, map, string_bytes, List, ℕ, length}
 use Rattle.std.proofs.lemmas.Result.{err_from_is_err_and}
 use Rattle.link_plan.specs.Views.{plan_value}
 use Rattle.run_stops.specs.Reading.{vec_items}
