@@ -53,7 +53,6 @@ pub struct Row {
     pub rule: Rule,
 }
 
-// A command that is not built has no row.
 static ROWS: &[Row] = &[
     Row {
         word: "burst",

@@ -121,7 +121,7 @@ fn request_for<'w>(command: Name, arguments: &Arguments<'w>) -> Request<'w>
         Name::Send => Request::SendPlan(WithFile::new(arguments.file)),
         Name::Receive => Request::Receive(WithFile::new(arguments.file)),
         Name::Link => Request::Link(WithFile::new(arguments.file)),
-        Name::Generate => Request::Generate(GenerateCase::make(arguments.number, arguments.file)),
+        Name::Generate => Request::Generate(GenerateCase::new(arguments.number, arguments.file)),
         Name::Duplex => Request::Duplex(WithFile::new(arguments.file)),
         Name::OobWrite => Request::OobWrite(WithFile::new(arguments.file)),
         Name::OobRead => Request::OobRead(WithFile::new(arguments.file)),
