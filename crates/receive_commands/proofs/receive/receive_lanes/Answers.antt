@@ -1,8 +1,9 @@
-use Rattle.std.proofs.Common.{◌≡◌, ◌∙◌, refl, sym, ap, length, map, replicate, string_bytes, Some}
+use Rattle.std.proofs.Common.{◌≡◌, ◌∙◌, refl, sym, ap, subst, ℕ, length, map, replicate, string_bytes, Some, Err}
 use Rattle.std.proofs.lemmas.Result.{err_from_is_err_and}
 use Rattle.link_plan.specs.Listing.{channels_in_order, numbers_of}
 use Rattle.link_plan.specs.Views.{plan_value}
 use Rattle.rx_front.specs.Calls.{nothing_fed}
+use Rattle.run_stops.specs.Stops.{StopCount}
 use Rattle.receipts.proofs.Settings.{is_the_setting, order_rises, plan_order, the_setting}
 use Rattle.lane_receipts.proofs.Beginnings.{begin_stands, names_count}
 use Rattle.receive_commands.proofs.ReceiveRun.{beginning, begins, begun, broken, no_output, unmade, unopened}
@@ -76,6 +77,11 @@ take_all-requires-clause-taking g c =
     let opened = c.in_ok-receipt.ensures.opens (the_setting (plan_value plan)) (sym order) in
     let at = begun plan c.as_str.result.now was c.as_str.ensures.value (map string_bytes lanes.names.now) named lanes.buffers.items c.in_ok-lanes.ensures.buffers.many c.in_ok-lanes.ensures.fresh c.in_ok-lanes.lanes.receiver stands c.in_ok-receipt.receipt _ opened in
     (beginning plan c.as_str.result.now was, at)
+
+pub returns-in_err-text-clause-cause : goal.returns-in_err-text-clause-cause
+returns-in_err-text-clause-cause g c =
+    let p = err_from_is_err_and c.from_residual-in_err-text.result c.from_residual-in_err-text.ensures.1 in
+    rw (p.1, p.2) (subst (λ (n : ℕ). StopCount {T = Unit {0}} (Err c.in_err-text.field-0.0) n (g.S.Store.faults c.take_all.new.store)) c.in_ok-receipt.ensures.cause c.in_err-text.ensures.cause)
 
 pub returns-in_err-text-clause-fills : goal.returns-in_err-text-clause-fills
 returns-in_err-text-clause-fills g c =
