@@ -26,7 +26,7 @@ fn opened(alloc: Global, plan: &[u8]) -> Result<Session, PlanError>
     }
 }
 
-// The same in a box of its own.
+// A receiver of the plan of these bytes, in a box.
 fn boxed(alloc: Global, plan: &[u8]) -> Result<Box<Session, Global>, PlanError>
     ensures made { IfOk result (λ b. IsOfPlan plan.now b.value) }
     ensures refused { IfErr result (IsRefused plan.now) }

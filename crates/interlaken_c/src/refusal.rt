@@ -14,7 +14,8 @@ pub struct Refusal {
     pub cause: u32,
     /// The number of the row, from 1; 0 where a key is missing.
     pub row: u32,
-    /// The key that is missing, else 0: 1 `lanes`, 2 `metaframe`, 3 `channel`, 4 `out`.
+    /// The key that is missing, else 0: 1 `lanes`, 2 `metaframe`, 3 `channel`, 4 `out`, 5 `oob`, 6 `events`, 7 `plan`, 8 `delay`,
+    /// 9 `mark`, 10 `slots`. Of a plan of lanes only the first four can be missing.
     pub key: u32,
 }
 
@@ -58,14 +59,12 @@ fn key_number(key: Key) -> u32
     }
 }
 
-/// Why a plan is refused, as C sees it; what no reader of a plan returns is no refusal.
+/// Why a plan is refused, as C sees it; out of memory, and what no reader of a plan returns, is no refusal.
 pub fn refusal_of(why: PlanError) -> Refusal
     ensures { result ≡ refusal_of why }
 {
     match why {
-        PlanError::NoFile => no_refusal(),
-        PlanError::TooLarge => no_refusal(),
-        PlanError::OutOfMemory => no_refusal(),
+        PlanError::NoFile | PlanError::TooLarge | PlanError::OutOfMemory => no_refusal(),
         PlanError::Text(row) => of_row(1, row),
         PlanError::UnknownKey(row) => of_row(2, row),
         PlanError::Fields(row) => of_row(3, row),

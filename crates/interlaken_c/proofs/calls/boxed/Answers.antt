@@ -1,4 +1,4 @@
--- The same in a box.
+-- A receiver in a box.
 use Rattle.std.proofs.Common.{sym, subst}
 use Rattle.interlaken_c.specs.Opens.{IsOfPlan}
 use Rattle.interlaken_c.proofs.calls.boxed.Goals as goal
