@@ -49,15 +49,24 @@ enum interlaken_cause {
   INTERLAKEN_NUMBER = 4,      /* a field of the row is not of its form */
   INTERLAKEN_RANGE = 5,       /* a number, a length or a count of rows is out of range */
   INTERLAKEN_REPEAT = 6,      /* the row is a second one of what may stand once */
-  INTERLAKEN_MISSING = 7,     /* no row has the key: 1 `lanes`, 2 `metaframe`, 3 `channel`, 4 `out` */
+  INTERLAKEN_MISSING = 7,     /* no row has the key */
   INTERLAKEN_CLASH = 8        /* the row contradicts others */
+};
+
+/* Keys that a plan must have. */
+enum interlaken_key {
+  INTERLAKEN_NO_KEY = 0,        /* no key is missing */
+  INTERLAKEN_KEY_LANES = 1,     /* `lanes` */
+  INTERLAKEN_KEY_METAFRAME = 2, /* `metaframe` */
+  INTERLAKEN_KEY_CHANNEL = 3,   /* `channel` */
+  INTERLAKEN_KEY_OUT = 4        /* `out` */
 };
 
 /* Why a plan is refused. */
 typedef struct interlaken_refusal {
   uint32_t cause; /* of enum interlaken_cause */
   uint32_t row;   /* the row, from 1; 0 where a key is missing, or there is no cause */
-  uint32_t key;   /* the key that is missing; else 0 */
+  uint32_t key;   /* of enum interlaken_key: the key that is missing, else INTERLAKEN_NO_KEY */
 } interlaken_refusal;
 
 /* Kinds of events. */

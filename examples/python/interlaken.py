@@ -46,6 +46,27 @@ class Cause(enum.IntEnum):
     CLASH = 8
 
 
+class Key(enum.IntEnum):
+    """A key that a plan must have."""
+
+    NO_KEY = 0
+    LANES = 1
+    METAFRAME = 2
+    CHANNEL = 3
+    OUT = 4
+
+
+class Kind(enum.IntEnum):
+    """Kinds of events."""
+
+    NONE = 0
+    PACKET = 1
+    DROPPED = 2
+    SPAN = 3
+    FLOW = 4
+    ENDED = 5
+
+
 class Drop(enum.IntEnum):
     """Why a piece of a packet is dropped."""
 
@@ -79,10 +100,10 @@ class Misuse(Exception):
 
 
 class BadPlan(Exception):
-    """The plan is refused: the cause, the row from 1 (0 where a key is missing), and the number of the missing key, else 0."""
+    """The plan is refused: the cause, the row from 1 (0 where a key is missing), and the missing key."""
 
-    def __init__(self, cause: Cause, row: int, key: int):
-        super().__init__("row %d: %s" % (row, cause.name) if row else "%s, key %d" % (cause.name, key))
+    def __init__(self, cause: Cause, row: int, key: Key):
+        super().__init__("row %d: %s" % (row, cause.name) if row else "%s: %s" % (cause.name, key.name))
         self.cause, self.row, self.key = cause, row, key
 
 
@@ -209,7 +230,7 @@ class Receiver:
         refusal = _Refusal()
         result = Result(self._calls.interlaken_receiver_new(self._handle, plan, len(plan), refusal))
         if result is Result.BAD_PLAN:
-            raise BadPlan(Cause(refusal.cause), refusal.row, refusal.key)
+            raise BadPlan(Cause(refusal.cause), refusal.row, Key(refusal.key))
         if result is Result.OUT_OF_MEMORY:
             raise MemoryError
         if result is not Result.DONE:
@@ -245,15 +266,15 @@ class Receiver:
         event = _Event()
         self._call("next", event)
         first, last = event.first.value(), event.last.value()
-        if event.kind == 1:
+        if event.kind == Kind.PACKET:
             return Packet(event.channel, self._packet(event.length), first, last)
-        if event.kind == 2:
+        if event.kind == Kind.DROPPED:
             return Dropped(event.channel, Drop(event.why))
-        if event.kind == 3:
+        if event.kind == Kind.SPAN:
             return Span(first, last, Fault(event.why))
-        if event.kind == 4:
+        if event.kind == Kind.FLOW:
             return Flow(first, event.word)
-        return Ended() if event.kind == 5 else None
+        return Ended() if event.kind == Kind.ENDED else None
 
     def _packet(self, length: int) -> bytes:
         data, copied = ctypes.create_string_buffer(max(length, 1)), _size()

@@ -2,6 +2,11 @@
 ghost use Rattle.std.specs.Prelude.{◌≡◌};
 ghost use Rattle.interlaken_c.specs.Shown.{drop_number, dropped, fault_number, fault_span, flow, no_event, packet, place_of, shown};
 
+use crate::codes::{
+    DROP_BAD, DROP_CRC, DROP_END, DROP_LOST, DROP_PROTOCOL, DROP_SENDER_ERROR, DROP_TOO_LONG,
+    DROP_UNLISTED, DROPPED, ENDED, FAULT_BAD, FAULT_CRC, FAULT_END, FAULT_LOST, FAULT_PROTOCOL,
+    FAULT_START, FLOW, NONE, PACKET, SPAN,
+};
 use lk_base::{DropWhy, Pos, Why};
 use receive_model::Span;
 use rx_end::RxEvent;
@@ -20,13 +25,13 @@ pub struct Place {
 #[repr(C)]
 #[derive(Clone, Copy)]
 pub struct Event {
-    /// 0 none, 1 a packet, 2 a dropped piece, 3 a fault span, 4 a verified control word, 5 the end.
+    /// One of the kinds in `codes`, `NONE` to `ENDED`.
     pub kind: u32,
     /// The channel of a packet, or of a dropped piece.
     pub channel: u32,
     /// How many bytes a packet has.
     pub length: u32,
-    /// Why a piece is dropped, or what a span is for.
+    /// Why a piece is dropped, `DROP_BAD` to `DROP_SENDER_ERROR` in `codes`, or what a span is for, `FAULT_START` to `FAULT_END`.
     pub why: u32,
     /// A packet's SOP word, the verified word before a span, or the place of a control word.
     pub first: Place,
@@ -53,6 +58,7 @@ fn place_of(pos: Option<Pos>) -> Place
     }
 }
 
+// An event of this kind with no field.
 fn no_event(kind: u32) -> Event
     ensures { result ≡ no_event kind }
 {
@@ -71,14 +77,14 @@ fn drop_number(why: DropWhy) -> u32
     ensures { result ≡ drop_number why }
 {
     match why {
-        DropWhy::Bad => 0,
-        DropWhy::Crc => 1,
-        DropWhy::Protocol => 2,
-        DropWhy::Lost => 3,
-        DropWhy::End => 4,
-        DropWhy::TooLong => 5,
-        DropWhy::Unlisted => 6,
-        DropWhy::SenderError => 7,
+        DropWhy::Bad => DROP_BAD,
+        DropWhy::Crc => DROP_CRC,
+        DropWhy::Protocol => DROP_PROTOCOL,
+        DropWhy::Lost => DROP_LOST,
+        DropWhy::End => DROP_END,
+        DropWhy::TooLong => DROP_TOO_LONG,
+        DropWhy::Unlisted => DROP_UNLISTED,
+        DropWhy::SenderError => DROP_SENDER_ERROR,
     }
 }
 
@@ -86,19 +92,19 @@ fn fault_number(why: Why) -> u32
     ensures { result ≡ fault_number why }
 {
     match why {
-        Why::Start => 0,
-        Why::Bad => 1,
-        Why::Crc => 2,
-        Why::Protocol => 3,
-        Why::Lost => 4,
-        Why::End => 5,
+        Why::Start => FAULT_START,
+        Why::Bad => FAULT_BAD,
+        Why::Crc => FAULT_CRC,
+        Why::Protocol => FAULT_PROTOCOL,
+        Why::Lost => FAULT_LOST,
+        Why::End => FAULT_END,
     }
 }
 
 fn packet(channel: u16, length: u32, first: Pos, last: Pos) -> Event
     ensures { result ≡ packet channel length first last }
 {
-    let mut event = no_event(1);
+    let mut event = no_event(PACKET);
     event.channel = channel as u32;
     event.length = length;
     event.first = place_of(Some(first));
@@ -109,7 +115,7 @@ fn packet(channel: u16, length: u32, first: Pos, last: Pos) -> Event
 fn fault_span(found: Span) -> Event
     ensures { result ≡ fault_span found }
 {
-    let mut event = no_event(3);
+    let mut event = no_event(SPAN);
     event.why = fault_number(found.why);
     event.first = place_of(found.after);
     event.last = place_of(found.before);
@@ -119,7 +125,7 @@ fn fault_span(found: Span) -> Event
 fn flow(at: Pos, word: u64) -> Event
     ensures { result ≡ flow at word }
 {
-    let mut event = no_event(4);
+    let mut event = no_event(FLOW);
     event.first = place_of(Some(at));
     event.word = word;
     event
@@ -128,7 +134,7 @@ fn flow(at: Pos, word: u64) -> Event
 fn dropped(channel: u16, why: DropWhy) -> Event
     ensures { result ≡ dropped channel why }
 {
-    let mut event = no_event(2);
+    let mut event = no_event(DROPPED);
     event.channel = channel as u32;
     event.why = drop_number(why);
     event
@@ -139,7 +145,7 @@ pub fn shown(event: Option<RxEvent>) -> Event
     ensures { result ≡ shown event }
 {
     match event {
-        None => no_event(0),
+        None => no_event(NONE),
         Some(
             RxEvent::Packet {
                 channel,
@@ -151,6 +157,6 @@ pub fn shown(event: Option<RxEvent>) -> Event
         Some(RxEvent::Dropped { channel, why }) => dropped(channel, why),
         Some(RxEvent::Span(found)) => fault_span(found),
         Some(RxEvent::Flow { at, word }) => flow(at, word),
-        Some(RxEvent::Ended) => no_event(5),
+        Some(RxEvent::Ended) => no_event(ENDED),
     }
 }

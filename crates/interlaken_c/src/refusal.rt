@@ -2,34 +2,40 @@
 ghost use Rattle.std.specs.Prelude.{◌≡◌};
 ghost use Rattle.interlaken_c.specs.Refusals.{key_number, of_key, of_row, refusal_of};
 
+use crate::codes::{
+    CLASH, FIELDS, KEY_CHANNEL, KEY_DELAY, KEY_EVENTS, KEY_LANES, KEY_MARK, KEY_METAFRAME, KEY_OOB,
+    KEY_OUT, KEY_PLAN, KEY_SLOTS, MISSING, NO_CAUSE, NO_KEY, NUMBER, RANGE, REPEAT, TEXT,
+    UNKNOWN_KEY,
+};
 use plan_errors::{Key, PlanError};
 
 /// Why a plan is refused. All is 0 where it is not.
 #[repr(C)]
 #[derive(Clone, Copy)]
 pub struct Refusal {
-    /// 1 a field of the row is not UTF-8, 2 the row's first field names no key, 3 the row has another number of fields, 4 a field of
-    /// the row is not of its form, 5 a number is out of range, 6 the row is a second one of what may stand once, 7 no row has the
-    /// key, 8 the row contradicts others.
+    /// One of the causes in `codes`, `NO_CAUSE` to `CLASH`.
     pub cause: u32,
     /// The number of the row, from 1; 0 where a key is missing.
     pub row: u32,
-    /// The key that is missing, else 0: 1 `lanes`, 2 `metaframe`, 3 `channel`, 4 `out`, 5 `oob`, 6 `events`, 7 `plan`, 8 `delay`,
-    /// 9 `mark`, 10 `slots`. Of a plan of lanes only the first four can be missing.
+    /// The key that is missing, of those in `codes`, else `NO_KEY`. Of a plan of lanes `KEY_LANES` to `KEY_OUT` can be missing.
     pub key: u32,
 }
 
 fn of_row(cause: u32, row: u32) -> Refusal
     ensures { result ≡ of_row cause row }
 {
-    Refusal { cause, row, key: 0 }
+    Refusal {
+        cause,
+        row,
+        key: NO_KEY,
+    }
 }
 
 fn of_key(key: u32) -> Refusal
     ensures { result ≡ of_key key }
 {
     Refusal {
-        cause: 7,
+        cause: MISSING,
         row: 0,
         key,
     }
@@ -39,23 +45,23 @@ fn of_key(key: u32) -> Refusal
 pub fn no_refusal() -> Refusal
     ensures { result ≡ of_row 0 0 }
 {
-    of_row(0, 0)
+    of_row(NO_CAUSE, 0)
 }
 
 fn key_number(key: Key) -> u32
     ensures { result ≡ key_number key }
 {
     match key {
-        Key::Lanes => 1,
-        Key::Metaframe => 2,
-        Key::Channel => 3,
-        Key::Out => 4,
-        Key::Oob => 5,
-        Key::Events => 6,
-        Key::Plan => 7,
-        Key::Delay => 8,
-        Key::Mark => 9,
-        Key::Slots => 10,
+        Key::Lanes => KEY_LANES,
+        Key::Metaframe => KEY_METAFRAME,
+        Key::Channel => KEY_CHANNEL,
+        Key::Out => KEY_OUT,
+        Key::Oob => KEY_OOB,
+        Key::Events => KEY_EVENTS,
+        Key::Plan => KEY_PLAN,
+        Key::Delay => KEY_DELAY,
+        Key::Mark => KEY_MARK,
+        Key::Slots => KEY_SLOTS,
     }
 }
 
@@ -65,13 +71,13 @@ pub fn refusal_of(why: PlanError) -> Refusal
 {
     match why {
         PlanError::NoFile | PlanError::TooLarge | PlanError::OutOfMemory => no_refusal(),
-        PlanError::Text(row) => of_row(1, row),
-        PlanError::UnknownKey(row) => of_row(2, row),
-        PlanError::Fields(row) => of_row(3, row),
-        PlanError::Number(row) => of_row(4, row),
-        PlanError::Range(row) => of_row(5, row),
-        PlanError::Repeat(row) => of_row(6, row),
+        PlanError::Text(row) => of_row(TEXT, row),
+        PlanError::UnknownKey(row) => of_row(UNKNOWN_KEY, row),
+        PlanError::Fields(row) => of_row(FIELDS, row),
+        PlanError::Number(row) => of_row(NUMBER, row),
+        PlanError::Range(row) => of_row(RANGE, row),
+        PlanError::Repeat(row) => of_row(REPEAT, row),
         PlanError::Missing(key) => of_key(key_number(key)),
-        PlanError::Clash(row) => of_row(8, row),
+        PlanError::Clash(row) => of_row(CLASH, row),
     }
 }
