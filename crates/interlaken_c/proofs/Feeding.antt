@@ -45,11 +45,6 @@ counts_finished i [] = refl
 counts_finished zero (lane ∷ fed) = refl
 counts_finished (suc i) (lane ∷ fed) = ap (λ (ns : List ℕ). length lane.bytes ∷ ns) (counts_finished i fed)
 
-unfinished_at : (i : ℕ) (fed : List Fed) → i < length fed → get_or (flags fed) i false ≡ false → is_unfinished i fed ≡ true
-unfinished_at i [] lt e = absurd (omega (arith, lt))
-unfinished_at zero (lane ∷ fed) lt e = ap not e
-unfinished_at (suc i) (lane ∷ fed) lt e = unfinished_at i fed (omega (arith, lt)) e
-
 count_of : (i : ℕ) (fed : List Fed) → bytes_at i fed ≡ get_or (counts fed) i 0
 count_of i [] = refl
 count_of zero (lane ∷ fed) = refl
@@ -64,20 +59,6 @@ counts_fresh zero = refl
 counts_fresh (suc n) = ap (λ (ns : List ℕ). 0 ∷ ns) (counts_fresh n)
 
 -- ---- calls
-
-pub open_lane : (r : State) (finished : List Bool) (fed_of : List ℕ) (i : ℕ) → Runs r finished fed_of → i < length finished → get_or finished i false ≡ false → is_open i r.front.lanes ≡ true
-open_lane r finished fed_of i k lt e =
-    let those = lanes_are_those r k.settings k.setting k.fed k.given i k.stands in
-    let same = length-map k.fed (λ (lane : Fed). lane.finished) in
-    let many = ap length k.flags_are in
-    those.1 ∙ unfinished_at i k.fed (omega (arith, lt, same, many)) (ap (λ (bs : List Bool). get_or bs i false) k.flags_are ∙ e)
-
-pub lane_there : (r : State) (finished : List Bool) (fed_of : List ℕ) (i : ℕ) → Runs r finished fed_of → i < length finished → i < length r.front.lanes
-lane_there r finished fed_of i k lt =
-    let many = (lanes_are_those r k.settings k.setting k.fed k.given i k.stands).0 in
-    let same = length-map k.fed (λ (lane : Fed). lane.finished) in
-    let flagged = ap length k.flags_are in
-    omega (arith, lt, many, same, flagged)
 
 pub count_lane : (r : State) (finished : List Bool) (fed_of : List ℕ) (i : ℕ) → Runs r finished fed_of → count_at i r.front.lanes ≡ get_or fed_of i 0
 count_lane r finished fed_of i k =
@@ -230,6 +211,12 @@ pub end_is_allowed : (r : State) (finished : List Bool) (fed_of : List ℕ) (i :
 end_is_allowed r finished fed_of i h none =
     let takes = lane_takes finished i (lane_misuse_is r finished fed_of i h ∙ none) in
     (takes.0, open_is r finished fed_of i h takes.0 ∙ ap not takes.1)
+
+pub lane_is_counted : (r : State) (finished : List Bool) (fed_of : List ℕ) (i : ℕ) → ∥ Runs r finished fed_of ∥₁ → lane_misuse r i ≡ None → i < length fed_of
+lane_is_counted r finished fed_of i h none =
+    let within = (end_is_allowed r finished fed_of i h none).0 in
+    let same = same_counts r finished fed_of h in
+    omega (arith, within, same)
 
 pub is_allowed : (r : State) (finished : List Bool) (fed_of : List ℕ) (i count : ℕ) → ∥ Runs r finished fed_of ∥₁ → feed_misuse r i count ≡ None → IsAllowed r finished fed_of i count
 is_allowed r finished fed_of i count h none =

@@ -12,7 +12,7 @@ use Rattle.interlaken_c.specs.Refusals.{of_row, refusal_of}
 use Rattle.interlaken_c.specs.declared.refusal.Refusal.{Refusal}
 use Rattle.interlaken_c.specs.Reports.{as_report, no_report}
 use Rattle.interlaken_c.specs.Shown.{shown}
-use Rattle.interlaken_c.specs.declared.event.Event.{Event}
+use Rattle.interlaken_c.specs.declared.event.CEvent.{CEvent}
 use Rattle.interlaken_c.specs.declared.report.Report.{Report}
 use Rattle.interlaken_c.specs.declared.misuse.Misuse.{Misuse}
 use Rattle.interlaken_c.specs.declared.session.Session.{Session}
@@ -66,7 +66,7 @@ Feeds old new lane bytes code taken =
 abbrev pub Finishes : Option Session → Option Session → ℕ → ℕ → Type 0
 Finishes old new lane code = OnSession (code ≡ no_receiver) (λ s t. (result : Result (Unit {0}) Misuse) × IsFinish s t lane result × GivesCode result code) old new
 
-abbrev pub GivesEvent : Option Session → Option Session → ℕ → Event → Type 0
+abbrev pub GivesEvent : Option Session → Option Session → ℕ → CEvent → Type 0
 GivesEvent old new code event =
     OnSession ((code ≡ no_receiver) × (event ≡ shown None)) (λ s t. (result : Option RxEvent) × IsNext s.receiver t.receiver result × (code ≡ done) × (event ≡ shown result)) old new
 

@@ -1,12 +1,13 @@
 //! The calls on a receiver.
 ghost use Rattle.std.specs.Prelude.{◌≡◌, IfOk, IfErr};
 ghost use Rattle.interlaken_c.specs.Held.{Feeds, Finishes, Frees, GivesCode, GivesCount, GivesEvent, GivesReport, Makes, Reads, Reports, refused_code};
+ghost use Rattle.interlaken_c.specs.Reports.{no_report};
 ghost use Rattle.interlaken_c.specs.Opens.{IsOfPlan, IsRefused};
 
 use crate::codes::{BAD_PLAN, DONE, IN_USE, NO_RECEIVER, OUT_OF_MEMORY, code_of};
-use crate::event::{Event, shown};
+use crate::event::{CEvent, shown};
 use crate::misuse::Misuse;
-use crate::receiver::Receiver;
+use crate::receiver::ReceiverHandle;
 use crate::refusal::{Refusal, no_refusal, refusal_of};
 use crate::report::{Report, as_report, no_report};
 use crate::session::Session;
@@ -20,10 +21,8 @@ fn opened(alloc: Global, plan: &[u8]) -> Result<Session, PlanError>
     ensures refused { IfErr result (IsRefused plan.now) }
 {
     let plan = read_plan(alloc, plan)?;
-    match Session::make(alloc, &plan) {
-        Ok(session) => Ok(session),
-        Err(_) => Err(PlanError::OutOfMemory),
-    }
+    let session = Session::new(alloc, &plan)?;
+    Ok(session)
 }
 
 // A receiver of the plan of these bytes, in a box.
@@ -53,7 +52,7 @@ fn refused(why: PlanError) -> u32
 #[unsafe(no_mangle)]
 pub extern "C" fn interlaken_receiver_new(
     alloc: Global,
-    receiver: &mut Receiver,
+    receiver: &mut ReceiverHandle,
     plan: &[u8],
     refusal: &mut Refusal,
 ) -> u32
@@ -78,7 +77,7 @@ pub extern "C" fn interlaken_receiver_new(
 
 /// Frees a receiver. Its handle has none afterwards. It is `DONE` or `NO_RECEIVER`.
 #[unsafe(no_mangle)]
-pub extern "C" fn interlaken_receiver_free(alloc: Global, receiver: &mut Receiver) -> u32
+pub extern "C" fn interlaken_receiver_free(alloc: Global, receiver: &mut ReceiverHandle) -> u32
     ensures { Frees receiver.old.at.session receiver.new.at.session result }
 {
     match receiver.take(alloc) {
@@ -87,8 +86,9 @@ pub extern "C" fn interlaken_receiver_free(alloc: Global, receiver: &mut Receive
     }
 }
 
-// The result of a call that counts bytes.
+// The result of a call that counts bytes; the count is 0 so far.
 fn counted(answer: Result<usize, Misuse>, count: &mut usize) -> u32
+    requires { count.old ≡ 0 }
     ensures { GivesCount answer result count.new }
 {
     match answer {
@@ -96,10 +96,7 @@ fn counted(answer: Result<usize, Misuse>, count: &mut usize) -> u32
             *count = n;
             DONE
         }
-        Err(why) => {
-            *count = 0;
-            code_of(why)
-        }
+        Err(why) => code_of(why),
     }
 }
 
@@ -108,7 +105,7 @@ fn counted(answer: Result<usize, Misuse>, count: &mut usize) -> u32
 #[unsafe(no_mangle)]
 pub extern "C" fn interlaken_receiver_feed(
     alloc: Global,
-    receiver: &mut Receiver,
+    receiver: &mut ReceiverHandle,
     lane: u32,
     bytes: &[u8],
     taken: &mut usize,
@@ -138,7 +135,7 @@ fn ended(answer: Result<(), Misuse>) -> u32
 #[unsafe(no_mangle)]
 pub extern "C" fn interlaken_receiver_finish(
     alloc: Global,
-    receiver: &mut Receiver,
+    receiver: &mut ReceiverHandle,
     lane: u32,
 ) -> u32
     ensures { Finishes receiver.old.at.session receiver.new.at.session lane result }
@@ -155,8 +152,8 @@ pub extern "C" fn interlaken_receiver_finish(
 #[unsafe(no_mangle)]
 pub extern "C" fn interlaken_receiver_next(
     alloc: Global,
-    receiver: &mut Receiver,
-    event: &mut Event,
+    receiver: &mut ReceiverHandle,
+    event: &mut CEvent,
 ) -> u32
     ensures { GivesEvent receiver.old.at.session receiver.new.at.session result event.new }
 {
@@ -175,7 +172,7 @@ pub extern "C" fn interlaken_receiver_next(
 #[unsafe(no_mangle)]
 pub extern "C" fn interlaken_receiver_read(
     alloc: Global,
-    receiver: &mut Receiver,
+    receiver: &mut ReceiverHandle,
     offset: u32,
     bytes: &mut [u8],
     count: &mut usize,
@@ -191,8 +188,9 @@ pub extern "C" fn interlaken_receiver_read(
     counted(answer, count)
 }
 
-// The result of a call that gives a report.
+// The result of a call that gives a report; it is one of nothing so far.
 fn reported(answer: Result<LaneReport, Misuse>, report: &mut Report) -> u32
+    requires { report.old ≡ no_report }
     ensures { GivesReport answer result report.new }
 {
     match answer {
@@ -200,10 +198,7 @@ fn reported(answer: Result<LaneReport, Misuse>, report: &mut Report) -> u32
             *report = as_report(&found);
             DONE
         }
-        Err(why) => {
-            *report = no_report();
-            code_of(why)
-        }
+        Err(why) => code_of(why),
     }
 }
 
@@ -211,7 +206,7 @@ fn reported(answer: Result<LaneReport, Misuse>, report: &mut Report) -> u32
 #[unsafe(no_mangle)]
 pub extern "C" fn interlaken_receiver_report(
     alloc: Global,
-    receiver: &mut Receiver,
+    receiver: &mut ReceiverHandle,
     lane: u32,
     report: &mut Report,
 ) -> u32

@@ -15,7 +15,7 @@ use rx_end::RxEvent;
 /// there is none all is 0.
 #[repr(C)]
 #[derive(Clone, Copy)]
-pub struct Place {
+pub struct CPlace {
     pub known: u32,
     pub index: u32,
     pub group: u64,
@@ -24,7 +24,7 @@ pub struct Place {
 /// An event, or none. A field that its kind lacks is 0.
 #[repr(C)]
 #[derive(Clone, Copy)]
-pub struct Event {
+pub struct CEvent {
     /// One of the kinds in `codes`, `NONE` to `ENDED`.
     pub kind: u32,
     /// The channel of a packet, or of a dropped piece.
@@ -34,23 +34,23 @@ pub struct Event {
     /// Why a piece is dropped, `DROP_BAD` to `DROP_SENDER_ERROR` in `codes`, or what a span is for, `FAULT_START` to `FAULT_END`.
     pub why: u32,
     /// A packet's SOP word, the verified word before a span, or the place of a control word.
-    pub first: Place,
+    pub first: CPlace,
     /// The word that ends a packet, or the verified word after a span.
-    pub last: Place,
+    pub last: CPlace,
     /// A control word.
     pub word: u64,
 }
 
-fn place_of(pos: Option<Pos>) -> Place
+fn place_of(pos: Option<Pos>) -> CPlace
     ensures { result ≡ place_of pos }
 {
     match pos {
-        None => Place {
+        None => CPlace {
             known: 0,
             index: 0,
             group: 0,
         },
-        Some(pos) => Place {
+        Some(pos) => CPlace {
             known: 1,
             index: pos.index,
             group: pos.group,
@@ -59,10 +59,10 @@ fn place_of(pos: Option<Pos>) -> Place
 }
 
 // An event of this kind with no field.
-fn no_event(kind: u32) -> Event
+fn no_event(kind: u32) -> CEvent
     ensures { result ≡ no_event kind }
 {
-    Event {
+    CEvent {
         kind,
         channel: 0,
         length: 0,
@@ -101,7 +101,7 @@ fn fault_number(why: Why) -> u32
     }
 }
 
-fn packet(channel: u16, length: u32, first: Pos, last: Pos) -> Event
+fn packet(channel: u16, length: u32, first: Pos, last: Pos) -> CEvent
     ensures { result ≡ packet channel length first last }
 {
     let mut event = no_event(PACKET);
@@ -112,7 +112,7 @@ fn packet(channel: u16, length: u32, first: Pos, last: Pos) -> Event
     event
 }
 
-fn fault_span(found: Span) -> Event
+fn fault_span(found: Span) -> CEvent
     ensures { result ≡ fault_span found }
 {
     let mut event = no_event(SPAN);
@@ -122,7 +122,7 @@ fn fault_span(found: Span) -> Event
     event
 }
 
-fn flow(at: Pos, word: u64) -> Event
+fn flow(at: Pos, word: u64) -> CEvent
     ensures { result ≡ flow at word }
 {
     let mut event = no_event(FLOW);
@@ -131,7 +131,7 @@ fn flow(at: Pos, word: u64) -> Event
     event
 }
 
-fn dropped(channel: u16, why: DropWhy) -> Event
+fn dropped(channel: u16, why: DropWhy) -> CEvent
     ensures { result ≡ dropped channel why }
 {
     let mut event = no_event(DROPPED);
@@ -141,7 +141,7 @@ fn dropped(channel: u16, why: DropWhy) -> Event
 }
 
 /// An event, or none, as C sees it.
-pub fn shown(event: Option<RxEvent>) -> Event
+pub fn shown(event: Option<RxEvent>) -> CEvent
     ensures { result ≡ shown event }
 {
     match event {

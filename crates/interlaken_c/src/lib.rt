@@ -5,7 +5,7 @@ mod calls;
 mod codes;
 mod event;
 mod handle;
-mod laws;
+pub mod laws;
 mod misuse;
 mod parts;
 mod receiver;

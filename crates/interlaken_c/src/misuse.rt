@@ -3,7 +3,7 @@ ghost use Rattle.std.specs.Prelude.{◌≡◌};
 ghost use Rattle.interlaken_c.specs.Misuses.{lane_misuse_by, misuse_by};
 
 /// No lane takes more bytes once it has this many, and no piece of one is as long.
-pub const MOST: usize = 1 << 40;
+pub const LANE_BYTES_LIMIT: usize = 1 << 40;
 
 /// What a call is asked that it does not do.
 #[derive(Clone, Copy, Debug, PartialEq, Eq)]
@@ -36,7 +36,7 @@ pub fn lane_misuse(finished: &[bool], lane: u32) -> Option<Misuse>
 pub fn piece_misuse(fed: usize, count: usize) -> Option<Misuse>
     ensures { result ≡ misuse_by fed count }
 {
-    if fed >= MOST || count >= MOST {
+    if fed >= LANE_BYTES_LIMIT || count >= LANE_BYTES_LIMIT {
         return Some(Misuse::TooMany);
     }
     None

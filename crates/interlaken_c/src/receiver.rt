@@ -10,18 +10,18 @@ use std::mem;
 /// A handle of a receiver, or of none. All zeros is a handle of none.
 #[repr(C)]
 #[derive(Drop)]
-pub struct Receiver {
+pub struct ReceiverHandle {
     pub at: Handle,
     live: bool,
     ghost marked: { live ≡ is_some at.session },
 }
 
-impl Receiver {
+impl ReceiverHandle {
     // No receiver.
-    fn absent(alloc: Global) -> Receiver
+    fn absent(alloc: Global) -> ReceiverHandle
         ensures { result.at.session ≡ None }
     {
-        Receiver {
+        ReceiverHandle {
             at: Handle::absent(alloc),
             live: false,
         }
@@ -33,7 +33,7 @@ impl Receiver {
         ensures some { IfSome result (λ b. self.old.at.session ≡ Some b.value) }
         ensures none { IfNone result (self.old.at.session ≡ None) }
     {
-        let receiver = mem::replace(self, Receiver::absent(alloc));
+        let receiver = mem::replace(self, ReceiverHandle::absent(alloc));
         if !receiver.live {
             return None;
         }
@@ -44,7 +44,7 @@ impl Receiver {
     pub fn put(&mut self, session: Box<Session, Global>)
         ensures { self.new.at.session ≡ Some session.value }
     {
-        *self = Receiver {
+        *self = ReceiverHandle {
             at: Handle::of(Parts::of(session)),
             live: true,
         };

@@ -1,5 +1,5 @@
 //! What C holds: a receiver, with what it must know to answer for any call.
-ghost use Rattle.std.specs.Prelude.{◌≡◌, ◌++◌, true, false, List, Option, Some, None, IfOk, IfErr, IfSome, length, min, take, drop, replicate};
+ghost use Rattle.std.specs.Prelude.{◌≡◌, true, false, None, IfOk, length, replicate};
 ghost use Rattle.interlaken_c.specs.Misuses.{feed_misuse, lane_misuse};
 ghost use Rattle.interlaken_c.specs.Runs.{Runs, is_lent};
 ghost use Rattle.rx_end.specs.Nexts.{IsNext};
@@ -26,27 +26,23 @@ pub struct Session {
 fn none_finished(alloc: Global, lanes: usize) -> Result<Vec<bool>, OutOfMemory>
     ensures { IfOk result (λ v. v.items ≡ replicate lanes false) }
 {
-    match vec![in alloc; false; lanes] {
-        Ok(finished) => Ok(finished),
-        Err(_) => Err(OutOfMemory),
-    }
+    let finished = vec![in alloc; false; lanes]?;
+    Ok(finished)
 }
 
 // This many lanes that were fed no byte.
 fn none_fed(alloc: Global, lanes: usize) -> Result<Vec<usize>, OutOfMemory>
     ensures { IfOk result (λ v. v.items ≡ replicate lanes 0) }
 {
-    match vec![in alloc; 0usize; lanes] {
-        Ok(fed) => Ok(fed),
-        Err(_) => Err(OutOfMemory),
-    }
+    let fed = vec![in alloc; 0usize; lanes]?;
+    Ok(fed)
 }
 
 impl Session {
     ghost use Rattle.interlaken_c.specs.Calls.{IsFeed, IsFinish, IsRead, IsReport};
 
     /// A receiver of a plan's lanes to which nothing was fed.
-    pub fn make(alloc: Global, plan: &Plan) -> Result<Session, OutOfMemory>
+    pub fn new(alloc: Global, plan: &Plan) -> Result<Session, OutOfMemory>
         ensures { IfOk result (λ s. IsUnfed plan.now s.receiver) }
     {
         let lanes = plan.link.lanes() as usize;
@@ -72,7 +68,7 @@ impl Session {
     fn feed_misuse(&self, lane: u32, count: usize) -> Option<Misuse>
         ensures { result ≡ feed_misuse self.now.receiver lane count }
     {
-        match misuse::lane_misuse(&self.finished, lane) {
+        match self.lane_misuse(lane) {
             Some(why) => Some(why),
             None => misuse::piece_misuse(self.fed[lane as usize], count),
         }

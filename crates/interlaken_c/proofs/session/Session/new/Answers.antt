@@ -1,7 +1,7 @@
 -- Nothing was fed.
 use Rattle.std.proofs.Common.{true≢false, sym}
 use Rattle.interlaken_c.proofs.Feeding.{runs_made}
-use Rattle.interlaken_c.proofs.session.Session.make.Goals as goal
+use Rattle.interlaken_c.proofs.session.Session.new.Goals as goal
 
 pub invariant_of-result : goal.invariant_of-result
 invariant_of-result c = record {
