@@ -1,5 +1,5 @@
 -- A receiver stands to what was fed and given after any calls.
-use Rattle.std.proofs.Common.{sym, subst, List, [], ◌∷◌, ◌++◌, Some, None, Ok, Err}
+use Rattle.std.proofs.Common.{ℕ, ◌≡◌, refl, sym, ap, ◌∙◌, subst, true, true≢false, Result, List, [], ◌∷◌, ◌++◌, Some, None, Ok, Err}
 use Rattle.std.proofs.lemmas.List.{append-nil}
 use Rattle.lk_base.specs.Link.{Settings}
 use Rattle.receive_model.specs.Events.{Event, Setting}
@@ -10,7 +10,9 @@ use Rattle.rx_end.specs.declared.event.RxEvent.TheVariants as events
 use Rattle.rx_end.specs.Standing.{GivesEvent, Stands, event_of}
 use Rattle.rx_end.specs.States.{State}
 use Rattle.rx_end.proofs.Pieces.{given_come_first}
-use Rattle.interlaken_c.specs.CallsLaw.{AreCalls, Call, Feed, Finish, Next, Look, CallsGiveFirst, Leads, fed_after, given_after}
+use Rattle.interlaken_c.specs.Calls.{IsRead, KeepsPacket}
+use Rattle.interlaken_c.specs.CallsLaw.{AreCalls, AreOthers, Call, Feed, Finish, Next, Look, CallsGiveFirst, IsReadOf, Leads, ReadsThePacket, fed_after, given_after}
+use Rattle.interlaken_c.specs.declared.misuse.Misuse.{Misuse}
 use Rattle.interlaken_c.specs.declared.session.Session.{Session}
 
 gave : (event : RxEvent) (w : State) (s : Settings) (setting : Setting) (fed : List Fed) (given : List Event) → GivesEvent event w s setting fed given →
@@ -27,8 +29,8 @@ one_call (Feed lane piece (Ok n)) v w s setting fed given leads stands = leads.2
 one_call (Feed lane piece (Err why)) v w s setting fed given leads stands = subst (λ (t : Session). Stands t.receiver s setting fed given) (sym leads.1) stands
 one_call (Finish lane (Ok u)) v w s setting fed given leads stands = leads.1 s setting fed given stands
 one_call (Finish lane (Err why)) v w s setting fed given leads stands = subst (λ (t : Session). Stands t.receiver s setting fed given) (sym leads.1) stands
-one_call (Next None) v w s setting fed given leads stands = (leads.gives s setting fed given stands).1
-one_call (Next (Some event)) v w s setting fed given leads stands = gave event w.receiver s setting fed given (leads.gives s setting fed given stands)
+one_call (Next None) v w s setting fed given leads stands = (leads.0.gives s setting fed given stands).1
+one_call (Next (Some event)) v w s setting fed given leads stands = gave event w.receiver s setting fed given (leads.0.gives s setting fed given stands)
 one_call Look v w s setting fed given leads stands = subst (λ (t : Session). Stands t.receiver s setting fed given) (sym leads) stands
 
 all_calls : (calls : List Call) (v w : Session) (s : Settings) (setting : Setting) (fed fed' : List Fed) (given given' : List Event) →
@@ -43,3 +45,28 @@ pub calls_give_first : CallsGiveFirst
 calls_give_first plan setting s t calls fed given all lanes is unfed are begins events =
     given_come_first t.receiver plan.link setting fed given lanes all
     (all_calls calls s t plan.link setting (nothing_fed plan.link.lanes) fed [] given are (unfed setting is)) begins events
+
+-- ---- the packet that was given last
+
+unchanged : (s t : Session) → t ≡ s → KeepsPacket s t
+unchanged s t same = record { bytes = ap (λ (v : Session). v.receiver.reassembly) same; lends = ap (λ (v : Session). v.lends) same }
+
+kept_on : (s u t : Session) → KeepsPacket s u → KeepsPacket u t → KeepsPacket s t
+kept_on s u t first second = record { bytes = second.bytes ∙ first.bytes; lends = second.lends ∙ first.lends }
+
+packet_stays : (calls : List Call) (s t : Session) → AreOthers s calls t → KeepsPacket s t
+packet_stays [] s t others = unchanged s t (sym others)
+packet_stays (Feed lane piece (Ok n) ∷ calls) s t others = kept_on s others.0 t others.1.3 (packet_stays calls others.0 t others.2)
+packet_stays (Feed lane piece (Err why) ∷ calls) s t others = kept_on s others.0 t (unchanged s others.0 others.1.1) (packet_stays calls others.0 t others.2)
+packet_stays (Finish lane (Ok v) ∷ calls) s t others = kept_on s others.0 t others.1.2 (packet_stays calls others.0 t others.2)
+packet_stays (Finish lane (Err why) ∷ calls) s t others = kept_on s others.0 t (unchanged s others.0 others.1.1) (packet_stays calls others.0 t others.2)
+packet_stays (Next answer ∷ calls) s t others = absurd others
+packet_stays (Look ∷ calls) s t others = kept_on s others.0 t (unchanged s others.0 others.1) (packet_stays calls others.0 t others.2)
+
+read_of : (t u : Session) (offset : ℕ) (old new : List ℕ) (answer : Result ℕ Misuse) → t.lends ≡ true → KeepsPacket t u → IsRead u offset old new answer → IsReadOf t.receiver.reassembly.packet offset old new answer
+read_of t u offset old new (Err why) lends keeps read = absurd (true≢false (sym lends ∙ sym keeps.lends ∙ read.0))
+read_of t u offset old new (Ok n) lends keeps read = subst (λ r. IsReadOf r.packet offset old new (Ok n)) keeps.bytes (n, refl, read.1, read.2)
+
+pub reads_the_packet : ReadsThePacket
+reads_the_packet s t u channel count first last calls offset old new answer gives others read =
+    read_of t u offset old new answer gives.1 (packet_stays calls t u others) read

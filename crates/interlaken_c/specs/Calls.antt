@@ -1,13 +1,16 @@
 -- What the calls on a session do. A call that is misused leaves it as it was.
-use Rattle.std.specs.Prelude.{ℕ, ◌≡◌, ◌-◌, ◌<◌, ◌≤◌, ◌++◌, List, Some, None, Result, Ok, Err, length, min, take, drop}
+use Rattle.std.specs.Prelude.{ℕ, ◌≡◌, ◌-◌, ◌<◌, ◌≤◌, ◌++◌, true, false, List, Option, Some, None, Result, Ok, Err, length, min, take, drop}
 use Rattle.lk_base.specs.Link.{Settings}
 use Rattle.lock_model.specs.declared.types.LaneReport.{LaneReport}
 use Rattle.receive_model.specs.Events.{Event, Setting}
 use Rattle.event_model.specs.Fed.{Fed}
 use Rattle.rx_front.specs.Calls.{IsReportOf, fed_more, finished_at, room_at}
+use Rattle.rx_end.specs.declared.event.RxEvent.{RxEvent}
+use Rattle.rx_end.specs.Nexts.{IsNext}
 use Rattle.rx_end.specs.States.{State}
 use Rattle.rx_end.specs.Standing.{Stands}
 use Rattle.interlaken_c.specs.Misuses.{feed_misuse, lane_misuse}
+use Rattle.interlaken_c.specs.Runs.{is_lent}
 use Rattle.interlaken_c.specs.declared.misuse.Misuse.{Misuse}
 use Rattle.interlaken_c.specs.declared.misuse.Misuse.TheVariants as misuses
 use Rattle.interlaken_c.specs.declared.session.Session.{Session}
@@ -16,22 +19,31 @@ use Rattle.interlaken_c.specs.declared.session.Session.{Session}
 abbrev pub Changes : (List Fed → List Fed) → State → State → Type 0
 Changes change v w = (s : Settings) (setting : Setting) (fed : List Fed) (given : List Event) → Stands v s setting fed given → Stands w s setting (change fed) given
 
+-- the packet that was given last stays, with its bytes, or that the last event was none
+pub record KeepsPacket (s t : Session) : Type 0 where
+  pub bytes : t.receiver.reassembly ≡ s.receiver.reassembly
+  pub lends : t.lends ≡ s.lends
+
 -- A lane takes the longest prefix of the piece that its ring has room for. Nothing else is fed, and nothing is dropped
 abbrev pub IsFeed : Session → Session → ℕ → List ℕ → Result ℕ Misuse → Type 0
 IsFeed s t lane piece (Ok n) =
-    (feed_misuse s.receiver lane (length piece) ≡ None) × (n ≡ min (length piece) (room_at lane s.receiver.front.lanes)) × Changes (fed_more lane (take n piece)) s.receiver t.receiver
+    (feed_misuse s.receiver lane (length piece) ≡ None) × (n ≡ min (length piece) (room_at lane s.receiver.front.lanes)) × Changes (fed_more lane (take n piece)) s.receiver t.receiver × KeepsPacket s t
 IsFeed s t lane piece (Err why) = (feed_misuse s.receiver lane (length piece) ≡ Some why) × (t ≡ s)
 
 -- no further byte of the lane comes
 abbrev pub IsFinish : Session → Session → ℕ → Result (Unit {0}) Misuse → Type 0
-IsFinish s t lane (Ok u) = (lane_misuse s.receiver lane ≡ None) × Changes (finished_at lane) s.receiver t.receiver
+IsFinish s t lane (Ok u) = (lane_misuse s.receiver lane ≡ None) × Changes (finished_at lane) s.receiver t.receiver × KeepsPacket s t
 IsFinish s t lane (Err why) = (lane_misuse s.receiver lane ≡ Some why) × (t ≡ s)
 
--- bytes of the packet that was given last are copied, from the offset on, as many as there is room for
+-- the next event is given, or none; of a packet the bytes can be read
+abbrev pub IsNextOf : Session → Session → Option RxEvent → Type 0
+IsNextOf s t answer = IsNext s.receiver t.receiver answer × (t.lends ≡ is_lent answer)
+
+-- where the last event was a packet, bytes of it are copied, from the offset on, as many as there is room for
 abbrev pub IsRead : Session → ℕ → List ℕ → List ℕ → Result ℕ Misuse → Type 0
 IsRead s offset old new (Ok n) =
-    (n ≡ min (length old) (length s.receiver.reassembly.packet - offset)) × (new ≡ take n (drop offset s.receiver.reassembly.packet) ++ drop n old)
-IsRead s offset old new (Err why) = (why ≡ misuses.NoPacket) × (new ≡ old)
+    (s.lends ≡ true) × (n ≡ min (length old) (length s.receiver.reassembly.packet - offset)) × (new ≡ take n (drop offset s.receiver.reassembly.packet) ++ drop n old)
+IsRead s offset old new (Err why) = (s.lends ≡ false) × (why ≡ misuses.NoPacket) × (new ≡ old)
 
 -- a report is over the bytes that were taken of the lane's ring
 abbrev pub IsReport : Session → ℕ → Result LaneReport Misuse → Type 0

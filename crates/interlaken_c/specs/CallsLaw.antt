@@ -1,5 +1,5 @@
 -- The law on any calls on a receiver, in any order.
-use Rattle.std.specs.Prelude.{ℕ, ◌≡◌, ◌++◌, List, [], ◌∷◌, take, Option, Some, None, Result, Ok, Err}
+use Rattle.std.specs.Prelude.{ℕ, ◌≡◌, ◌++◌, List, [], ◌∷◌, length, min, take, drop, ◌-◌, Option, Some, None, Result, Ok, Err}
 use Rattle.link_plan.specs.Listing.{numbers_of}
 use Rattle.link_plan.specs.declared.plan.Plan.{Plan}
 use Rattle.receive_model.specs.Events.{Event, Setting}
@@ -7,10 +7,11 @@ use Rattle.event_model.specs.Fed.{AllBegin, Fed}
 use Rattle.event_model.specs.Given.{AreEvents}
 use Rattle.reassembly.specs.Settings.{IsSettingOf}
 use Rattle.rx_front.specs.Calls.{fed_more, finished_at, nothing_fed}
+use Rattle.lk_base.specs.declared.position.Pos.{Pos}
 use Rattle.rx_end.specs.declared.event.RxEvent.{RxEvent}
-use Rattle.rx_end.specs.Nexts.{IsNext}
+use Rattle.rx_end.specs.declared.event.RxEvent.TheVariants as events
 use Rattle.rx_end.specs.Standing.{IsUnfed, event_of}
-use Rattle.interlaken_c.specs.Calls.{IsFeed, IsFinish}
+use Rattle.interlaken_c.specs.Calls.{IsFeed, IsFinish, IsNextOf, IsRead}
 use Rattle.interlaken_c.specs.declared.misuse.Misuse.{Misuse}
 use Rattle.interlaken_c.specs.declared.session.Session.{Session}
 
@@ -26,7 +27,7 @@ pub data Call : Type 0 where
 abbrev pub Leads : Call → Session → Session → Type 0
 Leads (Feed lane piece answer) s t = IsFeed s t lane piece answer
 Leads (Finish lane answer) s t = IsFinish s t lane answer
-Leads (Next answer) s t = IsNext s.receiver t.receiver answer
+Leads (Next answer) s t = IsNextOf s t answer
 Leads Look s t = t ≡ s
 
 -- what was fed after a call
@@ -58,3 +59,22 @@ abbrev pub CallsGiveFirst : Type 0
 CallsGiveFirst = (plan : Plan) (setting : Setting) (s t : Session) (calls : List Call) (fed : List Fed) (given all : List Event) (lanes : List (List ℕ)) →
     IsSettingOf setting (numbers_of plan.channels.items) plan.link.max_packet plan.wide → IsUnfed plan s.receiver → AreCalls s (nothing_fed plan.link.lanes) [] calls t fed given →
     AllBegin fed lanes → AreEvents plan.link setting lanes all → (rest : List Event) × (all ≡ given ++ rest)
+
+-- calls one after another, none of which is a `next`
+abbrev pub AreOthers : Session → List Call → Session → Type 0
+AreOthers s [] t = s ≡ t
+AreOthers s (Next answer ∷ calls) t = ⊥
+AreOthers s (Feed lane piece answer ∷ calls) t = (u : Session) × IsFeed s u lane piece answer × AreOthers u calls t
+AreOthers s (Finish lane answer ∷ calls) t = (u : Session) × IsFinish s u lane answer × AreOthers u calls t
+AreOthers s (Look ∷ calls) t = (u : Session) × (u ≡ s) × AreOthers u calls t
+
+-- a read is done, and copies bytes of this packet, from the offset on
+abbrev pub IsReadOf : List ℕ → ℕ → List ℕ → List ℕ → Result ℕ Misuse → Type 0
+IsReadOf packet offset old new answer =
+    (n : ℕ) × (answer ≡ Ok n) × (n ≡ min (length old) (length packet - offset)) × (new ≡ take n (drop offset packet) ++ drop n old)
+
+-- After `next` gave a packet, and any other calls, a read copies bytes of that packet: those that `given_after` has for the event.
+abbrev pub ReadsThePacket : Type 0
+ReadsThePacket = (s t u : Session) (channel count : ℕ) (first last : Pos) (calls : List Call) (offset : ℕ) (old new : List ℕ) (answer : Result ℕ Misuse) →
+    Leads (Next (Some (events.Packet channel count first last))) s t → AreOthers t calls u → IsRead u offset old new answer →
+    IsReadOf t.receiver.reassembly.packet offset old new answer

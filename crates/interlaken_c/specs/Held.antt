@@ -2,8 +2,7 @@
 use Rattle.std.specs.Prelude.{ℕ, ◌≡◌, List, Option, Some, None, Result, Ok, Err}
 use Rattle.lock_model.specs.declared.types.LaneReport.{LaneReport}
 use Rattle.rx_end.specs.declared.event.RxEvent.{RxEvent}
-use Rattle.rx_end.specs.Nexts.{IsNext}
-use Rattle.interlaken_c.specs.Calls.{IsFeed, IsFinish, IsRead, IsReport}
+use Rattle.interlaken_c.specs.Calls.{IsFeed, IsFinish, IsNextOf, IsRead, IsReport}
 use Rattle.plan_errors.specs.declared.error.PlanError.{PlanError}
 use Rattle.plan_errors.specs.declared.error.PlanError.TheVariants as errors
 use Rattle.interlaken_c.specs.Codes.{bad_plan, code_of, done, in_use, no_receiver, out_of_memory}
@@ -68,7 +67,7 @@ Finishes old new lane code = OnSession (code ≡ no_receiver) (λ s t. (result :
 
 abbrev pub GivesEvent : Option Session → Option Session → ℕ → CEvent → Type 0
 GivesEvent old new code event =
-    OnSession ((code ≡ no_receiver) × (event ≡ shown None)) (λ s t. (result : Option RxEvent) × IsNext s.receiver t.receiver result × (code ≡ done) × (event ≡ shown result)) old new
+    OnSession ((code ≡ no_receiver) × (event ≡ shown None)) (λ s t. (result : Option RxEvent) × IsNextOf s t result × (code ≡ done) × (event ≡ shown result)) old new
 
 abbrev pub Reads : Option Session → Option Session → ℕ → List ℕ → List ℕ → ℕ → ℕ → Type 0
 Reads old new offset before after code count =

@@ -1,8 +1,13 @@
-//! The law on calls.
-ghost use Rattle.interlaken_c.specs.CallsLaw.{CallsGiveFirst};
+//! The laws on calls.
+ghost use Rattle.interlaken_c.specs.CallsLaw.{CallsGiveFirst, ReadsThePacket};
 
 /// After any calls on a receiver, in any order and with any misuse among them, the events that it gave are the first of those of
 /// all lanes whose bytes begin with what was fed, and are equal to it on finished lanes.
 pub fn calls_give_first()
     ensures { CallsGiveFirst }
+{}
+
+/// After `next` gave a packet, and any other calls, `read` is done, and copies bytes of that packet.
+pub fn reads_the_packet()
+    ensures { ReadsThePacket }
 {}

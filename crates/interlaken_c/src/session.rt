@@ -2,7 +2,6 @@
 ghost use Rattle.std.specs.Prelude.{◌≡◌, true, false, None, IfOk, length, replicate};
 ghost use Rattle.interlaken_c.specs.Misuses.{feed_misuse, lane_misuse};
 ghost use Rattle.interlaken_c.specs.Runs.{Runs, is_lent};
-ghost use Rattle.rx_end.specs.Nexts.{IsNext};
 ghost use Rattle.rx_end.specs.Standing.{IsUnfed};
 
 use crate::misuse::{self, Misuse};
@@ -17,7 +16,7 @@ pub struct Session {
     pub receiver: Receiver,
     finished: Vec<bool>,
     fed: Vec<usize>,
-    lends: bool,
+    pub lends: bool,
     ghost runs: { ∥ Runs receiver finished.items fed.items ∥₁ },
     ghost lent: { ∥ (lends ≡ true → receiver.reassembly.lending ≡ true) ∥₁ },
 }
@@ -39,7 +38,7 @@ fn none_fed(alloc: Global, lanes: usize) -> Result<Vec<usize>, OutOfMemory>
 }
 
 impl Session {
-    ghost use Rattle.interlaken_c.specs.Calls.{IsFeed, IsFinish, IsRead, IsReport};
+    ghost use Rattle.interlaken_c.specs.Calls.{IsFeed, IsFinish, IsNextOf, IsRead, IsReport};
 
     /// A receiver of a plan's lanes to which nothing was fed.
     pub fn new(alloc: Global, plan: &Plan) -> Result<Session, OutOfMemory>
@@ -118,7 +117,7 @@ impl Session {
 
     /// The next event, or none.
     pub fn next(&mut self) -> Option<RxEvent>
-        ensures { IsNext self.old.receiver self.new.receiver result }
+        ensures { IsNextOf self.old self.new result }
     {
         let event = self.receiver.next();
         self.lends = is_lent(event);
