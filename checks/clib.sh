@@ -8,7 +8,8 @@ set -u
 wants cc gcc
 crate=$top/crates/interlaken_c
 archive=$crate/out/libinterlaken_c.a
-if [ ! -f "$archive" ] || [ -n "$(find "$crate"/{src,specs,proofs} -newer "$archive" -print -quit)" ]; then
+. "$top/tools/archive.bash"
+if is_stale "$archive" "$top"; then
   echo "$name: skipped, no archive of these sources (rt lib in crates/interlaken_c makes it)"
   exit 77
 fi
@@ -52,8 +53,17 @@ same_as_receive() { # WHAT PLAN PREFIX SEED..
   done
 }
 
+# The bytes of the one packet of a capture, in hex.
+hex_of() { # FILE
+  od -An -v -tx1 -j40 "$1" | tr -d ' \n'
+}
+
 cp "$top"/examples/{damaged.plan,damaged.schedule,one.pcap,two.pcap} . && "$program" link damaged.plan >/dev/null || gives_up 'link fails'
 same_as_receive 'examples/damaged.plan' damaged.plan damaged '' 1 2
+printed=$(
+  printf '%s\n' 'span start' 'span crc' "packet channel=1 $(hex_of wanted/damaged.1.pcap)" "packet channel=2 $(hex_of wanted/damaged.2.pcap)" 'span end'
+  "$program" receive damaged.plan | grep '^lane' | cut -d ' ' -f 1-3
+)
 for case in $(seq 1 "${CASES:-12}"); do
   rm -f g*
   "$program" generate "$case" g >/dev/null 2>&1
@@ -65,14 +75,15 @@ sanitize=(-fsanitize=address,undefined)
 echo 'int main(void) { return 0; }' >empty.c
 cc "${sanitize[@]}" -o empty empty.c 2>/dev/null && ./empty || { echo "$name: not tried, no sanitizers of cc (Debian package gcc): drawn calls under them"; sanitize=(); }
 cc -std=c99 "${strict[@]}" "${sanitize[@]}" -o calls "$top/checks/clib/calls.c" "$archive"
-holds 'drawn calls' "$(./calls damaged.plan damaged.lane.0 damaged.lane.1 "${SEQUENCES:-500}" 2>&1 | sed 's/^[0-9]* tried, //')" '0 wrong'
+drawn=$(./calls damaged.plan damaged.lane.0 damaged.lane.1 "${SEQUENCES:-500}" 2>&1)
+sed -n "s/^not tried/$name: &/p" <<<"$drawn"
+holds 'drawn calls' "$(sed '/^not tried/d; s/^[0-9]* tried, //' <<<"$drawn")" '0 wrong'
 if ! lacks c++ g++ 'the same calls as C++'; then
   c++ "${strict[@]}" -x c++ "$top/checks/clib/calls.c" -x none -o calls_plus "$archive"
-  holds 'drawn calls as C++' "$(./calls_plus damaged.plan damaged.lane.0 damaged.lane.1 100 2>&1 | sed 's/^[0-9]* tried, //')" '0 wrong'
+  holds 'drawn calls as C++' "$(./calls_plus damaged.plan damaged.lane.0 damaged.lane.1 100 2>&1 | sed '/^not tried/d; s/^[0-9]* tried, //')" '0 wrong'
 fi
 
 if ! lacks python3 python3 'examples/python'; then
-  holds 'examples/python' "$(python3 -B "$top/examples/python/packets.py" library/lib/libinterlaken.so damaged.plan damaged.lane.0 damaged.lane.1 2>&1 | cut -d ' ' -f 1-2)" \
-    "$(printf '%s\n' 'span start' 'span crc' 'packet channel=1' 'packet channel=2' 'span end' 'lane 0' 'lane 1')"
+  holds 'examples/python' "$(python3 -B "$top/examples/python/packets.py" library/lib/libinterlaken.so damaged.plan damaged.lane.0 damaged.lane.1 2>&1)" "$printed"
 fi
 ends

@@ -4,42 +4,31 @@
  *     calls PLAN LANE0 LANE1 SEQUENCES
  *
  * PLAN is a plan of two lanes, and LANE0 and LANE1 are the files of its lanes. */
+#define _GNU_SOURCE 1
 #include "interlaken.h"
+#include "interlaken_alloc.h"
 #include <stdio.h>
 #include <stdlib.h>
 #include <string.h>
-
-#ifdef __cplusplus
-extern "C" {
-#endif
-struct tried {
-  uint8_t memory;
-  void *at;
-};
-struct tried rattle_alloc(size_t size, size_t align);
-struct tried rattle_realloc(void *at, size_t kept, size_t size, size_t align);
-void rattle_dealloc(void *at);
-#ifdef __cplusplus
-}
-#endif
+#include <sys/mman.h>
 
 static long allocations, live, failing = -1;
 static char none;
 
-static struct tried tried(void *at) {
-  struct tried answer;
+static struct rattle_tried tried(void *at) {
+  struct rattle_tried answer;
   answer.memory = at != NULL;
   answer.at = at != NULL ? at : &none;
   return answer;
 }
 
-struct tried rattle_alloc(size_t size, size_t align) {
+struct rattle_tried rattle_alloc(size_t size, size_t align) {
   void *at = allocations++ == failing ? NULL : malloc(size != 0 ? size : align);
   live += at != NULL;
   return tried(at);
 }
 
-struct tried rattle_realloc(void *at, size_t kept, size_t size, size_t align) {
+struct rattle_tried rattle_realloc(void *at, size_t kept, size_t size, size_t align) {
   (void)kept;
   return tried(allocations++ == failing ? NULL : realloc(at, size != 0 ? size : align));
 }
@@ -82,16 +71,21 @@ static uint32_t below(uint32_t bound) {
   return (uint32_t)(state >> 20) % bound;
 }
 
+#define LONGEST 2048
+#define LONG_PIECE ((size_t)1 << 40)
+
 /* A handle, and what is known of it. */
 struct known {
   interlaken_receiver receiver;
   int has, lends, over[2], ended;
   uint32_t length;
+  uint8_t packet[LONGEST]; /* the last packet, read as a whole after `next` */
   size_t fed[2];
 };
 
 static struct known absent;
 static struct bytes plan, lanes[2];
+static const uint8_t *long_piece; /* LONG_PIECE bytes, or NULL where no address space is left for so many */
 
 static uint32_t lane_result(const struct known *k, uint32_t lane) {
   if (!k->has) return INTERLAKEN_NO_RECEIVER;
@@ -123,10 +117,10 @@ static void try_free(struct known *k) {
 static void try_feed(struct known *k) {
   uint32_t lane = some_lane(), wanted = lane_result(k, lane), from = lane < 2 ? lane : 0, result;
   size_t left = lanes[from].count - k->fed[from], count = below(6000), taken = 99;
-  int long_piece = below(50) == 0;
+  int is_long = below(50) == 0 && long_piece != NULL;
   if (count > left) count = left;
-  if (wanted == INTERLAKEN_DONE && long_piece) wanted = INTERLAKEN_TOO_MANY;
-  result = interlaken_receiver_feed(&k->receiver, lane, lanes[from].at + k->fed[from], long_piece ? (size_t)1 << 40 : count, &taken);
+  if (wanted == INTERLAKEN_DONE && is_long) wanted = INTERLAKEN_TOO_MANY;
+  result = interlaken_receiver_feed(&k->receiver, lane, is_long ? long_piece : lanes[from].at + k->fed[from], is_long ? LONG_PIECE : count, &taken);
   want("feed", result == wanted);
   want("taken", result == INTERLAKEN_DONE ? taken <= count && (taken == count || taken <= 4096) : taken == 0);
   if (result == INTERLAKEN_DONE) k->fed[from] += taken;
@@ -148,16 +142,28 @@ static void try_next(struct known *k) {
   if (event.kind == INTERLAKEN_ENDED) k->ended = 1;
   k->lends = event.kind == INTERLAKEN_PACKET;
   k->length = event.length;
+  if (k->lends) {
+    size_t copied = 0;
+    want("short packet", event.length <= LONGEST);
+    result = interlaken_receiver_read(&k->receiver, 0, k->packet, LONGEST, &copied);
+    want("whole packet", result == INTERLAKEN_DONE && copied == event.length);
+  }
 }
 
 static void try_read(struct known *k) {
   uint8_t bytes[300];
-  size_t copied = 99, count = below(301), left;
+  size_t copied = 99, count = below(301), left, i;
   uint32_t offset = below(8) == 0 ? 0xffffffff - below(2) : below(400), result;
+  int stay = 1;
+  memset(bytes, 0xa5, sizeof bytes);
   result = interlaken_receiver_read(&k->receiver, offset, bytes, count, &copied);
   want("read", result == (uint32_t)(!k->has ? INTERLAKEN_NO_RECEIVER : k->lends ? INTERLAKEN_DONE : INTERLAKEN_NO_PACKET));
   left = k->length > offset ? k->length - offset : 0;
   want("copied", copied == (result == INTERLAKEN_DONE ? (count < left ? count : left) : 0));
+  if (copied > count) return;
+  want("bytes of the packet", copied == 0 || memcmp(bytes, k->packet + offset, copied) == 0);
+  for (i = copied; i < sizeof bytes; i++) stay = stay && bytes[i] == 0xa5;
+  want("the other bytes stay", stay);
 }
 
 static void try_report(struct known *k) {
@@ -210,7 +216,10 @@ static void each_allocation(void) {
 
 int main(int argc, char **argv) {
   long left;
+  void *many = mmap(NULL, LONG_PIECE, PROT_READ, MAP_PRIVATE | MAP_ANONYMOUS | MAP_NORESERVE, -1, 0);
   if (argc != 5) return 2;
+  if (many != MAP_FAILED) long_piece = (const uint8_t *)many;
+  else printf("not tried, no address space: a piece of 2^40 bytes\n");
   plan = load(argv[1]), lanes[0] = load(argv[2]), lanes[1] = load(argv[3]);
   each_allocation();
   for (left = atol(argv[4]); left > 0; left--) {
