@@ -7,13 +7,14 @@
 Where bytes come live, call `feed` and `finish` for each lane, and take `events()` after each.
 
 It calls the C library that tools/library makes. A call that is misused raises Misuse, and changes nothing; a plan that is refused
-raises BadPlan, with the row and the cause. A Receiver is used by one thread.
+raises BadPlan, with the row and the cause. A Receiver takes one call at a time. It needs Python 3.10.
 """
 
 from __future__ import annotations
 
 import ctypes
 import enum
+import weakref
 from dataclasses import dataclass
 from typing import Iterator, Optional, Sequence
 
@@ -206,6 +207,7 @@ class _Report(ctypes.Structure):
 _size = ctypes.c_size_t
 _u32 = ctypes.c_uint32
 _handle = ctypes.POINTER(_Handle)
+_NO_LANE = 0xFFFFFFFF
 _CALLS = {
     "new": (_handle, ctypes.c_char_p, _size, ctypes.POINTER(_Refusal)),
     "free": (_handle,),
@@ -215,6 +217,11 @@ _CALLS = {
     "read": (_handle, _u32, ctypes.c_char_p, _size, ctypes.POINTER(_size)),
     "report": (_handle, _u32, ctypes.POINTER(_Report)),
 }
+
+
+def _lane(number: int) -> int:
+    """The number of a lane; one that C cannot have is that of no lane, which ctypes would cut to one that may be there."""
+    return number if 0 <= number < _NO_LANE else _NO_LANE
 
 
 class Receiver:
@@ -235,6 +242,7 @@ class Receiver:
             raise MemoryError
         if result is not Result.DONE:
             raise Misuse(result)
+        self._free = weakref.finalize(self, self._calls.interlaken_receiver_free, self._handle)
 
     def _call(self, name: str, *words: object) -> None:
         result = Result(getattr(self._calls, "interlaken_receiver_" + name)(self._handle, *words))
@@ -242,8 +250,8 @@ class Receiver:
             raise Misuse(result)
 
     def close(self) -> None:
-        """Frees the receiver; a second time does nothing. Each further call raises Misuse."""
-        self._calls.interlaken_receiver_free(self._handle)
+        """Frees the receiver, which else is freed with this object; a second time does nothing. Each further call raises Misuse."""
+        self._free()
 
     def __enter__(self) -> "Receiver":
         return self
@@ -254,12 +262,12 @@ class Receiver:
     def feed(self, lane: int, data: bytes) -> int:
         """Feeds a lane with the next of its bytes, as many as its ring of 4,096 bytes has room for, and returns how many."""
         taken = _size()
-        self._call("feed", lane, data, len(data), taken)
+        self._call("feed", _lane(lane), data, len(data), taken)
         return taken.value
 
     def finish(self, lane: int) -> None:
         """No further byte of this lane comes."""
-        self._call("finish", lane)
+        self._call("finish", _lane(lane))
 
     def next(self) -> Optional[Event]:
         """The next event; None where there is none so far, and after the end."""
@@ -287,7 +295,7 @@ class Receiver:
             yield event
 
     def feed_all(self, lanes: Sequence[bytes]) -> Iterator[Event]:
-        """Feeds these lanes, of which nothing was fed, to their ends, and yields all events as they come."""
+        """Feeds these lanes, all that the plan has and of which nothing was fed, to their ends, and yields all events as they come."""
         fed = [0] * len(lanes)
         over = [False] * len(lanes)
         while True:
@@ -295,16 +303,21 @@ class Receiver:
                 yield event
                 if isinstance(event, Ended):
                     return
+            moved = False
             for lane, data in enumerate(lanes):
                 if fed[lane] < len(data):
-                    fed[lane] += self.feed(lane, data[fed[lane] : fed[lane] + 4096])
+                    taken = self.feed(lane, data[fed[lane] : fed[lane] + 4096])
+                    fed[lane] += taken
+                    moved = moved or taken > 0
                 elif not over[lane]:
                     self.finish(lane)
-                    over[lane] = True
+                    over[lane] = moved = True
+            if not moved:  # What lacks bytes is a lane that is not among these.
+                raise ValueError("%d lanes are fewer than the plan has" % len(lanes))
 
     def report(self, lane: int) -> Report:
         """The report of a lane over the bytes that were taken from its ring so far."""
         report = _Report()
-        self._call("report", lane, report)
+        self._call("report", _lane(lane), report)
         first = report.first if report.has_first else None
         return Report(report.locks, first, report.lost, report.unframed, report.bad, report.sync, report.state, report.diag)
