@@ -36,6 +36,8 @@ static struct channel channels[CHANNELS];
 static struct lane lanes[LANES];
 static uint32_t lane_count;
 static uint64_t drops[8], span_count;
+static const char *out_prefix;
+static uint32_t link_type = 1; /* of the captures */
 static uint64_t drawn; /* the state of the drawn numbers; 0 where none are drawn */
 
 static void fail(const char *what, const char *name) {
@@ -70,23 +72,36 @@ static void put_u32(FILE *out, uint32_t n) {
   fputc(n & 255, out), fputc(n >> 8 & 255, out), fputc(n >> 16 & 255, out), fputc(n >> 24, out);
 }
 
-/* The rows of the plan that this program needs: the number of lanes and the channels. The library has found that the plan is right. */
-static void read_rows(const char *plan, const char *out) {
-  const char *row = plan;
-  while (row != NULL) {
-    if (strncmp(row, "lanes,", 6) == 0) lane_count = (uint32_t)strtoul(row + 6, NULL, 10);
-    if (strncmp(row, "channel,", 8) == 0) {
-      unsigned long number = strtoul(row + 8, NULL, 10);
-      char rest[32];
-      channels[number].listed = 1;
-      snprintf(rest, sizeof rest, "%lu.pcap", number);
-      channels[number].out = create(out, rest);
-      put_u32(channels[number].out, 0xa1b2c3d4), put_u32(channels[number].out, 2 | 4 << 16);
-      put_u32(channels[number].out, 0), put_u32(channels[number].out, 0), put_u32(channels[number].out, 262144);
-      put_u32(channels[number].out, 1);
-    }
-    row = strchr(row, '\n');
-    if (row != NULL) row++;
+/* Ends a file. */
+static void finish_file(FILE *file, const char *name) {
+  int failed = ferror(file);
+  if (fclose(file) != 0 || failed) fail("not written", name);
+}
+
+/* The capture of a channel, with the header of a file. */
+static void open_channel(uint32_t number) {
+  struct channel *channel = &channels[number];
+  char rest[32];
+  if (channel->out != NULL) return;
+  channel->listed = 1;
+  snprintf(rest, sizeof rest, "%" PRIu32 ".pcap", number);
+  channel->out = create(out_prefix, rest);
+  put_u32(channel->out, 0xa1b2c3d4), put_u32(channel->out, 2 | 4 << 16);
+  put_u32(channel->out, 0), put_u32(channel->out, 0), put_u32(channel->out, 262144);
+  put_u32(channel->out, link_type);
+}
+
+/* The rows of the plan of the listed channels and of the link type of their captures, where they stand without quotes. The library has
+ * found that the plan is right. */
+static void read_rows(const char *plan) {
+  const char *row;
+  for (row = plan; row != NULL; row = strchr(row, '\n')) {
+    if (*row == '\n') row++;
+    if (strncmp(row, "link_type,", 10) == 0) link_type = (uint32_t)strtoul(row + 10, NULL, 10);
+  }
+  for (row = plan; row != NULL; row = strchr(row, '\n')) {
+    if (*row == '\n') row++;
+    if (strncmp(row, "channel,", 8) == 0) open_channel((uint32_t)strtoul(row + 8, NULL, 10) % CHANNELS);
   }
 }
 
@@ -94,6 +109,7 @@ static void take_packet(interlaken_receiver *receiver, const interlaken_event *e
   static uint8_t piece[1000];
   struct channel *channel = &channels[event->channel];
   uint32_t offset = 0;
+  open_channel(event->channel);
   for (uint32_t field = 0; field < 4; field++) put_u32(channel->out, field < 2 ? 0 : event->length);
   while (offset < event->length) {
     size_t copied;
@@ -176,6 +192,14 @@ static void print_lane(interlaken_receiver *receiver, uint32_t number) {
          r.unframed, r.bad, r.sync, r.state, r.diag);
 }
 
+/* A receiver has a report of each of its lanes. */
+static uint32_t count_lanes(interlaken_receiver *receiver) {
+  interlaken_report report;
+  uint32_t count = 0;
+  while (count < LANES && interlaken_receiver_report(receiver, count, &report) == INTERLAKEN_DONE) count++;
+  return count;
+}
+
 static void print_all(interlaken_receiver *receiver) {
   static const char *const why[] = {"bad", "crc", "protocol", "lost", "end", "toolong", "unlisted", "sender"};
   for (uint32_t number = 0; number < lane_count; number++) print_lane(receiver, number);
@@ -183,7 +207,7 @@ static void print_all(interlaken_receiver *receiver) {
     const struct channel *channel = &channels[number];
     if (!channel->listed) continue;
     printf("got channel=%" PRIu32 " packets=%" PRIu64 " bytes=%" PRIu64 "\n", number, channel->packets, channel->bytes);
-    fclose(channel->out);
+    finish_file(channel->out, "capture");
   }
   printf("spans %" PRIu64 "\ndropped", span_count);
   for (int kind = 0; kind < 8; kind++) printf(" %s=%" PRIu64, why[kind], drops[kind]);
@@ -207,7 +231,9 @@ int main(int argc, char **argv) {
     fprintf(stderr, "receive: result %" PRIu32 ", cause %" PRIu32 ", row %" PRIu32 "\n", result, refusal.cause, refusal.row);
     return 1;
   }
-  read_rows((const char *)plan.at, argv[3]);
+  out_prefix = argv[3];
+  read_rows((const char *)plan.at);
+  lane_count = count_lanes(&receiver);
   for (uint32_t number = 0; number < lane_count; number++) {
     char name[4096];
     snprintf(name, sizeof name, "%s.lane.%" PRIu32, argv[2], number);
@@ -215,7 +241,7 @@ int main(int argc, char **argv) {
   }
   spans = create(argv[3], "spans.csv");
   receive(&receiver, spans);
-  fclose(spans);
+  finish_file(spans, "spans.csv");
   print_all(&receiver);
   interlaken_receiver_free(&receiver);
   for (uint32_t number = 0; number < lane_count; number++) free(lanes[number].file.at);
