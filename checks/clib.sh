@@ -60,6 +60,9 @@ hex_of() { # FILE
 
 cp "$top"/examples/{damaged.plan,damaged.schedule,one.pcap,two.pcap} . && "$program" link damaged.plan >/dev/null || gives_up 'link fails'
 same_as_receive 'examples/damaged.plan' damaged.plan damaged '' 1 2
+if [ -x by_words ]; then
+  holds 'the example by pkg-config, run' "$(LD_LIBRARY_PATH=$folder/library/lib ./by_words damaged.plan damaged got 2>&1)" "$("$program" receive damaged.plan 2>&1)"
+fi
 printed=$(
   printf '%s\n' 'span start' 'span crc' "packet channel=1 $(hex_of wanted/damaged.1.pcap)" "packet channel=2 $(hex_of wanted/damaged.2.pcap)" 'span end'
   "$program" receive damaged.plan | grep '^lane' | cut -d ' ' -f 1-3

@@ -2,14 +2,17 @@
  *
  * A call returns one of `enum interlaken_result`, and is defined for every value of its numbers and every content of its bytes, as
  * long as
- * - each pointer is valid for what it points to, and is never null, also where a count is 0;
+ * - each pointer is valid for what it points to, aligned for its type, and never null, also where a count is 0;
  * - no two pointers of one call lead to the same bytes;
  * - a handle is all zeros, or as the last call on it left it, and is in one place: it may be moved, but of a copy and what it was
  *   copied of only one is used from then on;
- * - a handle is used by one call at a time, and by calls of one thread.
- * Misuse of any other kind has a result, and changes nothing. After `interlaken_receiver_new` no call takes memory.
+ * - a handle is used by one call at a time: where threads share it, one call has returned before the next begins, as by a mutex.
+ * Misuse of any other kind has a result, and leaves the receiver as it was. Where several results apply it is the first of
+ * NO_RECEIVER, NO_LANE, FINISHED, TOO_MANY. What a call writes need not be initialised before, and is written whatever the result is.
+ * After `interlaken_receiver_new` no call takes memory.
  *
- * Memory comes from three functions of the user's, which examples/c/alloc.c has over malloc, realloc and free. */
+ * Memory comes from the three functions of interlaken_alloc.h. The libraries that tools/library makes have them over malloc, realloc
+ * and free. */
 #ifndef INTERLAKEN_H
 #define INTERLAKEN_H
 
@@ -131,8 +134,10 @@ typedef struct interlaken_report {
   uint64_t diag;      /* Diagnostic words that are not right */
 } interlaken_report;
 
-/* Opens a receiver of the plan of these bytes (the text of a plan file) behind a handle that has none. The plan is not kept: its
- * bytes are the caller's. `refusal` is written; its cause is INTERLAKEN_NO_CAUSE where the plan is not refused.
+/* Opens a receiver of the plan of these bytes (the text of a plan file, of any length) behind a handle that has none. The plan is not
+ * kept: its bytes are the caller's. Its rows are all read, and refused where they are wrong, but no file that they name is opened or
+ * written. The receiver has the plan's lanes: each that `report` has a report of. `refusal` has the cause INTERLAKEN_NO_CAUSE where the
+ * plan is not refused.
  * Results: DONE, OUT_OF_MEMORY, BAD_PLAN, IN_USE. */
 uint32_t interlaken_receiver_new(interlaken_receiver *receiver, const uint8_t *plan, size_t count, interlaken_refusal *refusal);
 
@@ -141,7 +146,8 @@ uint32_t interlaken_receiver_new(interlaken_receiver *receiver, const uint8_t *p
 uint32_t interlaken_receiver_free(interlaken_receiver *receiver);
 
 /* Feeds a lane, counted from 0, with the next of its bytes, first bit first: the longest prefix of `bytes` that its ring of 4,096
- * bytes has room for. `taken` is how many that are; what was not taken is fed again, after `next` gave what it had.
+ * bytes has room for. `taken` is how many that are; what was not taken is fed again, once `next` has made room, which it does only as
+ * far as the other lanes have come.
  * Results: DONE, NO_LANE, FINISHED, TOO_MANY, NO_RECEIVER; `taken` is 0 where it is not DONE. */
 uint32_t interlaken_receiver_feed(interlaken_receiver *receiver, uint32_t lane, const uint8_t *bytes, size_t count, size_t *taken);
 
@@ -149,7 +155,8 @@ uint32_t interlaken_receiver_feed(interlaken_receiver *receiver, uint32_t lane, 
  * Results: DONE, NO_LANE, FINISHED, NO_RECEIVER. */
 uint32_t interlaken_receiver_finish(interlaken_receiver *receiver, uint32_t lane);
 
-/* Writes the next event; INTERLAKEN_NONE where there is none so far.
+/* Writes the next event; INTERLAKEN_NONE where there is none so far, or the end came before. Before the end a lane that is not
+ * finished has an empty ring then, and that one is to be fed or finished, whatever the others have: their rings may be full.
  * Results: DONE, NO_RECEIVER; the event is INTERLAKEN_NONE where it is not DONE. */
 uint32_t interlaken_receiver_next(interlaken_receiver *receiver, interlaken_event *event);
 
