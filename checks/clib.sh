@@ -34,6 +34,20 @@ if ! lacks pkg-config pkg-config 'the example compiled with the words of pkg-con
   holds 'the example by pkg-config' "$?" 0
 fi
 
+if ! lacks cmake cmake 'the example made by CMake'; then
+  mkdir by_cmake && cat >by_cmake/CMakeLists.txt <<END
+cmake_minimum_required(VERSION 3.10)
+project(by_cmake C)
+find_package(interlaken 1.0 REQUIRED)
+foreach(kind interlaken shared)
+  add_executable(by_\${kind} $top/examples/c/receive.c)
+  target_link_libraries(by_\${kind} interlaken::\${kind})
+endforeach()
+END
+  (cd by_cmake && cmake -DCMAKE_PREFIX_PATH="$folder/library" . && cmake --build .) >cmake.txt 2>&1
+  holds 'the example made by CMake' "$?" 0
+fi
+
 # Passes where the example and `receive` print the same of these lanes, and write the same.
 same_as_receive() { # WHAT PLAN PREFIX SEED..
   local what=$1 plan=$2 prefix=$3 seed file written wanted
@@ -60,9 +74,10 @@ hex_of() { # FILE
 
 cp "$top"/examples/{damaged.plan,damaged.schedule,one.pcap,two.pcap} . && "$program" link damaged.plan >/dev/null || gives_up 'link fails'
 same_as_receive 'examples/damaged.plan' damaged.plan damaged '' 1 2
-if [ -x by_words ]; then
-  holds 'the example by pkg-config, run' "$(LD_LIBRARY_PATH=$folder/library/lib ./by_words damaged.plan damaged got 2>&1)" "$("$program" receive damaged.plan 2>&1)"
-fi
+for made in by_words by_cmake/by_interlaken by_cmake/by_shared; do
+  [ ! -x "$made" ] ||
+    holds "$made, run" "$(LD_LIBRARY_PATH=$folder/library/lib "./$made" damaged.plan damaged got 2>&1)" "$("$program" receive damaged.plan 2>&1)"
+done
 printed=$(
   printf '%s\n' 'span start' 'span crc' "packet channel=1 $(hex_of wanted/damaged.1.pcap)" "packet channel=2 $(hex_of wanted/damaged.2.pcap)" 'span end'
   "$program" receive damaged.plan | grep '^lane' | cut -d ' ' -f 1-3

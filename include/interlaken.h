@@ -23,6 +23,9 @@
 extern "C" {
 #endif
 
+/* The version of these calls. The shared library has the first number in its name. */
+#define INTERLAKEN_VERSION "1.0.0"
+
 /* The results of calls. */
 enum interlaken_result {
   INTERLAKEN_DONE = 0,          /* the call did what it was asked */
