@@ -25,6 +25,11 @@ holds 'calls of the header and of the archive' "$(grep -o '^uint32_t interlaken_
 holds 'calls of the shared library' "$(nm -D --defined-only library/lib/libinterlaken.so | awk '$2 == "T" { sub(/@.*/, "", $3); print $3 }' | sort)" \
   "$(nm -g --defined-only "$archive" 2>/dev/null | grep -o '\binterlaken_receiver_[a-z]*$' | sort -u)"
 
+# The keys after `out` are of other files, and no plan of lanes lacks one.
+numbers=$(grep -oE '\bINTERLAKEN_[A-Z_]+ = [0-9]+' "$include/interlaken.h" | sed 's/^INTERLAKEN_//; s/ = / /' | LC_ALL=C sort)
+holds 'numbers of the header and of the crate' "$numbers" \
+  "$(sed -nE 's/^pub const ([A-Z_]+): u32 = ([0-9]+);$/\1 \2/p' "$crate/src/codes.rt" | grep -vE '^KEY_(OOB|EVENTS|PLAN|DELAY|MARK|SLOTS) ' | LC_ALL=C sort)"
+
 cc -std=c99 "${strict[@]}" -o receive "$top/examples/c/receive.c" "$archive" "$top/examples/c/alloc.c" || gives_up 'examples/c is not compiled'
 if ! lacks pkg-config pkg-config 'the example compiled with the words of pkg-config'; then
   # The words are several.
@@ -102,6 +107,14 @@ if ! lacks c++ g++ 'the same calls as C++'; then
 fi
 
 if ! lacks python3 python3 'examples/python'; then
+  holds 'numbers of the header and of the Python module' "$(python3 -B -c '
+import sys
+sys.path.insert(0, sys.argv[1])
+import interlaken as i
+for kind, prefix in (i.Result, ""), (i.Cause, ""), (i.Key, "KEY_"), (i.Kind, ""), (i.Drop, "DROP_"), (i.Fault, "FAULT_"):
+    for one in kind:
+        print(one.name if one.name == "NO_KEY" else prefix + one.name, one.value)
+' "$top/examples/python" | LC_ALL=C sort)" "$numbers"
   holds 'examples/python' "$(python3 -B "$top/examples/python/packets.py" library/lib/libinterlaken.so damaged.plan damaged.lane.0 damaged.lane.1 2>&1)" "$printed"
 fi
 ends
