@@ -8,7 +8,7 @@ use Rattle.lk_base.specs.declared.word.RxWord.TheVariants.{Data, Control, Bad}
 use Rattle.lk_base.specs.Fields.{is_control_word, has_sop}
 use Rattle.control_words.specs.ControlWord.{end_of}
 use Rattle.word_rules.specs.declared.burst.Burst.{Burst}
-use Rattle.word_rules.specs.declared.channel.Channel.{Channel}
+use Rattle.word_rules.specs.declared.channel.ChannelState.{ChannelState}
 use Rattle.word_rules.specs.Places.{is_burst_word, known, data_before, burst_before}
 use Rattle.word_rules.specs.Bursts.{bursts_from, ends, is_ended, burst_bytes, whole_bytes, since_sop}
 use Rattle.word_rules.specs.Rules.{passes_limit}
@@ -83,7 +83,7 @@ long_step : (most : ℕ) (b : Burst) (bs : List Burst) (sop : Bool) →
 long_step most b bs true = sym (ap (λ (t : Bool). t && nat_lt most (0 + burst_bytes b.size (end_of b.closer))) (zero_least most))
 long_step most b bs false = long_more most b (since_sop bs)
 
-module _ (c : Channel) (from most : ℕ) (bs : List Burst) (s : IsChannel c from most bs) where
+module _ (c : ChannelState) (from most : ℕ) (bs : List Burst) (s : IsChannel c from most bs) where
   pub channel_step : (b : Burst) → IsChannel (channel_after from most c b) from most (b ∷ bs)
   channel_step b = record {
     since = omega arith;

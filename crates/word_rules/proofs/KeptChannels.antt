@@ -8,11 +8,11 @@ use Rattle.lk_base.specs.Fields.{is_control_word, has_sop, channel_number}
 use Rattle.control_words.specs.ControlWord.{end_of}
 use Rattle.word_rules.specs.declared.before.Before.{Before}
 use Rattle.word_rules.specs.declared.burst.Burst.{Burst}
-use Rattle.word_rules.specs.declared.channel.Channel.{Channel}
-use Rattle.word_rules.specs.declared.channels.Seen.{Seen}
+use Rattle.word_rules.specs.declared.channel.ChannelState.{ChannelState}
+use Rattle.word_rules.specs.declared.channels.OwnChannel.{OwnChannel}
 use Rattle.word_rules.specs.declared.fault.Fault.{Fault}
-use Rattle.word_rules.specs.declared.rule.Rule.TheVariants as rules
-use Rattle.word_rules.specs.declared.settings.Settings.{Settings}
+use Rattle.word_rules.specs.declared.rule.WordRule.TheVariants as rules
+use Rattle.word_rules.specs.declared.limits.WordLimits.{WordLimits}
 use Rattle.word_rules.specs.Places.{is_burst_word, known, data_before, burst_before}
 use Rattle.word_rules.specs.Bursts.{bursts_from, is_ended, since_sop}
 use Rattle.word_rules.specs.Rules.{passes_limit, is_open, last_burst, is_listed, breaks_sop, breaks_open, breaks_long}
@@ -24,23 +24,23 @@ use Rattle.word_rules.proofs.Lifted.{row_is, channel_is}
 
 -- ---- one channel of the table
 
-module _ (kept : List Channel) (bads most : ℕ) (wide : Bool) (bs : List Burst) (b : Burst) (all : length kept ≡ 65536) (h : HasBursts kept bads most wide bs) where
+module _ (kept : List ChannelState) (bads most : ℕ) (wide : Bool) (bs : List Burst) (b : Burst) (all : length kept ≡ 65536) (h : HasBursts kept bads most wide bs) where
   here : (k : ℕ) → k < 65536 → channel_number wide b.word ≡ k →
       IsChannel (get_or (slice_set kept (channel_number wide b.word) (channel_after bads most (slice_index_or kept (channel_number wide b.word) none_kept) b)) k none_kept) bads most (b ∷ of_channel wide k bs)
   here k lt e =
       let n = channel_number wide b.word in
-      let v : Channel = channel_after bads most (slice_index_or kept n none_kept) b in
+      let v : ChannelState = channel_after bads most (slice_index_or kept n none_kept) b in
       let at : get_or (slice_set kept k v) k none_kept ≡ v = get_or-set_same kept k v none_kept (omega (arith, all)) in
       subst (λ (j : ℕ). IsChannel (get_or (slice_set kept j v) k none_kept) bads most (b ∷ of_channel wide k bs)) (sym e)
-      (subst (λ (c : Channel). IsChannel c bads most (b ∷ of_channel wide k bs)) (sym at)
+      (subst (λ (c : ChannelState). IsChannel c bads most (b ∷ of_channel wide k bs)) (sym at)
       (subst (λ (j : ℕ). IsChannel (channel_after bads most (get_or kept j none_kept) b) bads most (b ∷ of_channel wide k bs)) (sym e) (channel_step (get_or kept k none_kept) bads most (of_channel wide k bs) (h k lt) b)))
 
   there : (k : ℕ) → k < 65536 → (channel_number wide b.word ≡ k → ⊥) →
       IsChannel (get_or (slice_set kept (channel_number wide b.word) (channel_after bads most (slice_index_or kept (channel_number wide b.word) none_kept) b)) k none_kept) bads most (of_channel wide k bs)
   there k lt ne =
       let n = channel_number wide b.word in
-      let v : Channel = channel_after bads most (slice_index_or kept n none_kept) b in
-      subst (λ (c : Channel). IsChannel c bads most (of_channel wide k bs)) (sym (get_or-set_other kept n k v none_kept (λ e. ne (sym e)))) (h k lt)
+      let v : ChannelState = channel_after bads most (slice_index_or kept n none_kept) b in
+      subst (λ (c : ChannelState). IsChannel c bads most (of_channel wide k bs)) (sym (get_or-set_other kept n k v none_kept (λ e. ne (sym e)))) (h k lt)
 
   either : (k : ℕ) → k < 65536 → (t : Bool) → (channel_number wide b.word == k) ≡ t →
       IsChannel (get_or (slice_set kept (channel_number wide b.word) (channel_after bads most (slice_index_or kept (channel_number wide b.word) none_kept) b)) k none_kept) bads most (cond t (b ∷ of_channel wide k bs) (of_channel wide k bs))
@@ -50,17 +50,17 @@ module _ (kept : List Channel) (bads most : ℕ) (wide : Bool) (bs : List Burst)
   pub table_step : HasBursts (slice_set kept (channel_number wide b.word) (channel_after bads most (slice_index_or kept (channel_number wide b.word) none_kept) b)) bads most wide (b ∷ bs)
   table_step k lt = either k lt (channel_number wide b.word == k) refl
 
-pub table_bad : (kept : List Channel) (bads most : ℕ) (wide : Bool) (bs : List Burst) → HasBursts kept bads most wide bs → HasBursts kept (bads + 1) most wide []
+pub table_bad : (kept : List ChannelState) (bads most : ℕ) (wide : Bool) (bs : List Burst) → HasBursts kept bads most wide bs → HasBursts kept (bads + 1) most wide []
 table_bad kept bads most wide bs h k lt = channel_bad (get_or kept k none_kept) bads most (of_channel wide k bs) (h k lt)
 
 -- ---- the Control word x closes the burst before it
 
-close_cases : (s : Settings) (bads : ℕ) (kept : List Channel) (b : Before) (x n : ℕ) (bs : List Burst) (o : Option ℕ) → length kept ≡ 65536 → b.burst ≡ o → b.size ≡ n →
+close_cases : (s : WordLimits) (bads : ℕ) (kept : List ChannelState) (b : Before) (x n : ℕ) (bs : List Burst) (o : Option ℕ) → length kept ≡ 65536 → b.burst ≡ o → b.size ≡ n →
     HasBursts kept bads s.max_packet s.wide bs → HasBursts (kept_after s bads kept b x) bads s.max_packet s.wide (in_front x n o bs)
 close_cases s bads kept b x n bs None all e m h = rw e h
 close_cases s bads kept b x n bs (Some word) all e m h = rw (e, m) (table_step kept bads s.max_packet s.wide bs (record { word = word; size = n; closer = x }) all h)
 
-module _ (s : Settings) (bads : ℕ) (kept : List Channel) (b : Before) (x : ℕ) (e : List RxWord) (all : length kept ≡ 65536) (i : IsBefore b e) (h : HasBursts kept bads s.max_packet s.wide (closed e)) where
+module _ (s : WordLimits) (bads : ℕ) (kept : List ChannelState) (b : Before) (x : ℕ) (e : List RxWord) (all : length kept ≡ 65536) (i : IsBefore b e) (h : HasBursts kept bads s.max_packet s.wide (closed e)) where
   pub table_closed : HasBursts (kept_after s bads kept b x) bads s.max_packet s.wide (bursts_from x 0 (known e))
   table_closed =
       let size : b.size ≡ 0 + length (data_before e) = (let k = i.size in omega arith) in
@@ -80,7 +80,7 @@ and_false false = refl
 own_first : (wide : Bool) (b : Burst) (bs : List Burst) → of_channel wide (channel_number wide b.word) (b ∷ bs) ≡ b ∷ of_channel wide (channel_number wide b.word) bs
 own_first wide b bs = ap (λ (t : Bool). cond t (b ∷ of_channel wide (channel_number wide b.word) bs) (of_channel wide (channel_number wide b.word) bs)) (self_test (channel_number wide b.word))
 
-long_cases : (s : Settings) (bads : ℕ) (kept : List Channel) (b : Before) (x n : ℕ) (bs : List Burst) (o : Option ℕ) → b.size ≡ n → HasBursts kept bads s.max_packet s.wide bs →
+long_cases : (s : WordLimits) (bads : ℕ) (kept : List ChannelState) (b : Before) (x n : ℕ) (bs : List Burst) (o : Option ℕ) → b.size ≡ n → HasBursts kept bads s.max_packet s.wide bs →
     option_map_or (λ (word : ℕ). long_by bads s.max_packet (slice_index_or kept (channel_number s.wide word) none_kept) (burst_of b x word)) o false
     ≡ (is_control_word x && option_map_or (λ (word : ℕ). option_map_or (passes_limit s.max_packet (end_of x)) (since_sop (of_channel s.wide (channel_number s.wide word) (in_front x n o bs))) false) o false)
 long_cases s bads kept b x n bs None m h = sym (and_false (is_control_word x))
@@ -90,7 +90,7 @@ long_cases s bads kept b x n bs (Some word) m h =
     rw m (long_is (get_or kept k none_kept) bads s.max_packet (of_channel s.wide k bs) (h k (channel_small s.wide word)) own
     ∙ ap (λ (l : List Burst). is_control_word x && option_map_or (passes_limit s.max_packet (end_of x)) (since_sop l) false) (sym (own_first s.wide own bs)))
 
-pub long_at_is : (s : Settings) (bads : ℕ) (kept : List Channel) (b : Before) (x : ℕ) (e : List RxWord) → IsBefore b e → HasBursts kept bads s.max_packet s.wide (closed e) →
+pub long_at_is : (s : WordLimits) (bads : ℕ) (kept : List ChannelState) (b : Before) (x : ℕ) (e : List RxWord) → IsBefore b e → HasBursts kept bads s.max_packet s.wide (closed e) →
     long_at s bads kept b x ≡ breaks_long s e x
 long_at_is s bads kept b x e i h =
     let size : b.size ≡ 0 + length (data_before e) = (let k = i.size in omega arith) in
@@ -100,29 +100,29 @@ long_at_is s bads kept b x e i h =
 
 -- ---- which channels are listed stays
 
-listed_put : (kept : List Channel) (bads most n : ℕ) (b : Burst) (k : ℕ) (t : Bool) → length kept ≡ 65536 → k < 65536 → (n == k) ≡ t →
+listed_put : (kept : List ChannelState) (bads most n : ℕ) (b : Burst) (k : ℕ) (t : Bool) → length kept ≡ 65536 → k < 65536 → (n == k) ≡ t →
     (get_or (slice_set kept n (channel_after bads most (slice_index_or kept n none_kept) b)) k none_kept).listed ≡ (get_or kept k none_kept).listed
 listed_put kept bads most n b k true all lt e =
     subst (λ (j : ℕ). (get_or (slice_set kept j (channel_after bads most (slice_index_or kept j none_kept) b)) k none_kept).listed ≡ (get_or kept k none_kept).listed) (sym (eqb-true n k e))
-    (ap (λ (c : Channel). c.listed) (get_or-set_same kept k (channel_after bads most (slice_index_or kept k none_kept) b) none_kept (omega (arith, all))))
+    (ap (λ (c : ChannelState). c.listed) (get_or-set_same kept k (channel_after bads most (slice_index_or kept k none_kept) b) none_kept (omega (arith, all))))
 listed_put kept bads most n b k false all lt e =
-    ap (λ (c : Channel). c.listed) (get_or-set_other kept n k (channel_after bads most (slice_index_or kept n none_kept) b) none_kept (λ j. eqb-false n k e (sym j)))
+    ap (λ (c : ChannelState). c.listed) (get_or-set_other kept n k (channel_after bads most (slice_index_or kept n none_kept) b) none_kept (λ j. eqb-false n k e (sym j)))
 
-listed_cases : (s : Settings) (bads : ℕ) (kept : List Channel) (b : Before) (x : ℕ) (channels : List ℕ) (o : Option ℕ) → length kept ≡ 65536 → b.burst ≡ o → HasListed kept channels → HasListed (kept_after s bads kept b x) channels
+listed_cases : (s : WordLimits) (bads : ℕ) (kept : List ChannelState) (b : Before) (x : ℕ) (channels : List ℕ) (o : Option ℕ) → length kept ≡ 65536 → b.burst ≡ o → HasListed kept channels → HasListed (kept_after s bads kept b x) channels
 listed_cases s bads kept b x channels None all e h = rw e h
 listed_cases s bads kept b x channels (Some word) all e h = rw e (λ k lt. listed_put kept bads s.max_packet (channel_number s.wide word) (burst_of b x word) k (channel_number s.wide word == k) all lt refl ∙ h k lt)
 
-pub listed_closed : (s : Settings) (bads : ℕ) (kept : List Channel) (b : Before) (x : ℕ) (channels : List ℕ) → length kept ≡ 65536 → HasListed kept channels → HasListed (kept_after s bads kept b x) channels
+pub listed_closed : (s : WordLimits) (bads : ℕ) (kept : List ChannelState) (b : Before) (x : ℕ) (channels : List ℕ) → length kept ≡ 65536 → HasListed kept channels → HasListed (kept_after s bads kept b x) channels
 listed_closed s bads kept b x channels all h = listed_cases s bads kept b x channels b.burst all refl h
 
-all_put : (kept : List Channel) (n : ℕ) (c : Channel) → length kept ≡ 65536 → length (slice_set kept n c) ≡ 65536
+all_put : (kept : List ChannelState) (n : ℕ) (c : ChannelState) → length kept ≡ 65536 → length (slice_set kept n c) ≡ 65536
 all_put kept n c all = length-set kept n c ∙ all
 
-all_cases : (s : Settings) (bads : ℕ) (kept : List Channel) (b : Before) (x : ℕ) (o : Option ℕ) → length kept ≡ 65536 → b.burst ≡ o → length (kept_after s bads kept b x) ≡ 65536
+all_cases : (s : WordLimits) (bads : ℕ) (kept : List ChannelState) (b : Before) (x : ℕ) (o : Option ℕ) → length kept ≡ 65536 → b.burst ≡ o → length (kept_after s bads kept b x) ≡ 65536
 all_cases s bads kept b x None all e = rw e all
 all_cases s bads kept b x (Some word) all e = rw e (all_put kept (channel_number s.wide word) (channel_after bads s.max_packet (slice_index_or kept (channel_number s.wide word) none_kept) (burst_of b x word)) all)
 
-pub all_closed : (s : Settings) (bads : ℕ) (kept : List Channel) (b : Before) (x : ℕ) → length kept ≡ 65536 → length (kept_after s bads kept b x) ≡ 65536
+pub all_closed : (s : WordLimits) (bads : ℕ) (kept : List ChannelState) (b : Before) (x : ℕ) → length kept ≡ 65536 → length (kept_after s bads kept b x) ≡ 65536
 all_closed s bads kept b x all = all_cases s bads kept b x b.burst all refl
 
 -- ---- the rows
@@ -135,7 +135,7 @@ going_some : (o : Option Burst) → is_some (option_map (λ b. not (is_ended b))
 going_some None = refl
 going_some (Some b) = refl
 
-module _ (s : Settings) (b : Before) (e : List RxWord) (i : IsBefore b e) (own : Seen) (channels : List ℕ) (x : ℕ)
+module _ (s : WordLimits) (b : Before) (e : List RxWord) (i : IsBefore b e) (own : OwnChannel) (channels : List ℕ) (x : ℕ)
     (going : own.going ≡ option_map (λ b. not (is_ended b)) (last_burst s.wide e x)) (listed : own.listed ≡ is_listed channels (channel_number s.wide x)) (long : own.long ≡ breaks_long s e x) where
   goes : unwrap_or own.going false ≡ is_open s.wide e x
   goes = ap (λ (o : Option Bool). unwrap_or o false) going ∙ going_or (last_burst s.wide e x)

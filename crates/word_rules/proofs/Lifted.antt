@@ -19,8 +19,8 @@ use Rattle.word_rules.specs.Rules.{covered, breaks_control, breaks_empty}
 use Rattle.word_rules.specs.Faults.{row}
 use Rattle.word_rules.specs.ByFields.{channel_by}
 use Rattle.word_rules.specs.declared.fault.Fault.{Fault}
-use Rattle.word_rules.specs.declared.rule.Rule.{Rule}
-use Rattle.word_rules.specs.declared.rule.Rule.TheVariants as rules
+use Rattle.word_rules.specs.declared.rule.WordRule.{WordRule}
+use Rattle.word_rules.specs.declared.rule.WordRule.TheVariants as rules
 use Rattle.std.proofs.lemmas.Bool.Decides.{nat_tests}
 use Rattle.lk_base.specs.declared.word.RxWord.{RxWord}
 use Rattle.lk_base.specs.declared.word.RxWord.TheVariants.{Data, Control, Bad}
@@ -28,7 +28,7 @@ use Rattle.receive_model.specs.Stretches.{has_some}
 use Rattle.control_words.specs.declared.fields.Eop.{Eop}
 use Rattle.control_words.specs.declared.fields.Eop.TheVariants as eops
 use Rattle.word_rules.specs.declared.before.Before.{Before}
-use Rattle.word_rules.specs.declared.settings.Settings.{Settings}
+use Rattle.word_rules.specs.declared.limits.WordLimits.{WordLimits}
 use Rattle.word_rules.specs.Places.{is_burst_word, data_before, burst_before, follows_bad}
 use Rattle.word_rules.specs.Rules.{breaks_data, breaks_max, breaks_crc, breaks_short, breaks_end, breaks_fill, breaks_part, breaks_min, is_filled}
 use Rattle.word_rules.specs.Faults.{data_rows, word_rows, burst_rows}
@@ -67,14 +67,14 @@ inside : (a b b' c d : Bool) → (b && c) ≡ (b' && d) → ((a && b) && c) ≡ 
 inside true b b' c d h = h
 inside false b b' c d h = refl
 
-pub row_is : (n m : ℕ) (rule : Rule) (c d : Option ℕ) (x y : Bool) → n ≡ m → c ≡ d → x ≡ y → row n rule c x ≡ row m rule d y
+pub row_is : (n m : ℕ) (rule : WordRule) (c d : Option ℕ) (x y : Bool) → n ≡ m → c ≡ d → x ≡ y → row n rule c x ≡ row m rule d y
 row_is n m rule c d x y h k l = rw (h, k, l) refl
 
 module _ (b : Before) (e : List RxWord) (s : IsBefore b e) where
   pub data_is : data_by b ≡ breaks_data e
   data_is = rw (s.size, s.burst, s.after_bad) (data_cases e)
 
-  pub max_is : (t : Settings) → max_by t b ≡ breaks_max t e
+  pub max_is : (t : WordLimits) → max_by t b ≡ breaks_max t e
   max_is t = rw (s.size, s.burst) refl
 
   pub crc_is : (x : ℕ) → crc_by b x ≡ breaks_crc e x
@@ -82,7 +82,7 @@ module _ (b : Before) (e : List RxWord) (s : IsBefore b e) where
       ap₂ (λ (bad : Bool) (r : ℕ). not bad && not (crc_field x == complement 24 (register_after 24 0x328B63 r (bits_of 64 (x / 2 ^ 24 * 2 ^ 24))))) (s.after_bad ∙ sym (bad_since e)) s.register
       ∙ ap (λ (r : ℕ). not (list_any is_bad (since_control e)) && not (crc_field x == complement 24 r)) (sym (register_after-append 24 0x328B63 (2 ^ 24 - 1) (bits_of_words (covered e)) (bits_of 64 (x / 2 ^ 24 * 2 ^ 24))))
 
-  pub short_is : (t : Settings) (x : ℕ) → short_by t b x ≡ breaks_short t e x
+  pub short_is : (t : WordLimits) (x : ℕ) → short_by t b x ≡ breaks_short t e x
   short_is t x = rw s.since_burst refl
 
   pub closes_is : closes_by b ≡ closes_data e
@@ -98,18 +98,18 @@ module _ (b : Before) (e : List RxWord) (s : IsBefore b e) where
   pub part_is : (x : ℕ) → part_by b x ≡ breaks_part e x
   part_is x = ap₂ (λ closes n. (is_control_word x && not (has_end x)) && (closes && not (n % 4 == 0))) closes_is s.size
 
-  pub min_is : (t : Settings) (x : ℕ) → min_by t b x ≡ breaks_min t e x
+  pub min_is : (t : WordLimits) (x : ℕ) → min_by t b x ≡ breaks_min t e x
   min_is t x = rw (s.size, s.burst) (ap (λ some. is_control_word x && (some && (nat_lt (burst_bytes (length (data_before e)) (end_of x)) t.burst_min && option_map_or (λ word. not (has_sop word && has_end x)) (burst_before e) false))) (some_by (data_before e)))
 
   pub channel_is : (wide : Bool) → channel_by wide b ≡ channel_before wide e
   channel_is wide = ap (λ (o : Option ℕ). option_map (channel_number wide) o) s.burst
 
-  pub data_rows_is : (t : Settings) → data_rows_by t b ≡ data_rows t e
+  pub data_rows_is : (t : WordLimits) → data_rows_by t b ≡ data_rows t e
   data_rows_is t = ap₂ (λ (p q : List Fault). p ++ q)
       (row_is _ _ rules.Data None None _ _ s.number refl data_is)
       (row_is _ _ rules.Max _ _ _ _ s.number (channel_is t.wide) (max_is t))
 
-  pub word_rows_is : (t : Settings) (x : ℕ) (next : Option RxWord) → word_rows_by t b x next ≡ word_rows t e x next
+  pub word_rows_is : (t : WordLimits) (x : ℕ) (next : Option RxWord) → word_rows_by t b x next ≡ word_rows t e x next
   word_rows_is t x next =
       let own : Option ℕ = Some (channel_number t.wide x) in
       ap₂ (λ (p q : List Fault). p ++ q) (row_is _ _ rules.Control None None (breaks_control x) (breaks_control x) s.number refl refl)
@@ -118,7 +118,7 @@ module _ (b : Before) (e : List RxWord) (s : IsBefore b e) where
       (ap₂ (λ (p q : List Fault). p ++ q) (row_is _ _ rules.Short own own _ _ s.number refl (short_is t x))
       (row_is _ _ rules.End None None _ _ s.number refl (end_is x)))))
 
-  pub burst_rows_is : (t : Settings) (x : ℕ) → burst_rows_by t b x ≡ burst_rows t e x
+  pub burst_rows_is : (t : WordLimits) (x : ℕ) → burst_rows_by t b x ≡ burst_rows t e x
   burst_rows_is t x =
       ap₂ (λ (p q : List Fault). p ++ q) (row_is _ _ rules.Fill _ _ _ _ s.number (channel_is t.wide) (fill_is x))
       (ap₂ (λ (p q : List Fault). p ++ q) (row_is _ _ rules.Part _ _ _ _ s.number (channel_is t.wide) (part_is x))

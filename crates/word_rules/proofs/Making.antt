@@ -9,7 +9,7 @@ use Rattle.lk_base.specs.declared.word.RxWord.{RxWord}
 use Rattle.word_rules.specs.declared.fault.Fault.{Fault}
 use Rattle.word_rules.specs.Faults.{Plan, faults_at, faults_from}
 use Rattle.receive_model.specs.Lists.{first_of}
-use Rattle.word_rules.specs.declared.channel.Channel.{Channel}
+use Rattle.word_rules.specs.declared.channel.ChannelState.{ChannelState}
 use Rattle.word_rules.specs.Rules.{is_listed}
 use Rattle.word_rules.specs.Channels.{none_kept, HasBursts, HasListed}
 use Rattle.word_rules.specs.Made.{AreUnused, unused}
@@ -22,7 +22,7 @@ or_none : (b : Bool) → b ≡ (b || false)
 or_none true = refl
 or_none false = refl
 
-pub unused_more : (kept : List Channel) (channels : List ℕ) (i c : ℕ) → length kept ≡ 65536 → i < length channels → c ≡ get_or channels i 0 → AreUnused kept (take i channels) → AreUnused (slice_set kept c (unused true)) (take (i + 1) channels)
+pub unused_more : (kept : List ChannelState) (channels : List ℕ) (i c : ℕ) → length kept ≡ 65536 → i < length channels → c ≡ get_or channels i 0 → AreUnused kept (take i channels) → AreUnused (slice_set kept c (unused true)) (take (i + 1) channels)
 unused_more kept channels i c all lt is h k small = go (c == k) refl where
   more : (b : Bool) → (c == k) ≡ b → is_listed (take (i + 1) channels) k ≡ (is_listed (take i channels) k || b)
   more b e = list_any_more (λ n. n == k) channels i 0 lt ∙ ap (λ (t : Bool). is_listed (take i channels) k || t) (ap (λ (n : ℕ). n == k) (sym is) ∙ e)
@@ -35,11 +35,11 @@ unused_more kept channels i c all lt is h k small = go (c == k) refl where
       get_or-set_other kept c k (unused true) none_kept (λ same. eqb-false c k e (sym same)) ∙ h k small
       ∙ ap unused (or_none (is_listed (take i channels) k) ∙ sym (more false e))
 
-pub unused_bursts : (kept : List Channel) (channels : List ℕ) (most : ℕ) (wide : Bool) → AreUnused kept channels → HasBursts kept 0 most wide []
+pub unused_bursts : (kept : List ChannelState) (channels : List ℕ) (most : ℕ) (wide : Bool) → AreUnused kept channels → HasBursts kept 0 most wide []
 unused_bursts kept channels most wide h k small = rw (h k small) (record { since = omega arith; going = refl; packet = refl })
 
-pub unused_listed : (kept : List Channel) (channels : List ℕ) → AreUnused kept channels → HasListed kept channels
-unused_listed kept channels h k small = ap (λ (c : Channel). c.listed) (h k small)
+pub unused_listed : (kept : List ChannelState) (channels : List ℕ) → AreUnused kept channels → HasListed kept channels
+unused_listed kept channels h k small = ap (λ (c : ChannelState). c.listed) (h k small)
 
 pub next_is : (k : ℕ) (words : List RxWord) → first_of (drop k words) ≡ slice_get words k
 next_is zero [] = refl
@@ -50,11 +50,11 @@ next_is (suc k) (w ∷ words) = next_is k words
 pub earlier_more : (words : List RxWord) (i : ℕ) (d : RxWord) → i < length words → reverse (take (i + 1) words) ≡ get_or words i d ∷ reverse (take i words)
 earlier_more words i d lt = ap (λ (l : List RxWord). reverse l) (take_more words i d lt) ∙ reverse-append (take i words) (get_or words i d ∷ [])
 
-pub all_first : (n : ℕ) (kept : List Channel) → kept ≡ replicate n (unused false) → length kept ≡ n
-all_first n kept h = ap (λ (l : List Channel). length l) h ∙ length-replicate n (unused false)
+pub all_first : (n : ℕ) (kept : List ChannelState) → kept ≡ replicate n (unused false) → length kept ≡ n
+all_first n kept h = ap (λ (l : List ChannelState). length l) h ∙ length-replicate n (unused false)
 
-pub unused_first : (kept : List Channel) (channels : List ℕ) → kept ≡ replicate 65536 (unused false) → AreUnused kept []
-unused_first kept channels h k small = ap (λ (l : List Channel). get_or l k none_kept) h ∙ get_or-replicate 65536 k (unused false) none_kept small
+pub unused_first : (kept : List ChannelState) (channels : List ℕ) → kept ≡ replicate 65536 (unused false) → AreUnused kept []
+unused_first kept channels h k small = ap (λ (l : List ChannelState). get_or l k none_kept) h ∙ get_or-replicate 65536 k (unused false) none_kept small
 
 pub take_whole : (xs : List ℕ) → take (length xs) xs ≡ xs
 take_whole [] = refl

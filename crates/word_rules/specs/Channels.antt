@@ -10,11 +10,11 @@ use Rattle.lk_base.specs.declared.word.RxWord.{RxWord}
 use Rattle.lk_base.specs.declared.word.RxWord.TheVariants.{Data, Control, Bad}
 use Rattle.word_rules.specs.declared.before.Before.{Before}
 use Rattle.word_rules.specs.declared.burst.Burst.{Burst}
-use Rattle.word_rules.specs.declared.channels.Seen.{Seen}
-use Rattle.word_rules.specs.declared.channel.Channel.{Channel}
+use Rattle.word_rules.specs.declared.channels.OwnChannel.{OwnChannel}
+use Rattle.word_rules.specs.declared.channel.ChannelState.{ChannelState}
 use Rattle.word_rules.specs.declared.fault.Fault.{Fault}
-use Rattle.word_rules.specs.declared.rule.Rule.TheVariants as rules
-use Rattle.word_rules.specs.declared.settings.Settings.{Settings}
+use Rattle.word_rules.specs.declared.rule.WordRule.TheVariants as rules
+use Rattle.word_rules.specs.declared.limits.WordLimits.{WordLimits}
 use Rattle.word_rules.specs.Places.{is_burst_word, known}
 use Rattle.word_rules.specs.Faults.{row}
 use Rattle.word_rules.specs.ByFields.{channel_by}
@@ -24,14 +24,14 @@ use Rattle.word_rules.specs.Bursts.{bursts_from, ends, is_ended, burst_bytes, wh
 -- ---- one channel
 
 -- what was kept before the last Bad word is unknown: `from` Bad words came so far
-abbrev pub going_seen : ℕ → Channel → Option Bool
+abbrev pub going_seen : ℕ → ChannelState → Option Bool
 going_seen from c = cond (c.since == from) c.going None
 
-abbrev pub packet_seen : ℕ → Channel → Option ℕ
+abbrev pub packet_seen : ℕ → ChannelState → Option ℕ
 packet_seen from c = cond (c.since == from) c.packet None
 
 -- the bytes of its packet before the burst, where it goes on and has at most the most
-abbrev pub bytes_before : ℕ → Channel → ℕ → Option ℕ
+abbrev pub bytes_before : ℕ → ChannelState → ℕ → Option ℕ
 bytes_before from c word = cond (has_sop word) (Some 0) (packet_seen from c)
 
 -- the bytes with those of the burst, where the packet goes on and has at most the most
@@ -39,7 +39,7 @@ abbrev pub grown : ℕ → Burst → Option ℕ → Option ℕ
 grown most b o = option_and_then (λ bytes. cond (not (ends b.closer) && nat_le (8 * b.size + bytes) most) (Some (8 * b.size + bytes)) None) o
 
 -- the channel after a burst on it
-abbrev pub channel_after : ℕ → ℕ → Channel → Burst → Channel
+abbrev pub channel_after : ℕ → ℕ → ChannelState → Burst → ChannelState
 channel_after from most c b = record {
   since = from;
   going = Some (not (ends b.closer));
@@ -48,7 +48,7 @@ channel_after from most c b = record {
 }
 
 -- with the burst the packet has more bytes than the most, and without it it has not
-abbrev pub long_by : ℕ → ℕ → Channel → Burst → Bool
+abbrev pub long_by : ℕ → ℕ → ChannelState → Burst → Bool
 long_by from most c b =
     is_control_word b.closer
     && option_map_or (λ bytes. nat_lt most (bytes + burst_bytes b.size (end_of b.closer))) (bytes_before from c b.word) false
@@ -61,7 +61,7 @@ abbrev pub held : ℕ → List Burst → Option ℕ
 held most bursts = option_and_then (held_of most) (since_sop bursts)
 
 -- the channel stands for these bursts, the last first, after `from` Bad words
-pub record IsChannel (c : Channel) (from most : ℕ) (bursts : List Burst) : Type 0 where
+pub record IsChannel (c : ChannelState) (from most : ℕ) (bursts : List Burst) : Type 0 where
   pub since : c.since ≤ from
   pub going : going_seen from c ≡ option_map (λ b. not (is_ended b)) (first_of bursts)
   pub packet : packet_seen from c ≡ held most bursts
@@ -69,7 +69,7 @@ pub record IsChannel (c : Channel) (from most : ℕ) (bursts : List Burst) : Typ
 -- ---- all channels
 
 -- no channel
-abbrev pub none_kept : Channel
+abbrev pub none_kept : ChannelState
 none_kept = record { since = 0; going = None; packet = None; listed = false }
 
 -- the bursts of one channel
@@ -77,7 +77,7 @@ abbrev pub of_channel : Bool → ℕ → List Burst → List Burst
 of_channel wide channel bursts = filter (λ (b : Burst). channel_number wide b.word == channel) bursts
 
 -- each channel stands for its bursts
-abbrev pub HasBursts : List Channel → ℕ → ℕ → Bool → List Burst → Type 0
+abbrev pub HasBursts : List ChannelState → ℕ → ℕ → Bool → List Burst → Type 0
 HasBursts kept from most wide bursts = (channel : ℕ) → channel < 65536 → IsChannel (get_or kept channel none_kept) from most (of_channel wide channel bursts)
 
 -- the bursts that are closed before a place, where no Bad word stands between, the last first
@@ -88,7 +88,7 @@ closed (Control x ∷ earlier) = bursts_from x 0 (known earlier)
 closed (Bad ∷ earlier) = []
 
 -- which channels are listed
-abbrev pub HasListed : List Channel → List ℕ → Type 0
+abbrev pub HasListed : List ChannelState → List ℕ → Type 0
 HasListed kept channels = (channel : ℕ) → channel < 65536 → (get_or kept channel none_kept).listed ≡ is_listed channels channel
 
 -- of a burst word, its burst up to the place where x closes it
@@ -96,7 +96,7 @@ abbrev pub burst_of : Before → ℕ → ℕ → Burst
 burst_of b x word = record { word = word; size = b.size; closer = x }
 
 -- the channels after x has closed the burst right before it, if there is one
-abbrev pub kept_after : Settings → ℕ → List Channel → Before → ℕ → List Channel
+abbrev pub kept_after : WordLimits → ℕ → List ChannelState → Before → ℕ → List ChannelState
 kept_after s bads kept b x =
     option_map_or
     (λ word. slice_set kept (channel_number s.wide word) (channel_after bads s.max_packet (slice_index_or kept (channel_number s.wide word) none_kept) (burst_of b x word)))
@@ -104,7 +104,7 @@ kept_after s bads kept b x =
     kept
 
 -- `long`, by the channel of this burst
-abbrev pub long_at : Settings → ℕ → List Channel → Before → ℕ → Bool
+abbrev pub long_at : WordLimits → ℕ → List ChannelState → Before → ℕ → Bool
 long_at s bads kept b x =
     option_map_or
     (λ word. long_by bads s.max_packet (slice_index_or kept (channel_number s.wide word) none_kept) (burst_of b x word))
@@ -119,7 +119,7 @@ abbrev pub open_by : Option Bool → Bool → ℕ → Bool
 open_by going any_bad x = is_burst_word x && (not (has_sop x) && (not (unwrap_or going false) && (is_some going || not any_bad)))
 
 -- the rows of the Control word x by its channel, after x has closed the burst before it, and by whether that is long
-abbrev pub packet_rows_by : Settings → Before → Seen → ℕ → List Fault
+abbrev pub packet_rows_by : WordLimits → Before → OwnChannel → ℕ → List Fault
 packet_rows_by s b own x =
     row b.number rules.Sop (Some (channel_number s.wide x)) (sop_by own.going x)
     ++ (row b.number rules.Open (Some (channel_number s.wide x)) (open_by own.going b.any_bad x)
@@ -127,7 +127,7 @@ packet_rows_by s b own x =
     ++ row b.number rules.Long (channel_by s.wide b) own.long))
 
 -- what is kept of the channel of x, after x has closed the burst before it
-abbrev pub seen_by : Settings → ℕ → List Channel → Before → ℕ → Seen
+abbrev pub seen_by : WordLimits → ℕ → List ChannelState → Before → ℕ → OwnChannel
 seen_by s bads kept b x = record {
   going = going_seen bads (slice_index_or (kept_after s bads kept b x) (channel_number s.wide x) none_kept);
   listed = (slice_index_or (kept_after s bads kept b x) (channel_number s.wide x) none_kept).listed;

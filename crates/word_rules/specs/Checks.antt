@@ -11,13 +11,13 @@ use Rattle.word_rules.specs.Flows.{IsFlow}
 
 -- the checker keeps what the rules of this plan read of these words, the latest first
 pub record Keeps (c : Checker) (p : Plan) (earlier : List RxWord) : Type 0 where
-  pub settings : c.settings ≡ p.settings
+  pub limits : c.limits ≡ p.limits
   pub entries : c.entries ≡ length p.entries
   pub few : c.entries < 2 ^ 32
   pub before : IsBefore c.before earlier
   pub bads : c.bads ≤ length earlier
   pub all : length c.kept.items ≡ 65536
-  pub bursts : HasBursts c.kept.items c.bads p.settings.max_packet p.settings.wide (closed earlier)
+  pub bursts : HasBursts c.kept.items c.bads p.limits.max_packet p.limits.wide (closed earlier)
   pub listed : HasListed c.kept.items p.channels
   pub due : IsDue c.due (accepted_before earlier)
   pub flow : IsFlow c.flow p.entries p.flow (length earlier)

@@ -2,22 +2,22 @@
 use Rattle.std.specs.Prelude.{ℕ, ◌≡◌, [], ◌∷◌, true, false, Some, None}
 use Rattle.lk_base.specs.declared.word.RxWord.TheVariants.{Data, Control, Bad}
 use Rattle.word_rules.specs.declared.fault.Fault.{Fault}
-use Rattle.word_rules.specs.declared.rule.Rule.{Rule}
-use Rattle.word_rules.specs.declared.rule.Rule.TheVariants as rules
-use Rattle.word_rules.specs.declared.settings.Settings.{Settings}
+use Rattle.word_rules.specs.declared.rule.WordRule.{WordRule}
+use Rattle.word_rules.specs.declared.rule.WordRule.TheVariants as rules
+use Rattle.word_rules.specs.declared.limits.WordLimits.{WordLimits}
 use Rattle.word_rules.specs.Faults.{Plan, faults}
 
 -- bursts of at most 64 bytes and at least 32, burst words 32 bytes apart, and packets of at most 80 bytes
-abbrev pub small : Settings
+abbrev pub small : WordLimits
 small = record { burst_max = 64; burst_short = 32; burst_min = 32; max_packet = 80; wide = false }
 
 -- two channels and one entry
 abbrev pub plain_plan : Plan
-plain_plan = record { settings = small; channels = 0 ∷ 1 ∷ []; entries = 0 ∷ []; flow = [] }
+plain_plan = record { limits = small; channels = 0 ∷ 1 ∷ []; entries = 0 ∷ []; flow = [] }
 
 -- two channels whose numbers are wide
 abbrev pub wide_plan : Plan
-wide_plan = record plain_plan { settings = record small { wide = true }; channels = 0 ∷ 261 ∷ [] }
+wide_plan = record plain_plan { limits = record small { wide = true }; channels = 0 ∷ 261 ∷ [] }
 
 -- seventeen entries
 abbrev pub calendar_plan : Plan
@@ -28,10 +28,10 @@ abbrev pub off_plan : Plan
 off_plan = record plain_plan { flow = record { slot = 3; word = 0x817fff0000be98a3 } ∷ [] }
 
 -- a row without a channel, and one with
-abbrev pub told : ℕ → Rule → Fault
+abbrev pub told : ℕ → WordRule → Fault
 told word rule = record { word = word; rule = rule; channel = None }
 
-abbrev pub told_on : ℕ → Rule → ℕ → Fault
+abbrev pub told_on : ℕ → WordRule → ℕ → Fault
 told_on word rule channel = record { word = word; rule = rule; channel = Some channel }
 
 pub record Examples : Type 0 where

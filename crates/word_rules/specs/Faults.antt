@@ -6,15 +6,15 @@ use Rattle.lk_base.specs.Fields.{channel_number}
 use Rattle.receive_model.specs.Lists.{first_of}
 use Rattle.stream_model.specs.declared.rows.FlowRow.{FlowRow}
 use Rattle.word_rules.specs.declared.fault.Fault.{Fault}
-use Rattle.word_rules.specs.declared.rule.Rule.{Rule}
-use Rattle.word_rules.specs.declared.rule.Rule.TheVariants as rules
-use Rattle.word_rules.specs.declared.settings.Settings.{Settings}
+use Rattle.word_rules.specs.declared.rule.WordRule.{WordRule}
+use Rattle.word_rules.specs.declared.rule.WordRule.TheVariants as rules
+use Rattle.word_rules.specs.declared.limits.WordLimits.{WordLimits}
 use Rattle.word_rules.specs.Places.{channel_before}
 use Rattle.word_rules.specs.Rules.{breaks_data, breaks_max, breaks_control, breaks_crc, breaks_empty, breaks_short, breaks_end, breaks_fill, breaks_part, breaks_min, breaks_sop, breaks_open, breaks_channel, breaks_long, breaks_idle, breaks_multi, breaks_calendar, breaks_off}
 
 -- what the words are checked by
 pub record Plan : Type 0 where
-  pub settings : Settings
+  pub limits : WordLimits
   -- the listed channels
   pub channels : List ℕ
   -- the entries of the calendar
@@ -23,17 +23,17 @@ pub record Plan : Type 0 where
   pub flow : List FlowRow
 
 -- one row where the rule is broken
-abbrev pub row : ℕ → Rule → Option ℕ → Bool → List Fault
+abbrev pub row : ℕ → WordRule → Option ℕ → Bool → List Fault
 row t rule channel broken = cond broken (record { word = t; rule = rule; channel = channel } ∷ []) []
 
 -- the rows of a Data word
-abbrev pub data_rows : Settings → List RxWord → List Fault
+abbrev pub data_rows : WordLimits → List RxWord → List Fault
 data_rows s earlier =
     row (length earlier) rules.Data None (breaks_data earlier)
     ++ row (length earlier) rules.Max (channel_before s.wide earlier) (breaks_max s earlier)
 
 -- the rows of the Control word x by how it stands among the words
-abbrev pub word_rows : Settings → List RxWord → ℕ → Option RxWord → List Fault
+abbrev pub word_rows : WordLimits → List RxWord → ℕ → Option RxWord → List Fault
 word_rows s earlier x next =
     row (length earlier) rules.Control None (breaks_control x)
     ++ (row (length earlier) rules.Crc None (breaks_crc earlier x)
@@ -42,14 +42,14 @@ word_rows s earlier x next =
     ++ row (length earlier) rules.End None (breaks_end earlier x))))
 
 -- the rows of the Control word x by the burst that it closes
-abbrev pub burst_rows : Settings → List RxWord → ℕ → List Fault
+abbrev pub burst_rows : WordLimits → List RxWord → ℕ → List Fault
 burst_rows s earlier x =
     row (length earlier) rules.Fill (channel_before s.wide earlier) (breaks_fill earlier x)
     ++ (row (length earlier) rules.Part (channel_before s.wide earlier) (breaks_part earlier x)
     ++ row (length earlier) rules.Min (channel_before s.wide earlier) (breaks_min s earlier x))
 
 -- the rows of the Control word x by the packets of channels
-abbrev pub packet_rows : Settings → List ℕ → List RxWord → ℕ → List Fault
+abbrev pub packet_rows : WordLimits → List ℕ → List RxWord → ℕ → List Fault
 packet_rows s channels earlier x =
     row (length earlier) rules.Sop (Some (channel_number s.wide x)) (breaks_sop s earlier x)
     ++ (row (length earlier) rules.Open (Some (channel_number s.wide x)) (breaks_open s earlier x)
@@ -60,17 +60,17 @@ packet_rows s channels earlier x =
 abbrev pub field_rows : Plan → List RxWord → ℕ → List Fault
 field_rows p earlier x =
     row (length earlier) rules.Idle None (breaks_idle x)
-    ++ (row (length earlier) rules.Multi (Some (channel_number p.settings.wide x)) (breaks_multi p.settings x)
+    ++ (row (length earlier) rules.Multi (Some (channel_number p.limits.wide x)) (breaks_multi p.limits x)
     ++ (row (length earlier) rules.Calendar None (breaks_calendar (length p.entries) earlier x)
-    ++ row (length earlier) rules.Off (Some (channel_number p.settings.wide x)) (breaks_off p.settings p.channels p.entries p.flow earlier x)))
+    ++ row (length earlier) rules.Off (Some (channel_number p.limits.wide x)) (breaks_off p.limits p.channels p.entries p.flow earlier x)))
 
 -- the rows of a word, by the words before it, the latest first, and by the next word, if there is one
 abbrev pub faults_at : Plan → List RxWord → RxWord → Option RxWord → List Fault
-faults_at p earlier (Data x) next = data_rows p.settings earlier
+faults_at p earlier (Data x) next = data_rows p.limits earlier
 faults_at p earlier (Control x) next =
-    word_rows p.settings earlier x next
-    ++ (burst_rows p.settings earlier x
-    ++ (packet_rows p.settings p.channels earlier x
+    word_rows p.limits earlier x next
+    ++ (burst_rows p.limits earlier x
+    ++ (packet_rows p.limits p.channels earlier x
     ++ field_rows p earlier x))
 faults_at p earlier Bad next = row (length earlier) rules.Bad None true
 

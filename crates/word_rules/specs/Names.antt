@@ -1,11 +1,11 @@
 -- The names of the rules.
 use Rattle.std.specs.Prelude.{ℕ, List}
 use lib.Chars.{codes}
-use Rattle.word_rules.specs.declared.rule.Rule.{Rule}
-use Rattle.word_rules.specs.declared.rule.Rule.TheVariants as rules
+use Rattle.word_rules.specs.declared.rule.WordRule.{WordRule}
+use Rattle.word_rules.specs.declared.rule.WordRule.TheVariants as rules
 
 -- the rule's name, as it stands in the table of faults
-abbrev pub name_of : Rule → List ℕ
+abbrev pub name_of : WordRule → List ℕ
 name_of rules.Bad = codes "bad"
 name_of rules.Control = codes "control"
 name_of rules.Crc = codes "crc"

@@ -15,7 +15,7 @@ use Rattle.receive_model.specs.Lists.{first_of}
 use Rattle.receive_model.specs.Stretches.{data_number, has_some, has_wrong_crc}
 use Rattle.stream_model.specs.Calendar.{is_on}
 use Rattle.stream_model.specs.declared.rows.FlowRow.{FlowRow}
-use Rattle.word_rules.specs.declared.settings.Settings.{Settings}
+use Rattle.word_rules.specs.declared.limits.WordLimits.{WordLimits}
 use Rattle.word_rules.specs.Places.{control_number, is_burst_word, known, since_control, data_before, burst_before, follows_bad, words_since_burst}
 use Rattle.word_rules.specs.declared.burst.Burst.{Burst}
 use Rattle.word_rules.specs.Bursts.{bursts_on, ends, is_ended, burst_bytes, whole_bytes, since_sop}
@@ -31,7 +31,7 @@ breaks_data (Control x ∷ earlier) = not (is_burst_word x)
 breaks_data (Bad ∷ earlier) = false
 
 -- `max`: the Data word is number BurstMax / 8, from 0, of a burst
-abbrev pub breaks_max : Settings → List RxWord → Bool
+abbrev pub breaks_max : WordLimits → List RxWord → Bool
 breaks_max s earlier = is_some (burst_before earlier) && (length (data_before earlier) == s.burst_max / 8)
 
 -- ---- the Control word x
@@ -61,7 +61,7 @@ breaks_empty x next = is_burst_word x && is_next_control next
 
 -- `short`: it is a burst word, and between the last burst word before it, if that is not unknown, and it stand fewer than
 -- BurstShort / 8 words
-abbrev pub breaks_short : Settings → List RxWord → ℕ → Bool
+abbrev pub breaks_short : WordLimits → List RxWord → ℕ → Bool
 breaks_short s earlier x =
     is_burst_word x && option_map_or (λ between. nat_lt between (s.burst_short / 8)) (words_since_burst (known earlier)) false
 
@@ -93,7 +93,7 @@ breaks_part earlier x = (is_control_word x && not (has_end x)) && (closes_data e
 
 -- `min`: a burst with Data is closed by it, it is accepted, the bytes are fewer than BurstMin, and the burst is not the whole of a
 -- packet: its burst word has no SOP, or the closing word has no end format
-abbrev pub breaks_min : Settings → List RxWord → ℕ → Bool
+abbrev pub breaks_min : WordLimits → List RxWord → ℕ → Bool
 breaks_min s earlier x =
     is_control_word x && (has_some (data_before earlier)
     && (nat_lt (burst_bytes (length (data_before earlier)) (end_of x)) s.burst_min
@@ -115,11 +115,11 @@ is_known_closed wide earlier x =
     not (is_open wide earlier x) && (is_some (last_burst wide earlier x) || not (list_any is_bad earlier))
 
 -- `sop`: it is a burst word with SOP, and its channel is known to be open
-abbrev pub breaks_sop : Settings → List RxWord → ℕ → Bool
+abbrev pub breaks_sop : WordLimits → List RxWord → ℕ → Bool
 breaks_sop s earlier x = is_burst_word x && (has_sop x && is_open s.wide earlier x)
 
 -- `open`: it is a burst word without SOP, and its channel is known not to be open
-abbrev pub breaks_open : Settings → List RxWord → ℕ → Bool
+abbrev pub breaks_open : WordLimits → List RxWord → ℕ → Bool
 breaks_open s earlier x = is_burst_word x && (not (has_sop x) && is_known_closed s.wide earlier x)
 
 -- a channel is among the listed ones
@@ -127,7 +127,7 @@ abbrev pub is_listed : List ℕ → ℕ → Bool
 is_listed channels channel = list_any (λ c. c == channel) channels
 
 -- `channel`: it is a burst word whose channel is not listed
-abbrev pub breaks_channel : Settings → List ℕ → ℕ → Bool
+abbrev pub breaks_channel : WordLimits → List ℕ → ℕ → Bool
 breaks_channel s channels x = is_burst_word x && not (is_listed channels (channel_number s.wide x))
 
 -- Of the bursts of a channel from its last burst word with SOP on, the last first, none before the last is ended, those before the
@@ -142,7 +142,7 @@ passes_limit most end (b ∷ before) =
 -- `long`: a burst is closed by it, it is accepted, the channel's last burst word with SOP up to this burst is not unknown, and with
 -- this burst, and not before it, the channel's bytes from there on are more than the most of a packet, where no burst from there
 -- on, before this one, is ended
-abbrev pub breaks_long : Settings → List RxWord → ℕ → Bool
+abbrev pub breaks_long : WordLimits → List RxWord → ℕ → Bool
 breaks_long s earlier x =
     is_control_word x
     && option_map_or
@@ -157,7 +157,7 @@ breaks_idle x =
     && (has_sop x || (not (channel_field x == 0) || not (multi_field x == 0)))
 
 -- `multi`: channel numbers are narrow, and it is a burst word whose multiple use is not 0
-abbrev pub breaks_multi : Settings → ℕ → Bool
+abbrev pub breaks_multi : WordLimits → ℕ → Bool
 breaks_multi s x = not s.wide && (is_burst_word x && not (multi_field x == 0))
 
 -- ---- the calendar
@@ -203,7 +203,7 @@ breaks_calendar entries earlier x =
     || option_map_or (has_zero_past_last entries x) (entries_at (accepted_before earlier) x) false)
 
 -- `off`: it is a burst word on a listed channel that is off at its slot by the flow rows
-abbrev pub breaks_off : Settings → List ℕ → List ℕ → List FlowRow → List RxWord → ℕ → Bool
+abbrev pub breaks_off : WordLimits → List ℕ → List ℕ → List FlowRow → List RxWord → ℕ → Bool
 breaks_off s channels entries flow earlier x =
     is_burst_word x
     && (is_listed channels (channel_number s.wide x)

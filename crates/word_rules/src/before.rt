@@ -9,7 +9,7 @@ ghost use Rattle.word_rules.specs.Places.{burst_before, is_burst_word};
 ghost use Rattle.word_rules.specs.Rules.{breaks_crc, breaks_data, breaks_end, breaks_fill, breaks_max, breaks_min, breaks_part, breaks_short};
 ghost use Rattle.word_rules.specs.Stands.{IsBefore};
 
-use crate::settings::Settings;
+use crate::limits::WordLimits;
 use control_words::{ControlWord, Eop};
 use lk_base::RxWord;
 use lk_crc::{crc24_end, crc24_start, crc24_word};

@@ -9,7 +9,7 @@ use control_words::ControlWord;
 
 /// What is kept of a channel.
 #[derive(Clone, Copy, Debug, PartialEq, Eq)]
-pub struct Channel {
+pub struct ChannelState {
     /// How many Bad words had come when it last changed. What stands before a Bad word is unknown after it.
     pub since: u64,
     /// Whether its packet goes on after its last burst, if it had one.
@@ -20,7 +20,7 @@ pub struct Channel {
     pub listed: bool,
 }
 
-impl Channel {
+impl ChannelState {
     /// Whether its packet goes on after its last known burst, if it has one; `bads` Bad words came so far.
     pub fn going(self, bads: u64) -> Option<bool>
         ensures { result ≡ going_seen bads self }
@@ -51,11 +51,11 @@ impl Channel {
     }
 
     /// The channel after a burst on it.
-    pub fn after_burst(self, bads: u64, most: u32, b: Burst) -> Channel
+    pub fn after_burst(self, bads: u64, most: u32, b: Burst) -> ChannelState
         requires { b.size < 2 ^ 60 }
         ensures { result ≡ channel_after bads most self b }
     {
-        Channel {
+        ChannelState {
             since: bads,
             going: Some(!ends(b.closer)),
             packet: grown(most, b, self.bytes_before(bads, b.word)),

@@ -5,17 +5,17 @@ ghost use Rattle.word_rules.specs.Channels.{kept_after, long_at, none_kept, open
 
 use crate::before::{Before, is_burst_word};
 use crate::burst::Burst;
-use crate::channel::Channel;
+use crate::channel::ChannelState;
 use crate::fault::Fault;
+use crate::limits::WordLimits;
 use crate::rows::tell;
-use crate::rule::Rule;
-use crate::settings::Settings;
+use crate::rule::WordRule;
 use control_words::ControlWord;
 use lk_base::OutOfMemory;
 
 /// What is kept of the channel of a Control word, once this has closed the burst before it.
 #[derive(Clone, Copy, Debug, PartialEq, Eq)]
-pub struct Seen {
+pub struct OwnChannel {
     /// Whether its packet goes on after its last known burst, if it has one.
     pub going: Option<bool>,
     /// Whether it is listed.
@@ -25,7 +25,7 @@ pub struct Seen {
 }
 
 /// What is kept of a channel.
-pub fn channel_at(kept: &Vec<Channel>, channel: u16) -> Channel
+pub fn channel_at(kept: &Vec<ChannelState>, channel: u16) -> ChannelState
     requires { length kept.now.items ≡ 65536 }
     ensures { result ≡ slice_index_or kept.now.items channel none_kept }
 {
@@ -52,7 +52,7 @@ fn breaks_open(going: Option<bool>, any_bad: bool, x: u64) -> bool
 
 /// Closes the burst right before the Control word `x`, if there is one, after `bads` Bad words. It returns whether `long` is
 /// broken.
-pub fn close(kept: &mut Vec<Channel>, before: Before, s: Settings, bads: u64, x: u64) -> bool
+pub fn close(kept: &mut Vec<ChannelState>, before: Before, s: WordLimits, bads: u64, x: u64) -> bool
     requires all { length kept.old.items ≡ 65536 }
     requires size { before.size < 2 ^ 60 }
     ensures kept { kept.new.items ≡ kept_after s bads kept.old.items before x }
@@ -77,8 +77,8 @@ pub fn close(kept: &mut Vec<Channel>, before: Before, s: Settings, bads: u64, x:
 /// The rows of the Control word `x` by its channel, after `x` has closed the burst before it, and by whether that is `long`.
 pub fn packet_rows(
     before: Before,
-    s: Settings,
-    own: Seen,
+    s: WordLimits,
+    own: OwnChannel,
     x: u64,
     faults: &mut Vec<Fault>,
 ) -> Result<(), OutOfMemory>
@@ -88,20 +88,26 @@ pub fn packet_rows(
     let sop = breaks_sop(own.going, x);
     let open = breaks_open(own.going, before.any_bad, x);
     let unlisted = is_burst_word(x) && !own.listed;
-    tell(faults, before.number, Rule::Sop, channel, sop)?;
-    tell(faults, before.number, Rule::Open, channel, open)?;
-    tell(faults, before.number, Rule::Channel, channel, unlisted)?;
+    tell(faults, before.number, WordRule::Sop, channel, sop)?;
+    tell(faults, before.number, WordRule::Open, channel, open)?;
+    tell(faults, before.number, WordRule::Channel, channel, unlisted)?;
     tell(
         faults,
         before.number,
-        Rule::Long,
+        WordRule::Long,
         before.channel(s.wide),
         own.long,
     )
 }
 
 /// Closes the burst right before the Control word `x`, and returns what is kept of the channel of `x` then.
-pub fn close_before(kept: &mut Vec<Channel>, before: Before, s: Settings, bads: u64, x: u64) -> Seen
+pub fn close_before(
+    kept: &mut Vec<ChannelState>,
+    before: Before,
+    s: WordLimits,
+    bads: u64,
+    x: u64,
+) -> OwnChannel
     requires all { length kept.old.items ≡ 65536 }
     requires size { before.size < 2 ^ 60 }
     ensures kept { kept.new.items ≡ kept_after s bads kept.old.items before x }
@@ -109,7 +115,7 @@ pub fn close_before(kept: &mut Vec<Channel>, before: Before, s: Settings, bads: 
 {
     let long = close(kept, before, s, bads, x);
     let own = channel_at(kept, ControlWord(x).channel(s.wide));
-    Seen {
+    OwnChannel {
         going: own.going(bads),
         listed: own.listed,
         long,

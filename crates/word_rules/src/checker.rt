@@ -10,15 +10,15 @@ ghost use Rattle.word_rules.specs.Checks.{Keeps};
 ghost use Rattle.word_rules.specs.Flows.{InOrder};
 
 use crate::before::{Before, start};
-use crate::channel::Channel;
+use crate::channel::ChannelState;
 use crate::channels::close_before;
 use crate::control_rows::{breaks_off, control_rows, field_rows};
 use crate::due::{Due, no_word};
 use crate::fault::Fault;
 use crate::flow::Flow;
+use crate::limits::WordLimits;
 use crate::rows::tell;
-use crate::rule::Rule;
-use crate::settings::Settings;
+use crate::rule::WordRule;
 use control_words::ControlWord;
 use lk_base::{OutOfMemory, RxWord};
 use std::alloc::Global;
@@ -27,11 +27,11 @@ use stream_model::FlowRow;
 /// What the rules read of the words that came so far.
 #[derive(Drop)]
 pub struct Checker {
-    settings: Settings,
+    limits: WordLimits,
     // The entries of the calendar.
     entries: u64,
     // What is kept of the channels, by number.
-    kept: Vec<Channel>,
+    kept: Vec<ChannelState>,
     // How many Bad words came.
     bads: u64,
     before: Before,
@@ -46,7 +46,7 @@ impl Checker {
         ensures rows { (p : Plan) (earlier : List RxWord) (next : Option RxWord) → Keeps self.old p earlier → OnOk result (faults.new.items ≡ faults.old.items ++ faults_at p earlier (Data x) next) }
         ensures keeps { (p : Plan) (earlier : List RxWord) → Keeps self.old p earlier → OnOk result (Keeps self.new p (Data x ∷ earlier)) }
     {
-        self.before.data_rows(self.settings, faults)?;
+        self.before.data_rows(self.limits, faults)?;
         self.before = self.before.after_data(x);
         Ok(())
     }
@@ -57,7 +57,7 @@ impl Checker {
         ensures rows { (p : Plan) (earlier : List RxWord) (next : Option RxWord) → Keeps self.old p earlier → OnOk result (faults.new.items ≡ faults.old.items ++ faults_at p earlier Bad next) }
         ensures keeps { (p : Plan) (earlier : List RxWord) → Keeps self.old p earlier → OnOk result (Keeps self.new p (Bad ∷ earlier)) }
     {
-        tell(faults, self.before.number, Rule::Bad, None, true)?;
+        tell(faults, self.before.number, WordRule::Bad, None, true)?;
         self.before = self.before.after_bad_word();
         self.due = no_word();
         self.bads += 1;
@@ -78,14 +78,14 @@ impl Checker {
         let off = breaks_off(
             &mut self.flow,
             &self.kept,
-            self.settings,
+            self.limits,
             self.before.number,
             x,
         );
-        let own = close_before(&mut self.kept, self.before, self.settings, self.bads, x);
+        let own = close_before(&mut self.kept, self.before, self.limits, self.bads, x);
         let calendar = self.due.breaks_calendar(self.entries, x);
-        control_rows(self.before, self.settings, own, x, next, faults)?;
-        field_rows(self.before.number, self.settings, calendar, off, x, faults)?;
+        control_rows(self.before, self.limits, own, x, next, faults)?;
+        field_rows(self.before.number, self.limits, calendar, off, x, faults)?;
         self.before = self.before.after_control(x);
         self.due = self.due.after_control(x);
         Ok(())
@@ -115,11 +115,11 @@ impl Checker {
 }
 
 // A listed channel, of which nothing is kept.
-fn list(kept: &mut Vec<Channel>, channel: u16)
+fn list(kept: &mut Vec<ChannelState>, channel: u16)
     requires { length kept.old.items ≡ 65536 }
     ensures { kept.new.items ≡ slice_set kept.old.items channel (unused true) }
 {
-    kept[channel as usize] = Channel {
+    kept[channel as usize] = ChannelState {
         since: 0,
         going: None,
         packet: None,
@@ -128,11 +128,11 @@ fn list(kept: &mut Vec<Channel>, channel: u16)
 }
 
 // The channels before any word, of which these are listed.
-fn made(alloc: Global, channels: &[u16]) -> Result<Vec<Channel>, OutOfMemory>
+fn made(alloc: Global, channels: &[u16]) -> Result<Vec<ChannelState>, OutOfMemory>
     ensures all { IfOk result (λ kept. length kept.items ≡ 65536) }
     ensures fresh { IfOk result (λ kept. AreUnused kept.items channels.now) }
 {
-    let unused = Channel {
+    let unused = ChannelState {
         since: 0,
         going: None,
         packet: None,
@@ -146,7 +146,7 @@ fn made(alloc: Global, channels: &[u16]) -> Result<Vec<Channel>, OutOfMemory>
 }
 
 impl Checker {
-    /// A checker of the words of a plan with these settings, listed channels, entries of the calendar, and rows of flow control in
+    /// A checker of the words of a plan with these limits, listed channels, entries of the calendar, and rows of flow control in
     /// order of slot. No word came yet.
     ///
     /// # Errors
@@ -154,18 +154,18 @@ impl Checker {
     /// `OutOfMemory`.
     pub fn new(
         alloc: Global,
-        settings: Settings,
+        limits: WordLimits,
         channels: &[u16],
         entries: &[u16],
         flow: &[FlowRow],
     ) -> Result<Checker, OutOfMemory>
         requires { length entries.now < 2 ^ 32 }
-        ensures { IfOk result (λ checker. Keeps checker (record { settings = settings; channels = channels.now; entries = entries.now; flow = flow.now }) []) }
+        ensures { IfOk result (λ checker. Keeps checker (record { limits = limits; channels = channels.now; entries = entries.now; flow = flow.now }) []) }
     {
         let kept = made(alloc, channels)?;
-        let flow = Flow::make(alloc, entries, flow)?;
+        let flow = Flow::new(alloc, entries, flow)?;
         Ok(Checker {
-            settings,
+            limits,
             entries: entries.len() as u64,
             kept,
             bads: 0,
@@ -197,7 +197,7 @@ fn word_at(words: &[RxWord], number: usize) -> Option<RxWord>
 /// `OutOfMemory`.
 pub fn check(
     alloc: Global,
-    settings: Settings,
+    limits: WordLimits,
     channels: &[u16],
     entries: &[u16],
     flow: &[FlowRow],
@@ -206,9 +206,9 @@ pub fn check(
     requires few { length entries.now < 2 ^ 32 }
     requires rows { InOrder flow.now }
     requires words { length words.now < 2 ^ 57 }
-    ensures { IfOk result (λ found. found.items ≡ faults (record { settings = settings; channels = channels.now; entries = entries.now; flow = flow.now }) words.now) }
+    ensures { IfOk result (λ found. found.items ≡ faults (record { limits = limits; channels = channels.now; entries = entries.now; flow = flow.now }) words.now) }
 {
-    let mut checker = Checker::new(alloc, settings, channels, entries, flow)?;
+    let mut checker = Checker::new(alloc, limits, channels, entries, flow)?;
     let mut found = no_faults(alloc);
     for i in 0..words.len() {
         let next = word_at(words, i + 1);

@@ -6,13 +6,13 @@ ghost use Rattle.word_rules.specs.ControlRows.{control_rows_by, field_rows_by, o
 ghost use Rattle.word_rules.specs.Flows.{InOrder, IsFlow};
 
 use crate::before::{Before, is_burst_word};
-use crate::channel::Channel;
-use crate::channels::{Seen, channel_at, packet_rows};
+use crate::channel::ChannelState;
+use crate::channels::{OwnChannel, channel_at, packet_rows};
 use crate::fault::Fault;
 use crate::flow::Flow;
+use crate::limits::WordLimits;
 use crate::rows::tell;
-use crate::rule::Rule;
-use crate::settings::Settings;
+use crate::rule::WordRule;
 use control_words::ControlWord;
 use lk_base::{OutOfMemory, RxWord};
 
@@ -29,7 +29,7 @@ fn breaks_idle(x: u64) -> bool
 }
 
 /// `multi`, of the Control word `x`.
-fn breaks_multi(s: Settings, x: u64) -> bool
+fn breaks_multi(s: WordLimits, x: u64) -> bool
     ensures { result ≡ breaks_multi s x }
 {
     let burst = is_burst_word(x);
@@ -38,7 +38,13 @@ fn breaks_multi(s: Settings, x: u64) -> bool
 }
 
 /// `off`, of the Control word `x` of this number.
-pub fn breaks_off(flow: &mut Flow, kept: &Vec<Channel>, s: Settings, number: u64, x: u64) -> bool
+pub fn breaks_off(
+    flow: &mut Flow,
+    kept: &Vec<ChannelState>,
+    s: WordLimits,
+    number: u64,
+    x: u64,
+) -> bool
     requires all { length kept.now.items ≡ 65536 }
     requires flow { (entries : List ℕ) × (rows : List FlowRow) × IsFlow flow.old entries rows number }
     ensures flow { (entries : List ℕ) (rows : List FlowRow) → IsFlow flow.old entries rows number → IsFlow flow.new entries rows number }
@@ -59,8 +65,8 @@ pub fn breaks_off(flow: &mut Flow, kept: &Vec<Channel>, s: Settings, number: u64
 /// The rows of the Control word `x` up to `long`, by what is kept of its channel, once it has closed the burst before it.
 pub fn control_rows(
     before: Before,
-    s: Settings,
-    own: Seen,
+    s: WordLimits,
+    own: OwnChannel,
     x: u64,
     next: Option<RxWord>,
     faults: &mut Vec<Fault>,
@@ -76,7 +82,7 @@ pub fn control_rows(
 /// The rows of the Control word `x` of this number after `long`, by whether it breaks `calendar` and `off`.
 pub fn field_rows(
     number: u64,
-    s: Settings,
+    s: WordLimits,
     calendar: bool,
     off: bool,
     x: u64,
@@ -85,8 +91,8 @@ pub fn field_rows(
     ensures { OnOk result (faults.new.items ≡ faults.old.items ++ field_rows_by s number calendar off x) }
 {
     let own = Some(ControlWord(x).channel(s.wide));
-    tell(faults, number, Rule::Idle, None, breaks_idle(x))?;
-    tell(faults, number, Rule::Multi, own, breaks_multi(s, x))?;
-    tell(faults, number, Rule::Calendar, None, calendar)?;
-    tell(faults, number, Rule::Off, own, off)
+    tell(faults, number, WordRule::Idle, None, breaks_idle(x))?;
+    tell(faults, number, WordRule::Multi, own, breaks_multi(s, x))?;
+    tell(faults, number, WordRule::Calendar, None, calendar)?;
+    tell(faults, number, WordRule::Off, own, off)
 }

@@ -1,4 +1,4 @@
-use crate::rule::Rule;
+use crate::rule::WordRule;
 
 /// A fault of a sender's words.
 #[derive(Clone, Copy, Debug, PartialEq, Eq)]
@@ -6,7 +6,7 @@ pub struct Fault {
     /// The number of the word, from 0.
     pub word: u64,
     /// The rule that the word breaks.
-    pub rule: Rule,
+    pub rule: WordRule,
     /// The channel of the burst word concerned, where the rule has one.
     pub channel: Option<u16>,
 }

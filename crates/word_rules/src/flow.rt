@@ -67,7 +67,7 @@ pub struct Flow {
 
 impl Flow {
     /// No row is taken.
-    pub fn make(alloc: Global, entries: &[u16], rows: &[FlowRow]) -> Result<Flow, OutOfMemory>
+    pub fn new(alloc: Global, entries: &[u16], rows: &[FlowRow]) -> Result<Flow, OutOfMemory>
         ensures { IfOk result (λ flow. (t : ℕ) → IsFlow flow entries.now rows.now t) }
     {
         let calendar = CalendarIn::make(alloc, entries)?;

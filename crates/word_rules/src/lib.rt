@@ -10,14 +10,13 @@ mod control_rows;
 mod due;
 mod fault;
 mod flow;
-mod laws;
+pub mod laws;
+mod limits;
 mod placed;
 mod rows;
 mod rule;
-mod settings;
 
 pub use checker::{Checker, check};
 pub use fault::Fault;
-pub use laws::examples;
-pub use rule::Rule;
-pub use settings::Settings;
+pub use limits::WordLimits;
+pub use rule::WordRule;

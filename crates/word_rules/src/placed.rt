@@ -5,7 +5,7 @@ ghost use Rattle.word_rules.specs.Bursts.{burst_bytes, ends};
 ghost use Rattle.word_rules.specs.ByFields.{closes_by, crc_by, data_by, end_by, fill_by, filled_by, max_by, min_by, part_by, partial_by, short_by};
 
 use crate::before::{Before, is_burst_word};
-use crate::settings::Settings;
+use crate::limits::WordLimits;
 use control_words::{ControlWord, Eop};
 use lk_crc::{crc24_end, crc24_word};
 
@@ -68,7 +68,7 @@ impl Before {
     }
 
     /// `max`, of a Data word.
-    pub fn breaks_max(self, s: Settings) -> bool
+    pub fn breaks_max(self, s: WordLimits) -> bool
         ensures { result ≡ max_by s self }
     {
         self.burst.is_some() && self.size == (s.burst_max / 8) as u64
@@ -86,7 +86,7 @@ impl Before {
     }
 
     /// `short`, of the Control word `x`.
-    pub fn breaks_short(self, s: Settings, x: u64) -> bool
+    pub fn breaks_short(self, s: WordLimits, x: u64) -> bool
         ensures { result ≡ short_by s self x }
     {
         let burst = is_burst_word(x);
@@ -148,7 +148,7 @@ impl Before {
     }
 
     /// `min`, of the Control word `x`.
-    pub fn breaks_min(self, s: Settings, x: u64) -> bool
+    pub fn breaks_min(self, s: WordLimits, x: u64) -> bool
         requires { self.size < 2 ^ 60 }
         ensures { result ≡ min_by s self x }
     {

@@ -6,8 +6,8 @@ ghost use Rattle.word_rules.specs.ByFields.{burst_rows_by, channel_by, data_rows
 
 use crate::before::{Before, is_burst_word};
 use crate::fault::Fault;
-use crate::rule::Rule;
-use crate::settings::Settings;
+use crate::limits::WordLimits;
+use crate::rule::WordRule;
 use control_words::ControlWord;
 use lk_base::{OutOfMemory, RxWord};
 
@@ -15,7 +15,7 @@ use lk_base::{OutOfMemory, RxWord};
 pub fn tell(
     faults: &mut Vec<Fault>,
     word: u64,
-    rule: Rule,
+    rule: WordRule,
     channel: Option<u16>,
     broken: bool,
 ) -> Result<(), OutOfMemory>
@@ -73,18 +73,30 @@ impl Before {
     }
 
     /// The rows of a Data word.
-    pub fn data_rows(self, s: Settings, faults: &mut Vec<Fault>) -> Result<(), OutOfMemory>
+    pub fn data_rows(self, s: WordLimits, faults: &mut Vec<Fault>) -> Result<(), OutOfMemory>
         ensures { OnOk result (faults.new.items ≡ faults.old.items ++ data_rows_by s self) }
     {
-        tell(faults, self.number, Rule::Data, None, self.breaks_data())?;
+        tell(
+            faults,
+            self.number,
+            WordRule::Data,
+            None,
+            self.breaks_data(),
+        )?;
         let channel = self.channel(s.wide);
-        tell(faults, self.number, Rule::Max, channel, self.breaks_max(s))
+        tell(
+            faults,
+            self.number,
+            WordRule::Max,
+            channel,
+            self.breaks_max(s),
+        )
     }
 
     /// The rows of the Control word `x` by how it stands among the words.
     pub fn word_rows(
         self,
-        s: Settings,
+        s: WordLimits,
         x: u64,
         next: Option<RxWord>,
         faults: &mut Vec<Fault>,
@@ -92,21 +104,38 @@ impl Before {
         ensures { OnOk result (faults.new.items ≡ faults.old.items ++ word_rows_by s self x next) }
     {
         let own = Some(ControlWord(x).channel(s.wide));
-        tell(faults, self.number, Rule::Control, None, breaks_control(x))?;
-        tell(faults, self.number, Rule::Crc, None, self.breaks_crc(x))?;
-        tell(faults, self.number, Rule::Empty, own, breaks_empty(x, next))?;
         tell(
             faults,
             self.number,
-            Rule::Short,
+            WordRule::Control,
+            None,
+            breaks_control(x),
+        )?;
+        tell(faults, self.number, WordRule::Crc, None, self.breaks_crc(x))?;
+        tell(
+            faults,
+            self.number,
+            WordRule::Empty,
+            own,
+            breaks_empty(x, next),
+        )?;
+        tell(
+            faults,
+            self.number,
+            WordRule::Short,
             own,
             self.breaks_short(s, x),
         )?;
-        tell(faults, self.number, Rule::End, None, self.breaks_end(x))
+        tell(faults, self.number, WordRule::End, None, self.breaks_end(x))
     }
 
     /// The rows of the Control word `x` by the burst that it closes.
-    pub fn burst_rows(self, s: Settings, x: u64, faults: &mut Vec<Fault>) -> Result<(), OutOfMemory>
+    pub fn burst_rows(
+        self,
+        s: WordLimits,
+        x: u64,
+        faults: &mut Vec<Fault>,
+    ) -> Result<(), OutOfMemory>
         requires { self.size < 2 ^ 60 }
         ensures { OnOk result (faults.new.items ≡ faults.old.items ++ burst_rows_by s self x) }
     {
@@ -114,21 +143,21 @@ impl Before {
         tell(
             faults,
             self.number,
-            Rule::Fill,
+            WordRule::Fill,
             channel,
             self.breaks_fill(x),
         )?;
         tell(
             faults,
             self.number,
-            Rule::Part,
+            WordRule::Part,
             channel,
             self.breaks_part(x),
         )?;
         tell(
             faults,
             self.number,
-            Rule::Min,
+            WordRule::Min,
             channel,
             self.breaks_min(s, x),
         )

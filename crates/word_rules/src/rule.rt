@@ -6,7 +6,7 @@ use std::fmt;
 
 /// A rule that a sender's words keep, in the order in which faults of one word are told.
 #[derive(Clone, Copy, Debug, PartialEq, Eq)]
-pub enum Rule {
+pub enum WordRule {
     /// A word that is neither Data nor Control.
     Bad,
     /// A Control word that no receiver accepts.
@@ -47,36 +47,36 @@ pub enum Rule {
     Off,
 }
 
-impl Rule {
+impl WordRule {
     /// The rule's name, as it stands in the table of faults.
     pub fn name(self) -> &'static str
         ensures { result.now ≡ name_of self }
     {
         match self {
-            Rule::Bad => "bad",
-            Rule::Control => "control",
-            Rule::Crc => "crc",
-            Rule::Data => "data",
-            Rule::Max => "max",
-            Rule::Empty => "empty",
-            Rule::Short => "short",
-            Rule::End => "end",
-            Rule::Fill => "fill",
-            Rule::Part => "part",
-            Rule::Min => "min",
-            Rule::Sop => "sop",
-            Rule::Open => "open",
-            Rule::Channel => "channel",
-            Rule::Long => "long",
-            Rule::Idle => "idle",
-            Rule::Multi => "multi",
-            Rule::Calendar => "calendar",
-            Rule::Off => "off",
+            WordRule::Bad => "bad",
+            WordRule::Control => "control",
+            WordRule::Crc => "crc",
+            WordRule::Data => "data",
+            WordRule::Max => "max",
+            WordRule::Empty => "empty",
+            WordRule::Short => "short",
+            WordRule::End => "end",
+            WordRule::Fill => "fill",
+            WordRule::Part => "part",
+            WordRule::Min => "min",
+            WordRule::Sop => "sop",
+            WordRule::Open => "open",
+            WordRule::Channel => "channel",
+            WordRule::Long => "long",
+            WordRule::Idle => "idle",
+            WordRule::Multi => "multi",
+            WordRule::Calendar => "calendar",
+            WordRule::Off => "off",
         }
     }
 }
 
-impl fmt::Display for Rule {
+impl fmt::Display for WordRule {
     ghost use Rattle.std.specs.Prelude.{Some};
     ghost use Rattle.word_rules.specs.Names.{name_of};
 

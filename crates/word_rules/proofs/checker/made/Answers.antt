@@ -1,6 +1,6 @@
 use Rattle.std.proofs.Common.{ℕ, ◌≡◌, ◌+◌, ◌∙◌, true, false, refl, ap, sym, subst, List, length, take, replicate, arith}
 use Rattle.std.proofs.lemmas.List.{length-set}
-use Rattle.word_rules.specs.declared.channel.Channel.{Channel}
+use Rattle.word_rules.specs.declared.channel.ChannelState.{ChannelState}
 use Rattle.word_rules.specs.Made.{AreUnused, unused}
 use Rattle.word_rules.proofs.Making.{all_first, unused_first, unused_more, take_whole}
 use Rattle.word_rules.proofs.checker.made.Goals as goal
@@ -14,8 +14,8 @@ pub loop-i-preserved : goal.loop-i-preserved
 loop-i-preserved c =
     let i : ℕ = c.loop-i.i in
     record {
-      all = ap (λ (l : List Channel). length l) c.list.ensures ∙ length-set c.loop-i.kept.items _ (unused true) ∙ c.loop-i.invariant.all;
-      unused = subst (λ (l : List Channel). AreUnused l (take (i + 1) c.args.channels.now)) (sym c.list.ensures)
+      all = ap (λ (l : List ChannelState). length l) c.list.ensures ∙ length-set c.loop-i.kept.items _ (unused true) ∙ c.loop-i.invariant.all;
+      unused = subst (λ (l : List ChannelState). AreUnused l (take (i + 1) c.args.channels.now)) (sym c.list.ensures)
           (unused_more c.loop-i.kept.items c.args.channels.now i _ c.loop-i.invariant.all c.loop-i-test.true refl c.loop-i.invariant.unused);
     }
 

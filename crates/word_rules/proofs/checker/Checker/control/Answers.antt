@@ -1,7 +1,7 @@
 use Rattle.std.proofs.Common.{ℕ, suc, ◌≡◌, ◌^◌, ◌≤◌, ◌∙◌, ap, sym, subst, List, ◌++◌, length, arith}
-use Rattle.word_rules.specs.declared.channel.Channel.{Channel}
+use Rattle.word_rules.specs.declared.channel.ChannelState.{ChannelState}
 use Rattle.word_rules.specs.declared.fault.Fault.{Fault}
-use Rattle.word_rules.specs.declared.settings.Settings.{Settings}
+use Rattle.word_rules.specs.declared.limits.WordLimits.{WordLimits}
 use Rattle.word_rules.specs.Rules.{accepted_before}
 use Rattle.word_rules.specs.Channels.{kept_after, seen_by}
 use Rattle.word_rules.specs.ControlRows.{control_rows_by, field_rows_by, off_by}
@@ -33,14 +33,14 @@ pub returns-clause-rows : goal.returns-clause-rows
 returns-clause-rows c p e k ord =
     let s = c.args.self.now in
     let x : ℕ = c.args.x in
-    let own : c.close_before-own.result ≡ seen_by p.settings s.bads s.kept.items s.before x =
-    c.close_before-own.ensures.seen ∙ ap (λ (t : Settings). seen_by t s.bads s.kept.items s.before x) k.settings in
+    let own : c.close_before-own.result ≡ seen_by p.limits s.bads s.kept.items s.before x =
+    c.close_before-own.ensures.seen ∙ ap (λ (t : WordLimits). seen_by t s.bads s.kept.items s.before x) k.limits in
     let at : IsFlow s.flow p.entries p.flow s.before.number = subst (λ (n : ℕ). IsFlow s.flow p.entries p.flow n) (sym k.before.number) k.flow in
-    let off : c.breaks_off-off.result ≡ off_by p.settings s.kept.items p.entries p.flow s.before.number x =
-    c.breaks_off-off.ensures.off p.entries p.flow at ord ∙ ap (λ (t : Settings). off_by t s.kept.items p.entries p.flow s.before.number x) k.settings in
+    let off : c.breaks_off-off.result ≡ off_by p.limits s.kept.items p.entries p.flow s.before.number x =
+    c.breaks_off-off.ensures.off p.entries p.flow at ord ∙ ap (λ (t : WordLimits). off_by t s.kept.items p.entries p.flow s.before.number x) k.limits in
     c.in_ok-field_rows.ensures
-    ∙ ap (λ (l : List Fault). l ++ field_rows_by s.settings s.before.number c.breaks_calendar-calendar.result c.breaks_off-off.result x) c.in_ok-control_rows.ensures
-    ∙ ap (λ (t : Settings). (c.args.faults.now.items ++ control_rows_by t s.before c.close_before-own.result x c.args.next) ++ field_rows_by t s.before.number c.breaks_calendar-calendar.result c.breaks_off-off.result x) k.settings
+    ∙ ap (λ (l : List Fault). l ++ field_rows_by s.limits s.before.number c.breaks_calendar-calendar.result c.breaks_off-off.result x) c.in_ok-control_rows.ensures
+    ∙ ap (λ (t : WordLimits). (c.args.faults.now.items ++ control_rows_by t s.before c.close_before-own.result x c.args.next) ++ field_rows_by t s.before.number c.breaks_calendar-calendar.result c.breaks_off-off.result x) k.limits
     ∙ control_faults p e s.before k.before s.due k.due s.bads s.kept.items k.all k.bursts k.listed s.entries k.entries x c.args.next
     c.close_before-own.result c.breaks_calendar-calendar.result c.breaks_off-off.result c.args.faults.now.items own c.breaks_calendar-calendar.ensures off
 
@@ -48,17 +48,17 @@ pub returns-clause-keeps : goal.returns-clause-keeps
 returns-clause-keeps c p e k =
     let s = c.args.self.now in
     let x : ℕ = c.args.x in
-    let kept : c.close_before-own.new.kept.items ≡ kept_after p.settings s.bads s.kept.items s.before x =
-    c.close_before-own.ensures.kept ∙ ap (λ (t : Settings). kept_after t s.bads s.kept.items s.before x) k.settings in
+    let kept : c.close_before-own.new.kept.items ≡ kept_after p.limits s.bads s.kept.items s.before x =
+    c.close_before-own.ensures.kept ∙ ap (λ (t : WordLimits). kept_after t s.bads s.kept.items s.before x) k.limits in
     let at : IsFlow s.flow p.entries p.flow s.before.number = subst (λ (n : ℕ). IsFlow s.flow p.entries p.flow n) (sym k.before.number) k.flow in
     let later : s.before.number ≤ suc (length e) = (let n = k.before.number in omega arith) in
     record {
-      settings = k.settings;
+      limits = k.limits;
       entries = k.entries;
       few = k.few;
       before = c.after_control-self.ensures e k.before;
       bads = (let h = k.bads in omega arith);
-      all = ap (λ (l : List Channel). length l) kept ∙ all_closed p.settings s.bads s.kept.items s.before x k.all;
+      all = ap (λ (l : List ChannelState). length l) kept ∙ all_closed p.limits s.bads s.kept.items s.before x k.all;
       bursts = kept_closed p e s.before k.before s.due k.due s.bads s.kept.items k.all k.bursts k.listed s.entries k.entries x c.close_before-own.new.kept.items kept;
       listed = kept_listed p e s.before k.before s.due k.due s.bads s.kept.items k.all k.bursts k.listed s.entries k.entries x c.close_before-own.new.kept.items kept;
       due = c.after_control-self-2.ensures (accepted_before e) k.due;

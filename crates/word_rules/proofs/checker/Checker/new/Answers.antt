@@ -4,13 +4,13 @@ use Rattle.word_rules.proofs.checker.Checker.new.Goals as goal
 
 pub returns : goal.returns
 returns c = record {
-  settings = refl;
+  limits = refl;
   entries = refl;
   few = c.requires;
   before = c.start.ensures;
   bads = omega arith;
   all = c.in_ok-kept.ensures.all;
-  bursts = unused_bursts c.in_ok-kept.kept.items c.args.channels.now c.args.settings.max_packet c.args.settings.wide c.in_ok-kept.ensures.fresh;
+  bursts = unused_bursts c.in_ok-kept.kept.items c.args.channels.now c.args.limits.max_packet c.args.limits.wide c.in_ok-kept.ensures.fresh;
   listed = unused_listed c.in_ok-kept.kept.items c.args.channels.now c.in_ok-kept.ensures.fresh;
   due = c.no_word.ensures;
   flow = c.in_ok-flow.ensures 0;

@@ -1,6 +1,6 @@
 /// The numbers of a plan that the rules of words read.
 #[derive(Clone, Copy, Debug, PartialEq, Eq)]
-pub struct Settings {
+pub struct WordLimits {
     /// The most bytes of a burst, a multiple of 8.
     pub burst_max: u32,
     /// The least bytes from one burst word to the next, a multiple of 8.
