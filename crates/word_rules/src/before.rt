@@ -3,31 +3,50 @@ ghost use Rattle.std.specs.Prelude.{◌≡◌, ◌<◌, ◌^◌, List, [], ◌�
 ghost use Rattle.std.specs.Option.{option_map};
 ghost use Rattle.lk_base.specs.declared.word.RxWord.{RxWord};
 ghost use Rattle.lk_base.specs.declared.word.RxWord.TheVariants.{Data, Control, Bad};
-ghost use Rattle.lk_base.specs.Fields.{has_end};
-ghost use Rattle.receive_model.specs.Stretches.{has_some};
-ghost use Rattle.word_rules.specs.Places.{burst_before, is_burst_word};
-ghost use Rattle.word_rules.specs.Rules.{breaks_crc, breaks_data, breaks_end, breaks_fill, breaks_max, breaks_min, breaks_part, breaks_short};
+ghost use Rattle.word_rules.specs.Places.{is_burst_word};
 ghost use Rattle.word_rules.specs.Stands.{IsBefore};
 
-use crate::limits::WordLimits;
-use control_words::{ControlWord, Eop};
-use lk_base::RxWord;
-use lk_crc::{crc24_end, crc24_start, crc24_word};
+use control_words::ControlWord;
+use lk_crc::{crc24_start, crc24_word};
 
-/// A burst word: an accepted control word with bit 62.
-pub fn is_burst_word(x: u64) -> bool
-    ensures { result ≡ is_burst_word x }
+/// Whether a word is a burst word: an accepted control word with bit 62.
+pub fn is_burst_word(word: ControlWord) -> bool
+    ensures { result ≡ is_burst_word word.0 }
 {
-    let accepted = ControlWord(x).is_accepted();
-    let burst = ControlWord(x).is_burst();
+    let accepted = word.is_accepted();
+    let burst = word.is_burst();
     accepted && burst
 }
 
-// The number as that of a burst word, if it is one.
-fn burst_number(x: u64) -> Option<u64>
-    ensures { result ≡ cond (is_burst_word x) (Some x) None }
+// The word's number as that of a burst word, if it is one.
+fn burst_number(word: ControlWord) -> Option<u64>
+    ensures { result ≡ cond (is_burst_word word.0) (Some word.0) None }
 {
-    if is_burst_word(x) { Some(x) } else { None }
+    if is_burst_word(word) {
+        Some(word.0)
+    } else {
+        None
+    }
+}
+
+/// One more than a count, if there is one.
+pub fn one_more(count: Option<u64>) -> Option<u64>
+    requires { IfSome count (λ n. n < 2 ^ 61) }
+    ensures { result ≡ option_map suc count }
+{
+    count.map(|n| n + 1)
+}
+
+// The words between the last burst word and what comes after a Control word, by those before it.
+fn since_after(word: ControlWord, since: Option<u64>) -> Option<u64>
+    requires { IfSome since (λ n. n < 2 ^ 61) }
+    ensures { result ≡ cond (is_burst_word word.0) (Some 0) (option_map suc since) }
+{
+    if is_burst_word(word) {
+        Some(0)
+    } else {
+        one_more(since)
+    }
 }
 
 /// The words before a place, as far as the rules read them.
@@ -51,74 +70,51 @@ pub struct Before {
     pub any_bad: bool,
 }
 
-/// One more than a count, if there is one.
-pub fn one_more(count: Option<u64>) -> Option<u64>
-    requires { IfSome count (λ n. n < 2 ^ 61) }
-    ensures { result ≡ option_map suc count }
-{
-    match count {
-        Some(n) => Some(n + 1),
-        None => None,
-    }
-}
-
-// The words between the last burst word and what comes after a Control word, by those before it.
-fn since_after(x: u64, since: Option<u64>) -> Option<u64>
-    requires { IfSome since (λ n. n < 2 ^ 61) }
-    ensures { result ≡ cond (is_burst_word x) (Some 0) (option_map suc since) }
-{
-    if is_burst_word(x) {
-        Some(0)
-    } else {
-        one_more(since)
-    }
-}
-
-/// No word.
-pub fn start() -> Before
-    ensures { IsBefore result [] }
-{
-    Before {
-        number: 0,
-        register: crc24_start(),
-        burst: None,
-        after_bad: false,
-        size: 0,
-        last: 0,
-        since_burst: None,
-        any_bad: false,
-    }
-}
-
 impl Before {
+    /// What is kept before any word.
+    pub fn new() -> Before
+        ensures { IsBefore result [] }
+    {
+        Before {
+            number: 0,
+            register: crc24_start(),
+            burst: None,
+            after_bad: false,
+            size: 0,
+            last: 0,
+            since_burst: None,
+            any_bad: false,
+        }
+    }
+
     /// The words with a Data word after them.
-    pub fn after_data(self, x: u64) -> Before
+    pub fn after_data(self, word: u64) -> Before
         requires { (earlier : List RxWord) × IsBefore self earlier × (length earlier < 2 ^ 60) }
-        ensures { (earlier : List RxWord) → IsBefore self earlier → IsBefore result (Data x ∷ earlier) }
+        ensures { (earlier : List RxWord) → IsBefore self earlier → IsBefore result (Data word ∷ earlier) }
     {
         Before {
             number: self.number + 1,
-            register: crc24_word(self.register, x),
+            register: crc24_word(self.register, word),
             size: self.size + 1,
-            last: x,
+            last: word,
             since_burst: one_more(self.since_burst),
             ..self
         }
     }
 
     /// The words with a Control word after them.
-    pub fn after_control(self, x: u64) -> Before
+    pub fn after_control(self, word: ControlWord) -> Before
         requires { (earlier : List RxWord) × IsBefore self earlier × (length earlier < 2 ^ 60) }
-        ensures { (earlier : List RxWord) → IsBefore self earlier → IsBefore result (Control x ∷ earlier) }
+        ensures { (earlier : List RxWord) → IsBefore self earlier → IsBefore result (Control word.0 ∷ earlier) }
     {
         Before {
             number: self.number + 1,
             register: crc24_start(),
-            burst: burst_number(x),
+            burst: burst_number(word),
             after_bad: false,
             size: 0,
             last: 0,
-            since_burst: since_after(x, self.since_burst),
+            since_burst: since_after(word, self.since_burst),
             any_bad: self.any_bad,
         }
     }

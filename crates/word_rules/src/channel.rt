@@ -1,6 +1,5 @@
 //! What is kept of one channel.
-ghost use Rattle.std.specs.Prelude.{◌≡◌, ◌<◌, ◌^◌, ◌+◌, Option, Some, None};
-ghost use Rattle.std.specs.Option.{option_map_or};
+ghost use Rattle.std.specs.Prelude.{◌≡◌, ◌<◌, ◌^◌, Option};
 ghost use Rattle.word_rules.specs.Channels.{bytes_before, channel_after, going_seen, grown, long_by, packet_seen};
 
 use crate::burst::Burst;
@@ -40,10 +39,10 @@ impl ChannelState {
     }
 
     // The bytes of its packet before the burst of this word.
-    fn bytes_before(self, bads: u64, word: u64) -> Option<u32>
-        ensures { result ≡ bytes_before bads self word }
+    fn bytes_before(self, bads: u64, word: ControlWord) -> Option<u32>
+        ensures { result ≡ bytes_before bads self word.0 }
     {
-        if ControlWord(word).starts_packet() {
+        if word.starts_packet() {
             Some(0)
         } else {
             self.packet(bads)
@@ -51,26 +50,28 @@ impl ChannelState {
     }
 
     /// The channel after a burst on it.
-    pub fn after_burst(self, bads: u64, most: u32, b: Burst) -> ChannelState
-        requires { b.size < 2 ^ 60 }
-        ensures { result ≡ channel_after bads most self b }
+    pub fn after_burst(self, bads: u64, most: u32, burst: Burst) -> ChannelState
+        requires { burst.size < 2 ^ 60 }
+        ensures { result ≡ channel_after bads most self burst }
     {
+        let before = self.bytes_before(bads, ControlWord(burst.word));
         ChannelState {
             since: bads,
-            going: Some(!ends(b.closer)),
-            packet: grown(most, b, self.bytes_before(bads, b.word)),
+            going: Some(!ends(ControlWord(burst.closer))),
+            packet: grown(most, burst, before),
             listed: self.listed,
         }
     }
 
-    /// `long`, of the Control word that closes the burst.
-    pub fn breaks_long(self, bads: u64, most: u32, b: Burst) -> bool
-        requires { b.size < 2 ^ 60 }
-        ensures { result ≡ long_by bads most self b }
+    /// Whether the Control word that closes the burst breaks `long`.
+    pub fn breaks_long(self, bads: u64, most: u32, burst: Burst) -> bool
+        requires { burst.size < 2 ^ 60 }
+        ensures { result ≡ long_by bads most self burst }
     {
-        let accepted = ControlWord(b.closer).is_accepted();
-        let own = burst_bytes(b.size, ControlWord(b.closer).end_format());
-        let passes = match self.bytes_before(bads, b.word) {
+        let closer = ControlWord(burst.closer);
+        let accepted = closer.is_accepted();
+        let own = burst_bytes(burst.size, closer.end_format());
+        let passes = match self.bytes_before(bads, ControlWord(burst.word)) {
             Some(bytes) => (most as u64) < bytes as u64 + own,
             None => false,
         };
@@ -79,14 +80,14 @@ impl ChannelState {
 }
 
 // The bytes of a packet with those of a burst, where it goes on and has at most the most.
-fn grown(most: u32, b: Burst, bytes: Option<u32>) -> Option<u32>
-    requires { b.size < 2 ^ 60 }
-    ensures { result ≡ grown most b bytes }
+fn grown(most: u32, burst: Burst, bytes: Option<u32>) -> Option<u32>
+    requires { burst.size < 2 ^ 60 }
+    ensures { result ≡ grown most burst bytes }
 {
     match bytes {
         Some(bytes) => {
-            let end = ends(b.closer);
-            let all = 8 * b.size + bytes as u64;
+            let end = ends(ControlWord(burst.closer));
+            let all = 8 * burst.size + bytes as u64;
             if !end && all <= most as u64 {
                 Some(all as u32)
             } else {

@@ -1,19 +1,17 @@
 //! The pass over a sender's words.
-ghost use Rattle.std.specs.Prelude.{◌≡◌, ◌<◌, ◌^◌, ◌++◌, ◌∷◌, [], ℕ, List, Option, true, slice_get, slice_set, IfOk, OnOk, length};
+ghost use Rattle.std.specs.Prelude.{◌≡◌, ◌<◌, ◌^◌, ◌++◌, ◌∷◌, [], List, Option, true, slice_get, slice_set, IfOk, OnOk, length};
 ghost use Rattle.lk_base.specs.declared.word.RxWord.{RxWord};
 ghost use Rattle.lk_base.specs.declared.word.RxWord.TheVariants.{Data, Control, Bad};
 ghost use Rattle.word_rules.specs.Faults.{Plan, faults, faults_at};
 ghost use Rattle.word_rules.specs.Made.{AreUnused, unused};
-ghost use Rattle.word_rules.specs.Rules.{accepted_before};
-ghost use Rattle.word_rules.specs.Due.{IsDue};
 ghost use Rattle.word_rules.specs.Checks.{Keeps};
 ghost use Rattle.word_rules.specs.Flows.{InOrder};
 
-use crate::before::{Before, start};
+use crate::before::Before;
 use crate::channel::ChannelState;
 use crate::channels::close_before;
 use crate::control_rows::{breaks_off, control_rows, field_rows};
-use crate::due::{Due, no_word};
+use crate::due::Due;
 use crate::fault::Fault;
 use crate::flow::Flow;
 use crate::limits::WordLimits;
@@ -39,82 +37,7 @@ pub struct Checker {
     flow: Flow,
 }
 
-impl Checker {
-    // A Data word comes.
-    fn data(&mut self, x: u64, faults: &mut Vec<Fault>) -> Result<(), OutOfMemory>
-        requires { (p : Plan) × (earlier : List RxWord) × Keeps self.old p earlier × (length earlier < 2 ^ 57) }
-        ensures rows { (p : Plan) (earlier : List RxWord) (next : Option RxWord) → Keeps self.old p earlier → OnOk result (faults.new.items ≡ faults.old.items ++ faults_at p earlier (Data x) next) }
-        ensures keeps { (p : Plan) (earlier : List RxWord) → Keeps self.old p earlier → OnOk result (Keeps self.new p (Data x ∷ earlier)) }
-    {
-        self.before.data_rows(self.limits, faults)?;
-        self.before = self.before.after_data(x);
-        Ok(())
-    }
-
-    // A Bad word comes.
-    fn bad(&mut self, faults: &mut Vec<Fault>) -> Result<(), OutOfMemory>
-        requires { (p : Plan) × (earlier : List RxWord) × Keeps self.old p earlier × (length earlier < 2 ^ 57) }
-        ensures rows { (p : Plan) (earlier : List RxWord) (next : Option RxWord) → Keeps self.old p earlier → OnOk result (faults.new.items ≡ faults.old.items ++ faults_at p earlier Bad next) }
-        ensures keeps { (p : Plan) (earlier : List RxWord) → Keeps self.old p earlier → OnOk result (Keeps self.new p (Bad ∷ earlier)) }
-    {
-        tell(faults, self.before.number, WordRule::Bad, None, true)?;
-        self.before = self.before.after_bad_word();
-        self.due = no_word();
-        self.bads += 1;
-        Ok(())
-    }
-
-    // The Control word `x` comes, before the next word, if there is one.
-    fn control(
-        &mut self,
-        x: u64,
-        next: Option<RxWord>,
-        faults: &mut Vec<Fault>,
-    ) -> Result<(), OutOfMemory>
-        requires { (p : Plan) × (earlier : List RxWord) × Keeps self.old p earlier × (length earlier < 2 ^ 57) }
-        ensures rows { (p : Plan) (earlier : List RxWord) → Keeps self.old p earlier → InOrder p.flow → OnOk result (faults.new.items ≡ faults.old.items ++ faults_at p earlier (Control x) next) }
-        ensures keeps { (p : Plan) (earlier : List RxWord) → Keeps self.old p earlier → OnOk result (Keeps self.new p (Control x ∷ earlier)) }
-    {
-        let off = breaks_off(
-            &mut self.flow,
-            &self.kept,
-            self.limits,
-            self.before.number,
-            x,
-        );
-        let own = close_before(&mut self.kept, self.before, self.limits, self.bads, x);
-        let calendar = self.due.breaks_calendar(self.entries, x);
-        control_rows(self.before, self.limits, own, x, next, faults)?;
-        field_rows(self.before.number, self.limits, calendar, off, x, faults)?;
-        self.before = self.before.after_control(x);
-        self.due = self.due.after_control(x);
-        Ok(())
-    }
-    /// Takes the next word, and puts the rows of its faults after the others, in the order of the rules; `next` is the word after it,
-    /// if there is one.
-    ///
-    /// # Errors
-    ///
-    /// `OutOfMemory`. What the checker gives after it means nothing.
-    pub fn step(
-        &mut self,
-        word: RxWord,
-        next: Option<RxWord>,
-        faults: &mut Vec<Fault>,
-    ) -> Result<(), OutOfMemory>
-        requires { (p : Plan) × (earlier : List RxWord) × Keeps self.old p earlier × (length earlier < 2 ^ 57) }
-        ensures rows { (p : Plan) (earlier : List RxWord) → Keeps self.old p earlier → InOrder p.flow → OnOk result (faults.new.items ≡ faults.old.items ++ faults_at p earlier word next) }
-        ensures keeps { (p : Plan) (earlier : List RxWord) → Keeps self.old p earlier → OnOk result (Keeps self.new p (word ∷ earlier)) }
-    {
-        match word {
-            RxWord::Data(x) => self.data(x, faults),
-            RxWord::Control(x) => self.control(x, next, faults),
-            RxWord::Bad => self.bad(faults),
-        }
-    }
-}
-
-// A listed channel, of which nothing is kept.
+// Lists a channel of which nothing is kept.
 fn list(kept: &mut Vec<ChannelState>, channel: u16)
     requires { length kept.old.items ≡ 65536 }
     ensures { kept.new.items ≡ slice_set kept.old.items channel (unused true) }
@@ -169,21 +92,83 @@ impl Checker {
             entries: entries.len() as u64,
             kept,
             bads: 0,
-            before: start(),
-            due: no_word(),
+            before: Before::new(),
+            due: Due::new(),
             flow,
         })
     }
+
+    /// Takes the next word, and puts the rows of its faults after the others, in the order of the rules; `next` is the word after it,
+    /// if there is one.
+    ///
+    /// # Errors
+    ///
+    /// `OutOfMemory`. What the checker gives after it means nothing.
+    pub fn step(
+        &mut self,
+        word: RxWord,
+        next: Option<RxWord>,
+        faults: &mut Vec<Fault>,
+    ) -> Result<(), OutOfMemory>
+        requires { (p : Plan) × (earlier : List RxWord) × Keeps self.old p earlier × (length earlier < 2 ^ 57) }
+        ensures rows { (p : Plan) (earlier : List RxWord) → Keeps self.old p earlier → InOrder p.flow → OnOk result (faults.new.items ≡ faults.old.items ++ faults_at p earlier word next) }
+        ensures keeps { (p : Plan) (earlier : List RxWord) → Keeps self.old p earlier → OnOk result (Keeps self.new p (word ∷ earlier)) }
+    {
+        match word {
+            RxWord::Data(number) => self.data(number, faults),
+            RxWord::Control(number) => self.control(ControlWord(number), next, faults),
+            RxWord::Bad => self.bad(faults),
+        }
+    }
+
+    // Takes a Data word.
+    fn data(&mut self, word: u64, faults: &mut Vec<Fault>) -> Result<(), OutOfMemory>
+        requires { (p : Plan) × (earlier : List RxWord) × Keeps self.old p earlier × (length earlier < 2 ^ 57) }
+        ensures rows { (p : Plan) (earlier : List RxWord) (next : Option RxWord) → Keeps self.old p earlier → OnOk result (faults.new.items ≡ faults.old.items ++ faults_at p earlier (Data word) next) }
+        ensures keeps { (p : Plan) (earlier : List RxWord) → Keeps self.old p earlier → OnOk result (Keeps self.new p (Data word ∷ earlier)) }
+    {
+        self.before.data_rows(self.limits, faults)?;
+        self.before = self.before.after_data(word);
+        Ok(())
+    }
+
+    // Takes a Bad word.
+    fn bad(&mut self, faults: &mut Vec<Fault>) -> Result<(), OutOfMemory>
+        requires { (p : Plan) × (earlier : List RxWord) × Keeps self.old p earlier × (length earlier < 2 ^ 57) }
+        ensures rows { (p : Plan) (earlier : List RxWord) (next : Option RxWord) → Keeps self.old p earlier → OnOk result (faults.new.items ≡ faults.old.items ++ faults_at p earlier Bad next) }
+        ensures keeps { (p : Plan) (earlier : List RxWord) → Keeps self.old p earlier → OnOk result (Keeps self.new p (Bad ∷ earlier)) }
+    {
+        tell(faults, self.before.number, WordRule::Bad, None, true)?;
+        self.before = self.before.after_bad_word();
+        self.due = Due::new();
+        self.bads += 1;
+        Ok(())
+    }
+
+    // Takes a Control word, before the next word, if there is one.
+    fn control(
+        &mut self,
+        word: ControlWord,
+        next: Option<RxWord>,
+        faults: &mut Vec<Fault>,
+    ) -> Result<(), OutOfMemory>
+        requires { (p : Plan) × (earlier : List RxWord) × Keeps self.old p earlier × (length earlier < 2 ^ 57) }
+        ensures rows { (p : Plan) (earlier : List RxWord) → Keeps self.old p earlier → InOrder p.flow → OnOk result (faults.new.items ≡ faults.old.items ++ faults_at p earlier (Control word.0) next) }
+        ensures keeps { (p : Plan) (earlier : List RxWord) → Keeps self.old p earlier → OnOk result (Keeps self.new p (Control word.0 ∷ earlier)) }
+    {
+        let (limits, number) = (self.limits, self.before.number);
+        let off = breaks_off(&mut self.flow, &self.kept, limits, number, word);
+        let own = close_before(&mut self.kept, self.before, limits, self.bads, word);
+        let calendar = self.due.breaks_calendar(self.entries, word);
+        control_rows(self.before, limits, own, word, next, faults)?;
+        field_rows(number, limits, calendar, off, word, faults)?;
+        self.before = self.before.after_control(word);
+        self.due = self.due.after_control(word);
+        Ok(())
+    }
 }
 
-// No rows.
-fn no_faults(alloc: Global) -> Vec<Fault>
-    ensures { result.items ≡ [] }
-{
-    Vec::new(alloc)
-}
-
-// The word of this number, if there is one.
+// proof: a function of its own, whose clause the loop of `check` cites
 fn word_at(words: &[RxWord], number: usize) -> Option<RxWord>
     ensures { result ≡ slice_get words.now number }
 {
@@ -209,7 +194,7 @@ pub fn check(
     ensures { IfOk result (λ found. found.items ≡ faults (record { limits = limits; channels = channels.now; entries = entries.now; flow = flow.now }) words.now) }
 {
     let mut checker = Checker::new(alloc, limits, channels, entries, flow)?;
-    let mut found = no_faults(alloc);
+    let mut found = Vec::new(alloc);
     for i in 0..words.len() {
         let next = word_at(words, i + 1);
         checker.step(words[i], next, &mut found)?;

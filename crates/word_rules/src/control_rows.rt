@@ -16,42 +16,42 @@ use crate::rule::WordRule;
 use control_words::ControlWord;
 use lk_base::{OutOfMemory, RxWord};
 
-/// `idle`, of the Control word `x`.
-fn breaks_idle(x: u64) -> bool
-    ensures { result ≡ breaks_idle x }
+// Whether a Control word breaks `idle`.
+fn breaks_idle(word: ControlWord) -> bool
+    ensures { result ≡ breaks_idle word.0 }
 {
-    let accepted = ControlWord(x).is_accepted();
-    let burst = ControlWord(x).is_burst();
-    let sop = ControlWord(x).starts_packet();
-    let channel = ControlWord(x).channel(false) != 0;
-    let multi = ControlWord(x).multi() != 0;
+    let accepted = word.is_accepted();
+    let burst = word.is_burst();
+    let sop = word.starts_packet();
+    let channel = word.channel(false) != 0;
+    let multi = word.multi() != 0;
     (accepted && !burst) && (sop || (channel || multi))
 }
 
-/// `multi`, of the Control word `x`.
-fn breaks_multi(s: WordLimits, x: u64) -> bool
-    ensures { result ≡ breaks_multi s x }
+// Whether a Control word breaks `multi`.
+fn breaks_multi(limits: WordLimits, word: ControlWord) -> bool
+    ensures { result ≡ breaks_multi limits word.0 }
 {
-    let burst = is_burst_word(x);
-    let multi = ControlWord(x).multi() != 0;
-    !s.wide && (burst && multi)
+    let burst = is_burst_word(word);
+    let multi = word.multi() != 0;
+    !limits.wide && (burst && multi)
 }
 
-/// `off`, of the Control word `x` of this number.
+/// Whether the Control word of this number breaks `off`.
 pub fn breaks_off(
     flow: &mut Flow,
-    kept: &Vec<ChannelState>,
-    s: WordLimits,
+    kept: &[ChannelState],
+    limits: WordLimits,
     number: u64,
-    x: u64,
+    word: ControlWord,
 ) -> bool
-    requires all { length kept.now.items ≡ 65536 }
+    requires all { length kept.now ≡ 65536 }
     requires flow { (entries : List ℕ) × (rows : List FlowRow) × IsFlow flow.old entries rows number }
     ensures flow { (entries : List ℕ) (rows : List FlowRow) → IsFlow flow.old entries rows number → IsFlow flow.new entries rows number }
-    ensures off { (entries : List ℕ) (rows : List FlowRow) → IsFlow flow.old entries rows number → InOrder rows → result ≡ off_by s kept.now.items entries rows number x }
+    ensures off { (entries : List ℕ) (rows : List FlowRow) → IsFlow flow.old entries rows number → InOrder rows → result ≡ off_by limits kept.now entries rows number word.0 }
 {
-    let channel = ControlWord(x).channel(s.wide);
-    let burst = is_burst_word(x);
+    let channel = word.channel(limits.wide);
+    let burst = is_burst_word(word);
     let listed = channel_at(kept, channel).listed;
     if !burst {
         return false;
@@ -62,37 +62,38 @@ pub fn breaks_off(
     flow.is_off(channel, number)
 }
 
-/// The rows of the Control word `x` up to `long`, by what is kept of its channel, once it has closed the burst before it.
+/// Adds the rows of a Control word up to `long`, by what is kept of its channel, once it has closed the burst before it.
 pub fn control_rows(
     before: Before,
-    s: WordLimits,
+    limits: WordLimits,
     own: OwnChannel,
-    x: u64,
+    word: ControlWord,
     next: Option<RxWord>,
     faults: &mut Vec<Fault>,
 ) -> Result<(), OutOfMemory>
     requires { before.size < 2 ^ 60 }
-    ensures { OnOk result (faults.new.items ≡ faults.old.items ++ control_rows_by s before own x next) }
+    ensures { OnOk result (faults.new.items ≡ faults.old.items ++ control_rows_by limits before own word.0 next) }
 {
-    before.word_rows(s, x, next, faults)?;
-    before.burst_rows(s, x, faults)?;
-    packet_rows(before, s, own, x, faults)
+    before.word_rows(limits, word, next, faults)?;
+    before.burst_rows(limits, word, faults)?;
+    packet_rows(before, limits, own, word, faults)
 }
 
-/// The rows of the Control word `x` of this number after `long`, by whether it breaks `calendar` and `off`.
+/// Adds the rows of the Control word of this number after `long`, by whether it breaks `calendar` and `off`.
 pub fn field_rows(
     number: u64,
-    s: WordLimits,
+    limits: WordLimits,
     calendar: bool,
     off: bool,
-    x: u64,
+    word: ControlWord,
     faults: &mut Vec<Fault>,
 ) -> Result<(), OutOfMemory>
-    ensures { OnOk result (faults.new.items ≡ faults.old.items ++ field_rows_by s number calendar off x) }
+    ensures { OnOk result (faults.new.items ≡ faults.old.items ++ field_rows_by limits number calendar off word.0) }
 {
-    let own = Some(ControlWord(x).channel(s.wide));
-    tell(faults, number, WordRule::Idle, None, breaks_idle(x))?;
-    tell(faults, number, WordRule::Multi, own, breaks_multi(s, x))?;
+    let own = Some(word.channel(limits.wide));
+    let (idle, multi) = (breaks_idle(word), breaks_multi(limits, word));
+    tell(faults, number, WordRule::Idle, None, idle)?;
+    tell(faults, number, WordRule::Multi, own, multi)?;
     tell(faults, number, WordRule::Calendar, None, calendar)?;
     tell(faults, number, WordRule::Off, own, off)
 }

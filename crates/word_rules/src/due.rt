@@ -1,9 +1,9 @@
 //! Which word of the calendar is due.
-ghost use Rattle.std.specs.Prelude.{◌≡◌, ◌<◌, ◌^◌, ◌+◌, ℕ, List, ◌-◌, ◌*◌, ◌==◌, ◌&&◌, nat_le, not, false, [], ◌∷◌, length, cond, IfSome, Some};
+ghost use Rattle.std.specs.Prelude.{◌≡◌, ◌<◌, ◌^◌, ◌+◌, ℕ, List, ◌-◌, ◌*◌, ◌==◌, ◌&&◌, nat_le, not, false, [], ◌∷◌, cond, IfSome};
 ghost use Rattle.std.specs.Int.{bit_at};
-ghost use Rattle.std.specs.Option.{option_map, option_map_or};
+ghost use Rattle.std.specs.Option.{option_map_or};
 ghost use Rattle.lk_base.specs.Fields.{is_control_word};
-ghost use Rattle.word_rules.specs.Rules.{calendar_words, has_reset, has_zero_past_last};
+ghost use Rattle.word_rules.specs.Rules.{has_zero_past_last};
 ghost use Rattle.word_rules.specs.Due.{IsDue, as_due_by, calendar_by, entries_by, since_by};
 
 use crate::before::one_more;
@@ -18,60 +18,66 @@ pub struct Due {
     pub count: u64,
 }
 
-/// No word.
-pub fn no_word() -> Due
-    ensures { IsDue result [] }
+// Whether a word says that its entry `i` of sixteen is on.
+fn is_on(word: ControlWord, i: u64) -> bool
+    requires { i < 16 }
+    ensures { result ≡ (bit_at word.0 (55 - i) == 1) }
 {
-    Due {
-        after_reset: None,
-        count: 0,
-    }
+    (word.flow() >> (15 - i as u32)) & 1 == 1
 }
 
-// The flow bit `i` of `x`, 0 for bit 55, is 0 and past the last entry, where `x` carries sixteen entries of this number.
-fn is_zero_past_last(entries: u64, x: u64, number: u64, i: u64) -> bool
+// Whether the flow bit of a word's entry `i` is 0 and stands past the last entry, where the word carries the sixteen entries of
+// this number.
+fn is_zero_past_last(entries: u64, word: ControlWord, number: u64, i: u64) -> bool
     requires number { number < 2 ^ 59 }
     requires bit { i < 16 }
-    ensures { result ≡ (nat_le entries (16 * number + i) && not (bit_at x (55 - i) == 1)) }
+    ensures { result ≡ (nat_le entries (16 * number + i) && not (bit_at word.0 (55 - i) == 1)) }
 {
     let past = entries <= 16 * number + i;
-    let on = (x >> (55 - i as u32)) & 1 == 1;
+    let on = is_on(word, i);
     past && !on
 }
 
-// One of the flow bits of `x` past the last entry is 0, where `x` carries sixteen entries of this number.
+// Whether one of the flow bits of a word past the last entry is 0, where the word carries the sixteen entries of this number.
 #[tactic(auto, using(crate::proofs::Dues::any_next))]
-fn has_zero_past_last(entries: u64, x: u64, number: u64) -> bool
+fn has_zero_past_last(entries: u64, word: ControlWord, number: u64) -> bool
     requires { number < 2 ^ 59 }
-    ensures { result ≡ has_zero_past_last entries x number }
+    ensures { result ≡ has_zero_past_last entries word.0 number }
 {
     let mut found = false;
     for i in 0..16u64 {
-        let zero = is_zero_past_last(entries, x, number, i);
+        let zero = is_zero_past_last(entries, word, number, i);
         found = found || zero;
     }
     found
 }
 
 impl Due {
+    /// What is kept before any word.
+    pub fn new() -> Due
+        ensures { IsDue result [] }
+    {
+        Due {
+            after_reset: None,
+            count: 0,
+        }
+    }
+
     // How many words come after the last one with Reset Calendar, with the next word.
     fn since(self) -> Option<u64>
         requires { IfSome self.after_reset (λ n. n < 2 ^ 58) }
         ensures { result ≡ since_by self }
     {
-        match self.after_reset {
-            Some(n) => Some(n + 1),
-            None => None,
-        }
+        self.after_reset.map(|n| n + 1)
     }
 
-    // Reset Calendar of `x` is as is due.
-    fn is_as_due(self, entries: u64, x: u64) -> bool
+    // Whether Reset Calendar of a word is as is due.
+    fn is_as_due(self, entries: u64, word: ControlWord) -> bool
         requires few { entries < 2 ^ 32 }
         requires small { IfSome self.after_reset (λ n. n < 2 ^ 58) }
-        ensures { result ≡ as_due_by entries self x }
+        ensures { result ≡ as_due_by entries self word.0 }
     {
-        let reset = ControlWord(x).reset();
+        let reset = word.reset();
         let words = (entries + 15) / 16;
         match self.since() {
             Some(n) => reset == (n == words),
@@ -79,48 +85,44 @@ impl Due {
         }
     }
 
-    // The number of the sixteen entries that `x` carries.
-    fn entries(self, x: u64) -> Option<u64>
+    // The number of the sixteen entries that a word carries, if that is known.
+    fn entries(self, word: ControlWord) -> Option<u64>
         requires { IfSome self.after_reset (λ n. n < 2 ^ 58) }
-        ensures { result ≡ entries_by self x }
+        ensures { result ≡ entries_by self word.0 }
     {
-        if ControlWord(x).reset() {
-            Some(0)
-        } else {
-            self.since()
-        }
+        if word.reset() { Some(0) } else { self.since() }
     }
 
-    // A flow bit of `x` past the last entry is 0.
-    fn has_zero(self, entries: u64, x: u64) -> bool
+    // Whether a flow bit of a word past the last entry is 0.
+    fn has_zero(self, entries: u64, word: ControlWord) -> bool
         requires { IfSome self.after_reset (λ n. n < 2 ^ 58) }
-        ensures { result ≡ option_map_or (has_zero_past_last entries x) (entries_by self x) false }
+        ensures { result ≡ option_map_or (has_zero_past_last entries word.0) (entries_by self word.0) false }
     {
-        match self.entries(x) {
-            Some(number) => has_zero_past_last(entries, x, number),
+        match self.entries(word) {
+            Some(number) => has_zero_past_last(entries, word, number),
             None => false,
         }
     }
 
-    /// `calendar`, of the Control word `x`, where the calendar has so many entries.
-    pub fn breaks_calendar(self, entries: u64, x: u64) -> bool
+    /// Whether a Control word breaks `calendar`, where the calendar has so many entries.
+    pub fn breaks_calendar(self, entries: u64, word: ControlWord) -> bool
         requires few { entries < 2 ^ 32 }
         requires small { IfSome self.after_reset (λ n. n < 2 ^ 58) }
-        ensures { result ≡ calendar_by entries self x }
+        ensures { result ≡ calendar_by entries self word.0 }
     {
-        let accepted = ControlWord(x).is_accepted();
-        let due = self.is_as_due(entries, x);
-        let zero = self.has_zero(entries, x);
+        let accepted = word.is_accepted();
+        let due = self.is_as_due(entries, word);
+        let zero = self.has_zero(entries, word);
         accepted && (!due || zero)
     }
 
-    /// The words with the accepted control word `x` after them.
-    pub fn after(self, x: u64) -> Due
+    /// The words with an accepted control word after them.
+    pub fn after(self, word: ControlWord) -> Due
         requires count { self.count < 2 ^ 60 }
         requires small { IfSome self.after_reset (λ n. n < 2 ^ 61) }
-        ensures { (accepted : List ℕ) → IsDue self accepted → IsDue result (x ∷ accepted) }
+        ensures { (accepted : List ℕ) → IsDue self accepted → IsDue result (word.0 ∷ accepted) }
     {
-        let after_reset = if ControlWord(x).reset() {
+        let after_reset = if word.reset() {
             Some(0)
         } else {
             one_more(self.after_reset)
@@ -130,14 +132,15 @@ impl Due {
             count: self.count + 1,
         }
     }
-    /// The words with the Control word `x` after them, which counts where it is accepted.
-    pub fn after_control(self, x: u64) -> Due
+
+    /// The words with a Control word after them, which counts where it is accepted.
+    pub fn after_control(self, word: ControlWord) -> Due
         requires count { self.count < 2 ^ 60 }
         requires small { IfSome self.after_reset (λ n. n < 2 ^ 61) }
-        ensures { (accepted : List ℕ) → IsDue self accepted → IsDue result (cond (is_control_word x) (x ∷ accepted) accepted) }
+        ensures { (accepted : List ℕ) → IsDue self accepted → IsDue result (cond (is_control_word word.0) (word.0 ∷ accepted) accepted) }
     {
-        if ControlWord(x).is_accepted() {
-            self.after(x)
+        if word.is_accepted() {
+            self.after(word)
         } else {
             self
         }

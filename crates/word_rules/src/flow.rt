@@ -38,18 +38,18 @@ fn take_row(calendar: &mut CalendarIn, row: FlowRow)
     calendar.take(valid_word(row.word), &mut changed);
 }
 
-// Takes the rows of slot `t` at most, from number `taken` on, and returns how many are taken then.
-fn take_rows(calendar: &mut CalendarIn, rows: &[FlowRow], taken: usize, t: u64) -> usize
+// Takes the rows up to a slot, from number `taken` on, and returns how many are taken then.
+fn take_rows(calendar: &mut CalendarIn, rows: &[FlowRow], taken: usize, slot: u64) -> usize
     requires part { taken ≤ length rows.now }
     requires stands { (entries : List ℕ) × Stands calendar.old entries (take taken rows.now) }
     ensures part { result ≤ length rows.now }
     ensures stands { (entries : List ℕ) → Stands calendar.old entries (take taken rows.now) → Stands calendar.new entries (take result rows.now) }
-    ensures early { All (λ (row : FlowRow). row.slot ≤ t) (take taken rows.now) → All (λ (row : FlowRow). row.slot ≤ t) (take result rows.now) }
-    ensures late { result < length rows.now → t < (get_or rows.now result no_row).slot }
+    ensures early { All (λ (row : FlowRow). row.slot ≤ slot) (take taken rows.now) → All (λ (row : FlowRow). row.slot ≤ slot) (take result rows.now) }
+    ensures late { result < length rows.now → slot < (get_or rows.now result no_row).slot }
 {
     for n in taken..rows.len() {
         let row = rows[n];
-        if t < row.slot {
+        if slot < row.slot {
             return n;
         }
         take_row(calendar, row);
@@ -79,13 +79,13 @@ impl Flow {
         })
     }
 
-    /// Whether the channel is off at slot `t`, which is not below that of an earlier call.
-    pub fn is_off(&mut self, channel: u16, t: u64) -> bool
-        requires flow { (entries : List ℕ) × (rows : List FlowRow) × (s : ℕ) × IsFlow self.old entries rows s × (s ≤ t) }
-        ensures flow { (entries : List ℕ) (rows : List FlowRow) (s : ℕ) → IsFlow self.old entries rows s → s ≤ t → IsFlow self.new entries rows t }
-        ensures off { (entries : List ℕ) (rows : List FlowRow) (s : ℕ) → IsFlow self.old entries rows s → s ≤ t → InOrder rows → result ≡ not (is_on entries rows channel t) }
+    /// Whether the channel is off at a slot, which is not below that of an earlier call.
+    pub fn is_off(&mut self, channel: u16, slot: u64) -> bool
+        requires flow { (entries : List ℕ) × (rows : List FlowRow) × (s : ℕ) × IsFlow self.old entries rows s × (s ≤ slot) }
+        ensures flow { (entries : List ℕ) (rows : List FlowRow) (s : ℕ) → IsFlow self.old entries rows s → s ≤ slot → IsFlow self.new entries rows slot }
+        ensures off { (entries : List ℕ) (rows : List FlowRow) (s : ℕ) → IsFlow self.old entries rows s → s ≤ slot → InOrder rows → result ≡ not (is_on entries rows channel slot) }
     {
-        self.taken = take_rows(&mut self.calendar, &self.rows, self.taken, t);
+        self.taken = take_rows(&mut self.calendar, &self.rows, self.taken, slot);
         !self.calendar.is_on(channel)
     }
 }

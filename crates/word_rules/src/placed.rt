@@ -9,12 +9,12 @@ use crate::limits::WordLimits;
 use control_words::{ControlWord, Eop};
 use lk_crc::{crc24_end, crc24_word};
 
-/// An accepted control word with an end format.
-pub fn ends(x: u64) -> bool
-    ensures { result ≡ ends x }
+/// Whether a word is an accepted control word with an end format.
+pub fn ends(word: ControlWord) -> bool
+    ensures { result ≡ ends word.0 }
 {
-    let accepted = ControlWord(x).is_accepted();
-    let end = ControlWord(x).ends_packet();
+    let accepted = word.is_accepted();
+    let end = word.ends_packet();
     accepted && end
 }
 
@@ -25,7 +25,7 @@ fn unused(valid: u8) -> u32
     8u32.saturating_sub(valid as u32)
 }
 
-// The lowest bytes of a word, at most eight, are not all 0.
+// Whether the lowest bytes of a word, at most eight, are not all 0.
 fn has_low_bytes(word: u64, count: u32) -> bool
     requires { count < 9 }
     ensures { result ≡ not (word % 2 ^ (8 * count) == 0) }
@@ -36,13 +36,12 @@ fn has_low_bytes(word: u64, count: u32) -> bool
     word % (1u64 << (8 * count)) != 0
 }
 
-// The last Data word is not 0 past its valid bytes.
+// Whether the last Data word is not 0 past its valid bytes.
 fn is_filled(end: Eop, last: u64) -> bool
     ensures { result ≡ filled_by end last }
 {
     match end {
-        Eop::Going => false,
-        Eop::Error => false,
+        Eop::Going | Eop::Error => false,
         Eop::End(valid) => has_low_bytes(last, unused(valid)),
     }
 }
@@ -53,108 +52,106 @@ pub fn burst_bytes(size: u64, end: Eop) -> u64
     ensures { result ≡ burst_bytes size end }
 {
     match end {
-        Eop::Going => 8 * size,
-        Eop::Error => 8 * size,
+        Eop::Going | Eop::Error => 8 * size,
         Eop::End(valid) => (8 * size).saturating_sub(unused(valid) as u64),
     }
 }
 
 impl Before {
-    /// `data`, of a Data word.
+    /// Whether a Data word breaks `data`.
     pub fn breaks_data(self) -> bool
         ensures { result ≡ data_by self }
     {
         self.size == 0 && (self.burst.is_none() && !self.after_bad)
     }
 
-    /// `max`, of a Data word.
-    pub fn breaks_max(self, s: WordLimits) -> bool
-        ensures { result ≡ max_by s self }
+    /// Whether a Data word breaks `max`.
+    pub fn breaks_max(self, limits: WordLimits) -> bool
+        ensures { result ≡ max_by limits self }
     {
-        self.burst.is_some() && self.size == (s.burst_max / 8) as u64
+        self.burst.is_some() && self.size == (limits.burst_max / 8) as u64
     }
 
-    /// `crc`, of the Control word `x`.
-    pub fn breaks_crc(self, x: u64) -> bool
-        ensures { result ≡ crc_by self x }
+    /// Whether a Control word breaks `crc`.
+    pub fn breaks_crc(self, word: ControlWord) -> bool
+        ensures { result ≡ crc_by self word.0 }
     {
         if self.after_bad {
             return false;
         }
-        let covered = ControlWord(x).without_crc();
-        ControlWord(x).crc() != crc24_end(crc24_word(self.register, covered))
+        word.crc() != crc24_end(crc24_word(self.register, word.without_crc()))
     }
 
-    /// `short`, of the Control word `x`.
-    pub fn breaks_short(self, s: WordLimits, x: u64) -> bool
-        ensures { result ≡ short_by s self x }
+    /// Whether a Control word breaks `short`.
+    pub fn breaks_short(self, limits: WordLimits, word: ControlWord) -> bool
+        ensures { result ≡ short_by limits self word.0 }
     {
-        let burst = is_burst_word(x);
+        let burst = is_burst_word(word);
         let near = match self.since_burst {
-            Some(between) => between < (s.burst_short / 8) as u64,
+            Some(between) => between < (limits.burst_short / 8) as u64,
             None => false,
         };
         burst && near
     }
 
-    // A burst with Data is closed at the place.
+    // Whether a burst with Data is closed at the place.
     fn closes_data(self) -> bool
         ensures { result ≡ closes_by self }
     {
         self.burst.is_some() && self.size != 0
     }
 
-    /// `end`, of the Control word `x`.
-    pub fn breaks_end(self, x: u64) -> bool
-        ensures { result ≡ end_by self x }
+    /// Whether a Control word breaks `end`.
+    pub fn breaks_end(self, word: ControlWord) -> bool
+        ensures { result ≡ end_by self word.0 }
     {
-        let end = ends(x);
+        let end = ends(word);
         let closes = self.closes_data();
         end && (!closes && !self.after_bad)
     }
 
-    /// `fill`, of the Control word `x`.
-    pub fn breaks_fill(self, x: u64) -> bool
-        ensures { result ≡ fill_by self x }
+    /// Whether a Control word breaks `fill`.
+    pub fn breaks_fill(self, word: ControlWord) -> bool
+        ensures { result ≡ fill_by self word.0 }
     {
-        let accepted = ControlWord(x).is_accepted();
+        let accepted = word.is_accepted();
         let closes = self.closes_data();
-        let filled = is_filled(ControlWord(x).end_format(), self.last);
+        let filled = is_filled(word.end_format(), self.last);
         accepted && (closes && filled)
     }
 
-    /// `part`, of the Control word `x`.
-    pub fn breaks_part(self, x: u64) -> bool
-        ensures { result ≡ part_by self x }
+    /// Whether a Control word breaks `part`.
+    pub fn breaks_part(self, word: ControlWord) -> bool
+        ensures { result ≡ part_by self word.0 }
     {
-        let accepted = ControlWord(x).is_accepted();
-        let end = ControlWord(x).ends_packet();
+        let accepted = word.is_accepted();
+        let end = word.ends_packet();
         let closes = self.closes_data();
         (accepted && !end) && (closes && self.size % 4 != 0)
     }
 
-    // The burst that ends here is not the whole of a packet.
-    fn is_partial(self, x: u64) -> bool
-        ensures { result ≡ partial_by self x }
+    // Whether the burst that a Control word closes is not the whole of a packet.
+    fn is_partial(self, word: ControlWord) -> bool
+        ensures { result ≡ partial_by self word.0 }
     {
         match self.burst {
-            Some(word) => {
-                let sop = ControlWord(word).starts_packet();
-                let end = ControlWord(x).ends_packet();
+            Some(burst) => {
+                let sop = ControlWord(burst).starts_packet();
+                let end = word.ends_packet();
                 !(sop && end)
             }
             None => false,
         }
     }
 
-    /// `min`, of the Control word `x`.
-    pub fn breaks_min(self, s: WordLimits, x: u64) -> bool
+    /// Whether a Control word breaks `min`.
+    pub fn breaks_min(self, limits: WordLimits, word: ControlWord) -> bool
         requires { self.size < 2 ^ 60 }
-        ensures { result ≡ min_by s self x }
+        ensures { result ≡ min_by limits self word.0 }
     {
-        let accepted = ControlWord(x).is_accepted();
-        let few = burst_bytes(self.size, ControlWord(x).end_format()) < s.burst_min as u64;
-        let partial = self.is_partial(x);
+        let accepted = word.is_accepted();
+        let few = burst_bytes(self.size, word.end_format()) < limits.burst_min as u64;
+        let partial = self.is_partial(word);
         accepted && (self.size != 0 && (few && partial))
     }
 }

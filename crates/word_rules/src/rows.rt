@@ -31,34 +31,20 @@ pub fn tell(
     Ok(())
 }
 
-// The next word is there, and is a Control word.
+// Whether the next word is there, and is a Control word.
 fn is_next_control(next: Option<RxWord>) -> bool
     ensures { result ≡ is_next_control next }
 {
-    match next {
-        Some(word) => match word {
-            RxWord::Data(_) => false,
-            RxWord::Control(_) => true,
-            RxWord::Bad => false,
-        },
-        None => false,
-    }
+    matches!(next, Some(RxWord::Control(_)))
 }
 
-/// `empty`, of the Control word `x`.
-pub fn breaks_empty(x: u64, next: Option<RxWord>) -> bool
-    ensures { result ≡ breaks_empty x next }
+/// Whether a Control word breaks `empty`.
+pub fn breaks_empty(word: ControlWord, next: Option<RxWord>) -> bool
+    ensures { result ≡ breaks_empty word.0 next }
 {
-    let burst = is_burst_word(x);
+    let burst = is_burst_word(word);
     let control = is_next_control(next);
     burst && control
-}
-
-/// `control`, of the Control word `x`.
-pub fn breaks_control(x: u64) -> bool
-    ensures { result ≡ breaks_control x }
-{
-    !ControlWord(x).is_accepted()
 }
 
 impl Before {
@@ -66,100 +52,57 @@ impl Before {
     pub fn channel(self, wide: bool) -> Option<u16>
         ensures { result ≡ channel_by wide self }
     {
-        match self.burst {
-            Some(word) => Some(ControlWord(word).channel(wide)),
-            None => None,
-        }
+        self.burst.map(|word| ControlWord(word).channel(wide))
     }
 
-    /// The rows of a Data word.
-    pub fn data_rows(self, s: WordLimits, faults: &mut Vec<Fault>) -> Result<(), OutOfMemory>
-        ensures { OnOk result (faults.new.items ≡ faults.old.items ++ data_rows_by s self) }
+    /// Adds the rows of a Data word.
+    pub fn data_rows(self, limits: WordLimits, faults: &mut Vec<Fault>) -> Result<(), OutOfMemory>
+        ensures { OnOk result (faults.new.items ≡ faults.old.items ++ data_rows_by limits self) }
     {
-        tell(
-            faults,
-            self.number,
-            WordRule::Data,
-            None,
-            self.breaks_data(),
-        )?;
-        let channel = self.channel(s.wide);
-        tell(
-            faults,
-            self.number,
-            WordRule::Max,
-            channel,
-            self.breaks_max(s),
-        )
+        let channel = self.channel(limits.wide);
+        let (data, max) = (self.breaks_data(), self.breaks_max(limits));
+        tell(faults, self.number, WordRule::Data, None, data)?;
+        tell(faults, self.number, WordRule::Max, channel, max)
     }
 
-    /// The rows of the Control word `x` by how it stands among the words.
+    /// Adds the rows of a Control word by how it stands among the words.
     pub fn word_rows(
         self,
-        s: WordLimits,
-        x: u64,
+        limits: WordLimits,
+        word: ControlWord,
         next: Option<RxWord>,
         faults: &mut Vec<Fault>,
     ) -> Result<(), OutOfMemory>
-        ensures { OnOk result (faults.new.items ≡ faults.old.items ++ word_rows_by s self x next) }
+        ensures { OnOk result (faults.new.items ≡ faults.old.items ++ word_rows_by limits self word.0 next) }
     {
-        let own = Some(ControlWord(x).channel(s.wide));
-        tell(
-            faults,
-            self.number,
-            WordRule::Control,
-            None,
-            breaks_control(x),
-        )?;
-        tell(faults, self.number, WordRule::Crc, None, self.breaks_crc(x))?;
-        tell(
-            faults,
-            self.number,
-            WordRule::Empty,
-            own,
-            breaks_empty(x, next),
-        )?;
-        tell(
-            faults,
-            self.number,
-            WordRule::Short,
-            own,
-            self.breaks_short(s, x),
-        )?;
-        tell(faults, self.number, WordRule::End, None, self.breaks_end(x))
+        let number = self.number;
+        let own = Some(word.channel(limits.wide));
+        let refused = !word.is_accepted();
+        let empty = breaks_empty(word, next);
+        let short = self.breaks_short(limits, word);
+        tell(faults, number, WordRule::Control, None, refused)?;
+        tell(faults, number, WordRule::Crc, None, self.breaks_crc(word))?;
+        tell(faults, number, WordRule::Empty, own, empty)?;
+        tell(faults, number, WordRule::Short, own, short)?;
+        tell(faults, number, WordRule::End, None, self.breaks_end(word))
     }
 
-    /// The rows of the Control word `x` by the burst that it closes.
+    /// Adds the rows of a Control word by the burst that it closes.
     pub fn burst_rows(
         self,
-        s: WordLimits,
-        x: u64,
+        limits: WordLimits,
+        word: ControlWord,
         faults: &mut Vec<Fault>,
     ) -> Result<(), OutOfMemory>
         requires { self.size < 2 ^ 60 }
-        ensures { OnOk result (faults.new.items ≡ faults.old.items ++ burst_rows_by s self x) }
+        ensures { OnOk result (faults.new.items ≡ faults.old.items ++ burst_rows_by limits self word.0) }
     {
-        let channel = self.channel(s.wide);
-        tell(
-            faults,
-            self.number,
-            WordRule::Fill,
-            channel,
-            self.breaks_fill(x),
-        )?;
-        tell(
-            faults,
-            self.number,
-            WordRule::Part,
-            channel,
-            self.breaks_part(x),
-        )?;
-        tell(
-            faults,
-            self.number,
-            WordRule::Min,
-            channel,
-            self.breaks_min(s, x),
-        )
+        let number = self.number;
+        let channel = self.channel(limits.wide);
+        let (fill, part) = (self.breaks_fill(word), self.breaks_part(word));
+        tell(faults, number, WordRule::Fill, channel, fill)?;
+        tell(faults, number, WordRule::Part, channel, part)?;
+        let min = self.breaks_min(limits, word);
+        tell(faults, number, WordRule::Min, channel, min)
     }
 }

@@ -9,7 +9,7 @@ use Rattle.word_rules.proofs.checker.check.Goals as goal
 pub loop-i-init : goal.loop-i-init
 loop-i-init c =
     let p : Plan = record { limits = c.args.limits; channels = c.args.channels.now; entries = c.args.entries.now; flow = c.args.flow.now } in
-    record { keeps = c.in_ok-checker.ensures; rows = ap (λ (l : List Fault). l ++ faults p c.args.words.now) c.no_faults-found.ensures }
+    record { keeps = c.in_ok-checker.ensures; rows = ap (λ (l : List Fault). l ++ faults p c.args.words.now) c.new-found.ensures.items }
 
 pub step-requires : goal.step-requires
 step-requires c =

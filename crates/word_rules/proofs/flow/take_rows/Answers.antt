@@ -10,5 +10,5 @@ pub loop-n-preserved : goal.loop-n-preserved
 loop-n-preserved c = record {
   stands = λ entries s. subst (λ (xs : List FlowRow). Stands c.take_row.new.calendar entries xs) (sym (take_more c.args.rows.now c.loop-n.n _ c.loop-n-test.true))
       (c.take_row.ensures entries (take c.loop-n.n c.args.rows.now) (c.loop-n.invariant.stands entries s));
-  early = λ h. All-more (λ (row : FlowRow). row.slot ≤ c.args.t) c.args.rows.now c.loop-n.n no_row c.loop-n-test.true (c.loop-n.invariant.early h) c.if-t-row.false;
+  early = λ h. All-more (λ (row : FlowRow). row.slot ≤ c.args.slot) c.args.rows.now c.loop-n.n no_row c.loop-n-test.true (c.loop-n.invariant.early h) c.if-slot-row.false;
 }

@@ -7,5 +7,5 @@ use Rattle.word_rules.proofs.flow.take_rows.Given as goal
 abbrev pub invariant-loop-n : goal.invariant-loop-n
 invariant-loop-n l = record {
   stands : (entries : List ℕ) → Stands l.fn.calendar entries (take l.taken l.rows) → Stands l.calendar entries (take l.n l.rows);
-  early : All (λ (row : FlowRow). row.slot ≤ l.t) (take l.taken l.rows) → All (λ (row : FlowRow). row.slot ≤ l.t) (take l.n l.rows);
+  early : All (λ (row : FlowRow). row.slot ≤ l.slot) (take l.taken l.rows) → All (λ (row : FlowRow). row.slot ≤ l.slot) (take l.n l.rows);
 }

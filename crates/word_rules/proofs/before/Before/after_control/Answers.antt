@@ -18,6 +18,6 @@ returns c e s = record {
   after_bad = refl;
   size = refl;
   last = refl;
-  since_burst = c.since_after.ensures ∙ ap (λ (o : Option ℕ). cond (is_burst_word c.args.x) (Some 0) (option_map suc o)) s.since_burst;
+  since_burst = c.since_after.ensures ∙ ap (λ (o : Option ℕ). cond (is_burst_word c.args.word.0) (Some 0) (option_map suc o)) s.since_burst;
   any_bad = s.any_bad;
 }

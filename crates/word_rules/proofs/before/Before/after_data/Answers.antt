@@ -13,7 +13,7 @@ overflow_add-result-2 c = let h = size_le c.requires.0 in omega (arith, c.requir
 pub returns : goal.returns
 returns c e s = record {
   number = omega (arith, s.number);
-  register = c.crc24_word.ensures ∙ register_more c.args.self.register c.args.x e s.register;
+  register = c.crc24_word.ensures ∙ register_more c.args.self.register c.args.word e s.register;
   burst = s.burst;
   after_bad = s.after_bad;
   size = omega (arith, s.size);

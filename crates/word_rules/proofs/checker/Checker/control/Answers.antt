@@ -32,12 +32,14 @@ after_control-self-requires-2-clause-small c = some_more (2 ^ 57) (2 ^ 61) (omeg
 pub returns-clause-rows : goal.returns-clause-rows
 returns-clause-rows c p e k ord =
     let s = c.args.self.now in
-    let x : ℕ = c.args.x in
+    let x : ℕ = c.args.word.0 in
     let own : c.close_before-own.result ≡ seen_by p.limits s.bads s.kept.items s.before x =
     c.close_before-own.ensures.seen ∙ ap (λ (t : WordLimits). seen_by t s.bads s.kept.items s.before x) k.limits in
     let at : IsFlow s.flow p.entries p.flow s.before.number = subst (λ (n : ℕ). IsFlow s.flow p.entries p.flow n) (sym k.before.number) k.flow in
     let off : c.breaks_off-off.result ≡ off_by p.limits s.kept.items p.entries p.flow s.before.number x =
-    c.breaks_off-off.ensures.off p.entries p.flow at ord ∙ ap (λ (t : WordLimits). off_by t s.kept.items p.entries p.flow s.before.number x) k.limits in
+    c.breaks_off-off.ensures.off p.entries p.flow at ord
+    ∙ ap (λ (l : List ChannelState). off_by s.limits l p.entries p.flow s.before.number x) c.deref.ensures.value
+    ∙ ap (λ (t : WordLimits). off_by t s.kept.items p.entries p.flow s.before.number x) k.limits in
     c.in_ok-field_rows.ensures
     ∙ ap (λ (l : List Fault). l ++ field_rows_by s.limits s.before.number c.breaks_calendar-calendar.result c.breaks_off-off.result x) c.in_ok-control_rows.ensures
     ∙ ap (λ (t : WordLimits). (c.args.faults.now.items ++ control_rows_by t s.before c.close_before-own.result x c.args.next) ++ field_rows_by t s.before.number c.breaks_calendar-calendar.result c.breaks_off-off.result x) k.limits
@@ -47,7 +49,7 @@ returns-clause-rows c p e k ord =
 pub returns-clause-keeps : goal.returns-clause-keeps
 returns-clause-keeps c p e k =
     let s = c.args.self.now in
-    let x : ℕ = c.args.x in
+    let x : ℕ = c.args.word.0 in
     let kept : c.close_before-own.new.kept.items ≡ kept_after p.limits s.bads s.kept.items s.before x =
     c.close_before-own.ensures.kept ∙ ap (λ (t : WordLimits). kept_after t s.bads s.kept.items s.before x) k.limits in
     let at : IsFlow s.flow p.entries p.flow s.before.number = subst (λ (n : ℕ). IsFlow s.flow p.entries p.flow n) (sym k.before.number) k.flow in

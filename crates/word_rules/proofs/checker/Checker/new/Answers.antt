@@ -7,11 +7,11 @@ returns c = record {
   limits = refl;
   entries = refl;
   few = c.requires;
-  before = c.start.ensures;
+  before = c.new-2.ensures;
   bads = omega arith;
   all = c.in_ok-kept.ensures.all;
   bursts = unused_bursts c.in_ok-kept.kept.items c.args.channels.now c.args.limits.max_packet c.args.limits.wide c.in_ok-kept.ensures.fresh;
   listed = unused_listed c.in_ok-kept.kept.items c.args.channels.now c.in_ok-kept.ensures.fresh;
-  due = c.no_word.ensures;
+  due = c.new-3.ensures;
   flow = c.in_ok-flow.ensures 0;
 }

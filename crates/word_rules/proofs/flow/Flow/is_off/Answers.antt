@@ -12,10 +12,10 @@ returns-clause-off c entries rows s f le ord =
     let stands : Stands c.take_rows-self.new.calendar entries (take k rows) =
     subst (λ (xs : List FlowRow). Stands c.take_rows-self.new.calendar entries (take k xs)) shown
     (c.take_rows-self.ensures.stands entries (subst (λ (xs : List FlowRow). Stands c.args.self.now.calendar entries (take c.args.self.now.taken xs)) (sym shown) f.stands)) in
-    let early : All (λ (row : FlowRow). row.slot ≤ c.args.t) (take k rows) =
-    subst (λ (xs : List FlowRow). All (λ (row : FlowRow). row.slot ≤ c.args.t) (take k xs)) shown
-    (c.take_rows-self.ensures.early (subst (λ (xs : List FlowRow). All (λ (row : FlowRow). row.slot ≤ c.args.t) (take c.args.self.now.taken xs)) (sym shown)
+    let early : All (λ (row : FlowRow). row.slot ≤ c.args.slot) (take k rows) =
+    subst (λ (xs : List FlowRow). All (λ (row : FlowRow). row.slot ≤ c.args.slot) (take k xs)) shown
+    (c.take_rows-self.ensures.early (subst (λ (xs : List FlowRow). All (λ (row : FlowRow). row.slot ≤ c.args.slot) (take c.args.self.now.taken xs)) (sym shown)
     (λ i d lt. (let h = f.early i d lt in omega arith)))) in
     let part : k ≤ length rows = subst (λ (xs : List FlowRow). k ≤ length xs) shown c.take_rows-self.ensures.part in
-    let late : k < length rows → c.args.t < (get_or rows k no_row).slot = subst (λ (xs : List FlowRow). k < length xs → c.args.t < (get_or xs k no_row).slot) shown c.take_rows-self.ensures.late in
-    ap not (c.is_on.ensures.on entries (take k rows) c.args.t stands early ∙ on_by_part entries rows k c.args.channel c.args.t part ord late)
+    let late : k < length rows → c.args.slot < (get_or rows k no_row).slot = subst (λ (xs : List FlowRow). k < length xs → c.args.slot < (get_or xs k no_row).slot) shown c.take_rows-self.ensures.late in
+    ap not (c.is_on.ensures.on entries (take k rows) c.args.slot stands early ∙ on_by_part entries rows k c.args.channel c.args.slot part ord late)

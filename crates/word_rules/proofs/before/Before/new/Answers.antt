@@ -1,6 +1,6 @@
 use Rattle.std.proofs.Common.{refl}
 use Rattle.lk_base.specs.Checksum.{register_after}
-use Rattle.word_rules.proofs.before.start.Goals as goal
+use Rattle.word_rules.proofs.before.Before.new.Goals as goal
 
 pub returns : goal.returns
 unfolding register_after
