@@ -9,6 +9,7 @@ use Rattle.word_rules.specs.declared.fault.Fault.{Fault}
 use Rattle.word_rules.specs.declared.rule.WordRule.{WordRule}
 use Rattle.word_rules.specs.declared.rule.WordRule.TheVariants as rules
 use Rattle.word_rules.specs.declared.limits.WordLimits.{WordLimits}
+use Rattle.word_rules.specs.declared.plan.WordPlan.{WordPlan}
 use Rattle.word_rules.specs.Places.{channel_before}
 use Rattle.word_rules.specs.Rules.{breaks_data, breaks_max, breaks_control, breaks_crc, breaks_empty, breaks_short, breaks_end, breaks_fill, breaks_part, breaks_min, breaks_sop, breaks_open, breaks_channel, breaks_long, breaks_idle, breaks_multi, breaks_calendar, breaks_off}
 
@@ -21,6 +22,10 @@ pub record Plan : Type 0 where
   pub entries : List ℕ
   -- the rows of flow control, in order of slot
   pub flow : List FlowRow
+
+-- the plan that the lent lists say
+abbrev pub plan_by : WordPlan → Plan
+plan_by p = record { limits = p.limits; channels = p.channels.now; entries = p.entries.now; flow = p.flow.now }
 
 -- one row where the rule is broken
 abbrev pub row : ℕ → WordRule → Option ℕ → Bool → List Fault

@@ -2,7 +2,7 @@
 ghost use Rattle.std.specs.Prelude.{◌≡◌, ◌<◌, ◌^◌, ◌++◌, ◌∷◌, [], List, Option, true, slice_get, slice_set, IfOk, OnOk, length};
 ghost use Rattle.lk_base.specs.declared.word.RxWord.{RxWord};
 ghost use Rattle.lk_base.specs.declared.word.RxWord.TheVariants.{Data, Control, Bad};
-ghost use Rattle.word_rules.specs.Faults.{Plan, faults, faults_at};
+ghost use Rattle.word_rules.specs.Faults.{Plan, faults, faults_at, plan_by};
 ghost use Rattle.word_rules.specs.Made.{AreUnused, unused};
 ghost use Rattle.word_rules.specs.Checks.{Keeps};
 ghost use Rattle.word_rules.specs.Flows.{InOrder};
@@ -15,12 +15,12 @@ use crate::due::Due;
 use crate::fault::Fault;
 use crate::flow::Flow;
 use crate::limits::WordLimits;
+use crate::plan::WordPlan;
 use crate::rows::tell;
 use crate::rule::WordRule;
 use control_words::ControlWord;
 use lk_base::{OutOfMemory, RxWord};
 use std::alloc::Global;
-use stream_model::FlowRow;
 
 /// What the rules read of the words that came so far.
 #[derive(Drop)]
@@ -69,27 +69,20 @@ fn made(alloc: Global, channels: &[u16]) -> Result<Vec<ChannelState>, OutOfMemor
 }
 
 impl Checker {
-    /// A checker of the words of a plan with these limits, listed channels, entries of the calendar, and rows of flow control in
-    /// order of slot. No word came yet.
+    /// A checker of the words of a plan. No word came yet.
     ///
     /// # Errors
     ///
     /// `OutOfMemory`.
-    pub fn new(
-        alloc: Global,
-        limits: WordLimits,
-        channels: &[u16],
-        entries: &[u16],
-        flow: &[FlowRow],
-    ) -> Result<Checker, OutOfMemory>
-        requires { length entries.now < 2 ^ 32 }
-        ensures { IfOk result (λ checker. Keeps checker (record { limits = limits; channels = channels.now; entries = entries.now; flow = flow.now }) []) }
+    pub fn new(alloc: Global, plan: &WordPlan) -> Result<Checker, OutOfMemory>
+        requires { length plan.now.entries.now < 2 ^ 32 }
+        ensures { IfOk result (λ checker. Keeps checker (plan_by plan.now) []) }
     {
-        let kept = made(alloc, channels)?;
-        let flow = Flow::new(alloc, entries, flow)?;
+        let kept = made(alloc, plan.channels)?;
+        let flow = Flow::new(alloc, plan.entries, plan.flow)?;
         Ok(Checker {
-            limits,
-            entries: entries.len() as u64,
+            limits: plan.limits,
+            entries: plan.entries.len() as u64,
             kept,
             bads: 0,
             before: Before::new(),
@@ -180,20 +173,13 @@ fn word_at(words: &[RxWord], number: usize) -> Option<RxWord>
 /// # Errors
 ///
 /// `OutOfMemory`.
-pub fn check(
-    alloc: Global,
-    limits: WordLimits,
-    channels: &[u16],
-    entries: &[u16],
-    flow: &[FlowRow],
-    words: &[RxWord],
-) -> Result<Vec<Fault>, OutOfMemory>
-    requires few { length entries.now < 2 ^ 32 }
-    requires rows { InOrder flow.now }
+pub fn check(alloc: Global, plan: &WordPlan, words: &[RxWord]) -> Result<Vec<Fault>, OutOfMemory>
+    requires few { length plan.now.entries.now < 2 ^ 32 }
+    requires rows { InOrder plan.now.flow.now }
     requires words { length words.now < 2 ^ 57 }
-    ensures { IfOk result (λ found. found.items ≡ faults (record { limits = limits; channels = channels.now; entries = entries.now; flow = flow.now }) words.now) }
+    ensures { IfOk result (λ found. found.items ≡ faults (plan_by plan.now) words.now) }
 {
-    let mut checker = Checker::new(alloc, limits, channels, entries, flow)?;
+    let mut checker = Checker::new(alloc, plan)?;
     let mut found = Vec::new(alloc);
     for i in 0..words.len() {
         let next = word_at(words, i + 1);

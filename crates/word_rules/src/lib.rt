@@ -15,10 +15,12 @@ mod flow;
 pub mod laws;
 mod limits;
 mod placed;
+mod plan;
 mod rows;
 mod rule;
 
 pub use checker::{Checker, check};
 pub use fault::Fault;
 pub use limits::WordLimits;
+pub use plan::WordPlan;
 pub use rule::WordRule;

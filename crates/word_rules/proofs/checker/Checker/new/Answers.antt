@@ -10,8 +10,8 @@ returns c = record {
   before = c.new-2.ensures;
   bads = omega arith;
   all = c.in_ok-kept.ensures.all;
-  bursts = unused_bursts c.in_ok-kept.kept.items c.args.channels.now c.args.limits.max_packet c.args.limits.wide c.in_ok-kept.ensures.fresh;
-  listed = unused_listed c.in_ok-kept.kept.items c.args.channels.now c.in_ok-kept.ensures.fresh;
+  bursts = unused_bursts c.in_ok-kept.kept.items c.args.plan.now.channels.now c.args.plan.now.limits.max_packet c.args.plan.now.limits.wide c.in_ok-kept.ensures.fresh;
+  listed = unused_listed c.in_ok-kept.kept.items c.args.plan.now.channels.now c.in_ok-kept.ensures.fresh;
   due = c.new-3.ensures;
   flow = c.in_ok-flow.ensures 0;
 }
