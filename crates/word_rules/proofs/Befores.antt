@@ -1,8 +1,7 @@
 -- The words before a place, and one word more.
-use Rattle.std.proofs.Common.{ℕ, suc, ◌-◌, ◌^◌, ◌≡◌, ◌≤◌, ◌<◌, refl, sym, ap, ◌∙◌, Bool, true, false, cond, List, [], ◌∷◌, length, Option, Some, None, IfSome, arith}
+use Rattle.std.proofs.Common.{ℕ, suc, ◌-◌, ◌^◌, ◌≡◌, ◌≤◌, ◌<◌, refl, sym, ap, ◌∙◌, Bool, true, false, cond, List, [], ◌∷◌, length, Option, Some, None, IfSome, arith, filter_map}
 use Rattle.std.specs.Option.{option_map}
 use Rattle.std.specs.List.{list_any, flat_map}
-use Rattle.std.proofs.Common.{filter_map}
 use Rattle.std.proofs.lemmas.List.{reverse-append}
 use Rattle.lk_base.specs.Checksum.{bits_of, bits_of_words, register_after}
 use Rattle.lk_crc.proofs.Registers.{number_added}

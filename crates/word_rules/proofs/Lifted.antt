@@ -1,23 +1,17 @@
 -- The rules by what is kept are those by the words before the place.
-use Rattle.std.proofs.Common.{ℕ, suc, ◌==◌, ◌≡◌, refl, sym, ap, ◌∙◌, Bool, true, false, cond, not, ◌&&◌, List, [], ◌∷◌, length, Option, Some, None, is_some, is_none, get_or, arith}
-use Rattle.std.proofs.Common.{ap₂, nat_lt, ◌%◌}
-use Rattle.std.specs.Option.{option_map_or}
-use Rattle.lk_base.specs.Fields.{is_control_word, has_end, has_sop}
+use Rattle.std.proofs.Common.{ℕ, suc, ◌==◌, ◌≡◌, refl, sym, ap, ◌∙◌, Bool, true, false, cond, not, ◌&&◌, List, [], ◌∷◌, length, Option, Some, None, is_some, is_none, get_or, arith, ap₂, nat_lt, ◌%◌, ◌-◌, ◌*◌, ◌/◌, ◌^◌, ◌++◌}
+use Rattle.std.specs.Option.{option_map_or, option_map}
+use Rattle.lk_base.specs.Fields.{is_control_word, has_end, has_sop, channel_number, crc_field}
 use Rattle.control_words.specs.ControlWord.{end_of}
 use Rattle.word_rules.specs.Bursts.{ends, burst_bytes}
-use Rattle.word_rules.specs.Rules.{closes_data}
-use Rattle.word_rules.specs.ByFields.{closes_by}
-use Rattle.std.proofs.Common.{◌-◌, ◌*◌, ◌/◌, ◌^◌, ◌++◌}
-use Rattle.std.specs.Option.{option_map}
+use Rattle.word_rules.specs.Rules.{closes_data, covered, breaks_control, breaks_empty, breaks_data, breaks_max, breaks_crc, breaks_short, breaks_end, breaks_fill, breaks_part, breaks_min, has_wrong_fill}
+use Rattle.word_rules.specs.ByFields.{closes_by, channel_by, data_by, max_by, crc_by, short_by, end_by, fill_by, part_by, min_by, wrong_fill_by, data_rows_by, word_rows_by, burst_rows_by}
 use Rattle.std.specs.List.{list_any}
-use Rattle.lk_base.specs.Fields.{channel_number, crc_field}
 use Rattle.lk_base.specs.Words.{is_bad}
 use Rattle.lk_base.specs.Checksum.{bits_of, bits_of_words, complement, register_after}
 use Rattle.lk_crc.proofs.Registers.{register_after-append}
-use Rattle.word_rules.specs.Places.{since_control, channel_before}
-use Rattle.word_rules.specs.Rules.{covered, breaks_control, breaks_empty}
-use Rattle.word_rules.specs.Faults.{row}
-use Rattle.word_rules.specs.ByFields.{channel_by}
+use Rattle.word_rules.specs.Places.{since_control, channel_before, is_burst_word, data_before, burst_before, follows_bad}
+use Rattle.word_rules.specs.Faults.{row, data_rows, word_rows, burst_rows}
 use Rattle.word_rules.specs.declared.fault.Fault.{Fault}
 use Rattle.word_rules.specs.declared.rule.WordRule.{WordRule}
 use Rattle.word_rules.specs.declared.rule.WordRule.TheVariants as rules
@@ -29,10 +23,6 @@ use Rattle.control_words.specs.declared.fields.Eop.{Eop}
 use Rattle.control_words.specs.declared.fields.Eop.TheVariants as eops
 use Rattle.word_rules.specs.declared.before.Before.{Before}
 use Rattle.word_rules.specs.declared.limits.WordLimits.{WordLimits}
-use Rattle.word_rules.specs.Places.{is_burst_word, data_before, burst_before, follows_bad}
-use Rattle.word_rules.specs.Rules.{breaks_data, breaks_max, breaks_crc, breaks_short, breaks_end, breaks_fill, breaks_part, breaks_min, is_filled}
-use Rattle.word_rules.specs.Faults.{data_rows, word_rows, burst_rows}
-use Rattle.word_rules.specs.ByFields.{data_by, max_by, crc_by, short_by, end_by, fill_by, part_by, min_by, filled_by, data_rows_by, word_rows_by, burst_rows_by}
 use Rattle.word_rules.specs.Stands.{IsBefore}
 use Rattle.word_rules.proofs.Befores.{bad_since}
 
@@ -54,13 +44,13 @@ data_cases (Control x ∷ e) = go (is_burst_word x) where
 data_cases (Bad ∷ e) = refl
 
 -- whether the last Data word is filled, by the word
-filled_cases : (end : Eop) (xs : List ℕ) → (not (length xs == 0) && filled_by end (get_or xs 0 0)) ≡ (has_some xs && is_filled end xs)
-filled_cases eops.Going [] = refl
-filled_cases eops.Going (x ∷ xs) = ap (λ b. b && false) (ap not (not_zero (length xs)))
-filled_cases eops.Error [] = refl
-filled_cases eops.Error (x ∷ xs) = ap (λ b. b && false) (ap not (not_zero (length xs)))
-filled_cases (eops.End v) [] = refl
-filled_cases (eops.End v) (x ∷ xs) = ap (λ b. b && filled_by (eops.End v) x) (ap not (not_zero (length xs)))
+wrong_fill_cases : (end : Eop) (xs : List ℕ) → (not (length xs == 0) && wrong_fill_by end (get_or xs 0 0)) ≡ (has_some xs && has_wrong_fill end xs)
+wrong_fill_cases eops.Going [] = refl
+wrong_fill_cases eops.Going (x ∷ xs) = ap (λ b. b && false) (ap not (not_zero (length xs)))
+wrong_fill_cases eops.Error [] = refl
+wrong_fill_cases eops.Error (x ∷ xs) = ap (λ b. b && false) (ap not (not_zero (length xs)))
+wrong_fill_cases (eops.End v) [] = refl
+wrong_fill_cases (eops.End v) (x ∷ xs) = ap (λ b. b && wrong_fill_by (eops.End v) x) (ap not (not_zero (length xs)))
 
 -- a test within a test
 inside : (a b b' c d : Bool) → (b && c) ≡ (b' && d) → ((a && b) && c) ≡ ((a && b') && d)
@@ -93,7 +83,7 @@ module _ (b : Before) (e : List RxWord) (s : IsBefore b e) where
 
   pub fill_is : (x : ℕ) → fill_by b x ≡ breaks_fill e x
   fill_is x = ap (λ rest. is_control_word x && rest) (rw (s.size, s.burst, s.last)
-      (inside (is_some (burst_before e)) (not (length (data_before e) == 0)) (has_some (data_before e)) (filled_by (end_of x) (get_or (data_before e) 0 0)) (is_filled (end_of x) (data_before e)) (filled_cases (end_of x) (data_before e))))
+      (inside (is_some (burst_before e)) (not (length (data_before e) == 0)) (has_some (data_before e)) (wrong_fill_by (end_of x) (get_or (data_before e) 0 0)) (has_wrong_fill (end_of x) (data_before e)) (wrong_fill_cases (end_of x) (data_before e))))
 
   pub part_is : (x : ℕ) → part_by b x ≡ breaks_part e x
   part_is x = ap₂ (λ closes n. (is_control_word x && not (has_end x)) && (closes && not (n % 4 == 0))) closes_is s.size

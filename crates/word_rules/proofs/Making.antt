@@ -1,10 +1,8 @@
 -- The channels before any word, and the list of words that is left.
-use Rattle.std.proofs.Common.{ℕ, zero, suc, ◌+◌, ◌≡◌, ◌≤◌, ◌<◌, ◌==◌, refl, sym, ap, ◌∙◌, subst, Bool, true, false, ◌||◌, List, [], ◌∷◌, ◌++◌, length, get_or, take, drop, reverse, slice_set, slice_get, Option, eqb-true, arith}
+use Rattle.std.proofs.Common.{ℕ, zero, suc, ◌+◌, ◌≡◌, ◌≤◌, ◌<◌, ◌==◌, refl, sym, ap, ◌∙◌, subst, Bool, true, false, ◌||◌, List, [], ◌∷◌, ◌++◌, length, get_or, take, drop, reverse, slice_set, slice_get, Option, eqb-true, arith, ap₂, replicate, append_assoc, append-nil}
 use Rattle.std.proofs.lemmas.Bool.{eqb-false}
-use Rattle.std.proofs.lemmas.List.{get_or-set_same, get_or-set_other, take_more, reverse-append}
+use Rattle.std.proofs.lemmas.List.{get_or-set_same, get_or-set_other, take_more, reverse-append, length-reverse, length-replicate, get_or-replicate, drop_more, drop_all}
 use Rattle.std.proofs.lemmas.List.Folds.{list_any_more}
-use Rattle.std.proofs.Common.{ap₂, replicate, append_assoc, append-nil}
-use Rattle.std.proofs.lemmas.List.{length-reverse, length-replicate, get_or-replicate, drop_more, drop_all}
 use Rattle.lk_base.specs.declared.word.RxWord.{RxWord}
 use Rattle.word_rules.specs.declared.fault.Fault.{Fault}
 use Rattle.word_rules.specs.Faults.{Plan, faults_at, faults_from}

@@ -1,15 +1,12 @@
 -- Each rule that looks at the words right before a place, by what is kept of these.
-use Rattle.std.specs.Prelude.{ℕ, ◌-◌, ◌*◌, ◌/◌, ◌%◌, ◌^◌, ◌==◌, nat_lt, Bool, false, ◌&&◌, not, is_some, is_none}
-use Rattle.std.specs.Option.{option_map_or}
-use Rattle.lk_base.specs.Fields.{is_control_word, has_sop, has_end, crc_field}
+use Rattle.std.specs.Prelude.{ℕ, ◌-◌, ◌*◌, ◌/◌, ◌%◌, ◌^◌, ◌==◌, nat_lt, Bool, false, ◌&&◌, not, is_some, is_none, List, ◌++◌, Option, Some, None}
+use Rattle.std.specs.Option.{option_map_or, option_map}
+use Rattle.lk_base.specs.Fields.{is_control_word, has_sop, has_end, crc_field, channel_number}
 use Rattle.lk_base.specs.Checksum.{bits_of, register_after, complement}
 use Rattle.control_words.specs.declared.fields.Eop.{Eop}
 use Rattle.control_words.specs.declared.fields.Eop.TheVariants as eops
 use Rattle.control_words.specs.ControlWord.{end_of}
-use Rattle.std.specs.Prelude.{List, ◌++◌, Option, Some, None}
-use Rattle.std.specs.Option.{option_map}
 use Rattle.lk_base.specs.declared.word.RxWord.{RxWord}
-use Rattle.lk_base.specs.Fields.{channel_number}
 use Rattle.word_rules.specs.declared.fault.Fault.{Fault}
 use Rattle.word_rules.specs.declared.rule.WordRule.TheVariants as rules
 use Rattle.word_rules.specs.Rules.{breaks_control, breaks_empty}
@@ -38,13 +35,13 @@ abbrev pub end_by : Before → ℕ → Bool
 end_by b x = ends x && (not (closes_by b) && not b.after_bad)
 
 -- the last Data word is not 0 past its valid bytes
-abbrev pub filled_by : Eop → ℕ → Bool
-filled_by eops.Going last = false
-filled_by eops.Error last = false
-filled_by (eops.End v) last = not (last % 2 ^ (8 * (8 - v)) == 0)
+abbrev pub wrong_fill_by : Eop → ℕ → Bool
+wrong_fill_by eops.Going last = false
+wrong_fill_by eops.Error last = false
+wrong_fill_by (eops.End v) last = not (last % 2 ^ (8 * (8 - v)) == 0)
 
 abbrev pub fill_by : Before → ℕ → Bool
-fill_by b x = is_control_word x && (closes_by b && filled_by (end_of x) b.last)
+fill_by b x = is_control_word x && (closes_by b && wrong_fill_by (end_of x) b.last)
 
 abbrev pub part_by : Before → ℕ → Bool
 part_by b x = (is_control_word x && not (has_end x)) && (closes_by b && not (b.size % 4 == 0))

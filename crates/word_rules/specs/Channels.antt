@@ -1,11 +1,10 @@
 -- What is kept of the channels, and the bursts that it stands for.
-use Rattle.std.specs.Prelude.{ℕ, ◌≡◌, ◌+◌, ◌*◌, ◌<◌, ◌≤◌, ◌==◌, nat_lt, nat_le, Bool, false, ◌&&◌, not, cond, List, filter, get_or, Option, Some, None}
+use Rattle.std.specs.Prelude.{ℕ, ◌≡◌, ◌+◌, ◌*◌, ◌<◌, ◌≤◌, ◌==◌, nat_lt, nat_le, Bool, false, ◌&&◌, not, cond, List, filter, get_or, Option, Some, None, [], ◌∷◌, ◌++◌, ◌||◌, is_some, slice_index_or, slice_set, unwrap_or}
 use Rattle.std.specs.List.{list_any}
 use Rattle.std.specs.Option.{option_map, option_map_or, option_and_then}
 use Rattle.lk_base.specs.Fields.{is_control_word, has_sop, channel_number}
 use Rattle.control_words.specs.ControlWord.{end_of}
 use Rattle.receive_model.specs.Lists.{first_of}
-use Rattle.std.specs.Prelude.{[], ◌∷◌, ◌++◌, ◌||◌, is_some, slice_index_or, slice_set, unwrap_or}
 use Rattle.lk_base.specs.declared.word.RxWord.{RxWord}
 use Rattle.lk_base.specs.declared.word.RxWord.TheVariants.{Data, Control, Bad}
 use Rattle.word_rules.specs.declared.before.Before.{Before}

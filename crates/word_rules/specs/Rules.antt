@@ -75,16 +75,16 @@ abbrev pub breaks_end : List RxWord → ℕ → Bool
 breaks_end earlier x = ends x && (not (closes_data earlier) && not (follows_bad earlier))
 
 -- of Data words, the last first, the last one is not 0 past its valid bytes, where the data end so
-abbrev pub is_filled : Eop → List ℕ → Bool
-is_filled eops.Going words = false
-is_filled eops.Error words = false
-is_filled (eops.End v) [] = false
-is_filled (eops.End v) (last ∷ words) = not (last % 2 ^ (8 * (8 - v)) == 0)
+abbrev pub has_wrong_fill : Eop → List ℕ → Bool
+has_wrong_fill eops.Going words = false
+has_wrong_fill eops.Error words = false
+has_wrong_fill (eops.End v) [] = false
+has_wrong_fill (eops.End v) (last ∷ words) = not (last % 2 ^ (8 * (8 - v)) == 0)
 
 -- `fill`: a burst with Data is closed by it, it is accepted and has the end format of v valid bytes, and the low 8 - v bytes of
 -- the word before it are not all 0
 abbrev pub breaks_fill : List RxWord → ℕ → Bool
-breaks_fill earlier x = is_control_word x && (closes_data earlier && is_filled (end_of x) (data_before earlier))
+breaks_fill earlier x = is_control_word x && (closes_data earlier && has_wrong_fill (end_of x) (data_before earlier))
 
 -- `part`: a burst is closed by it, it is accepted and has no end format, and the number of Data words is above 0 and no multiple
 -- of 4

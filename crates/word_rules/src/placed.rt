@@ -2,7 +2,7 @@
 ghost use Rattle.std.specs.Prelude.{◌≡◌, ◌+◌, ◌-◌, ◌*◌, ◌%◌, ◌^◌, ◌<◌, ◌==◌, not};
 ghost use Rattle.control_words.specs.ControlWord.{end_of};
 ghost use Rattle.word_rules.specs.Bursts.{burst_bytes, ends};
-ghost use Rattle.word_rules.specs.ByFields.{closes_by, crc_by, data_by, end_by, fill_by, filled_by, max_by, min_by, part_by, partial_by, short_by};
+ghost use Rattle.word_rules.specs.ByFields.{closes_by, crc_by, data_by, end_by, fill_by, wrong_fill_by, max_by, min_by, part_by, partial_by, short_by};
 
 use crate::before::{Before, is_burst_word};
 use crate::limits::WordLimits;
@@ -37,8 +37,8 @@ fn has_low_bytes(word: u64, count: u32) -> bool
 }
 
 // Whether the last Data word is not 0 past its valid bytes.
-fn is_filled(end: Eop, last: u64) -> bool
-    ensures { result ≡ filled_by end last }
+fn has_wrong_fill(end: Eop, last: u64) -> bool
+    ensures { result ≡ wrong_fill_by end last }
 {
     match end {
         Eop::Going | Eop::Error => false,
@@ -116,7 +116,7 @@ impl Before {
     {
         let accepted = word.is_accepted();
         let closes = self.closes_data();
-        let filled = is_filled(word.end_format(), self.last);
+        let filled = has_wrong_fill(word.end_format(), self.last);
         accepted && (closes && filled)
     }
 

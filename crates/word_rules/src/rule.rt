@@ -31,7 +31,7 @@ pub enum WordRule {
     Min,
     /// SOP on a channel whose packet has not ended.
     Sop,
-    /// No SOP on a channel whose packet has ended.
+    /// No SOP on a channel whose packet has ended, or that has none yet.
     Open,
     /// A burst on a channel that is not listed.
     Channel,

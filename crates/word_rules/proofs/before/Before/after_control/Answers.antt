@@ -1,5 +1,4 @@
-use Rattle.std.proofs.Common.{ℕ, ◌^◌, ◌∙◌, refl, ap, sym, subst, Option, IfSome, ◌<◌, arith}
-use Rattle.std.proofs.Common.{suc, cond, Some}
+use Rattle.std.proofs.Common.{ℕ, ◌^◌, ◌∙◌, refl, ap, sym, subst, Option, IfSome, ◌<◌, arith, suc, cond, Some}
 use Rattle.std.specs.Option.{option_map}
 use Rattle.lk_base.specs.Checksum.{register_after}
 use Rattle.word_rules.specs.Places.{is_burst_word}

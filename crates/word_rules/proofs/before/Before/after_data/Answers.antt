@@ -1,6 +1,5 @@
-use Rattle.std.proofs.Common.{ℕ, ◌^◌, ◌∙◌, refl, ap, sym, subst, Option, IfSome, ◌<◌, arith}
+use Rattle.std.proofs.Common.{ℕ, ◌^◌, ◌∙◌, refl, ap, sym, subst, Option, IfSome, ◌<◌, arith, suc}
 use Rattle.std.specs.Option.{option_map}
-use Rattle.std.proofs.Common.{suc}
 use Rattle.word_rules.proofs.Befores.{size_le, since_below, register_more}
 use Rattle.word_rules.proofs.before.Before.after_data.Goals as goal
 
