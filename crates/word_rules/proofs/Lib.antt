@@ -8,3 +8,4 @@ mod Dues
 mod FlowRows
 mod Keeping
 mod Making
+mod RowOrder

@@ -12,3 +12,4 @@ pub mod Flows
 pub mod ControlRows
 pub mod Checks
 pub mod Made
+pub mod Order

@@ -1,7 +1,23 @@
 //! Laws on the definitions.
+ghost use Rattle.std.specs.Prelude.{◌≡◌, ◌==◌, List, ◌∷◌, ◌++◌, filter, length, reverse};
+ghost use Rattle.lk_base.specs.declared.word.RxWord.{RxWord};
+ghost use Rattle.receive_model.specs.Lists.{first_of};
 ghost use Rattle.word_rules.specs.Examples.{Examples};
+ghost use Rattle.word_rules.specs.Faults.{Plan, faults, faults_at};
+ghost use Rattle.word_rules.specs.Order.{InOrderOfWord};
+ghost use Rattle.word_rules.specs.declared.fault.Fault.{Fault};
 
 /// Worked examples: the faults of short lists of words.
 pub fn examples()
     ensures { Examples }
+{}
+
+/// The rows of a word among those of a list are the word's own, by the words before it and the one after it.
+pub fn rows_of_a_word()
+    ensures { (p : Plan) (before after : List RxWord) (word : RxWord) → filter (λ (f : Fault). f.word == length before) (faults p (before ++ word ∷ after)) ≡ faults_at p (reverse before) word (first_of after) }
+{}
+
+/// Rows stand in order of word.
+pub fn rows_stand_in_order()
+    ensures { (p : Plan) (words : List RxWord) → InOrderOfWord (faults p words) }
 {}
