@@ -13,9 +13,7 @@ use lk_crc::{crc24_start, crc24_word};
 pub fn is_burst_word(word: ControlWord) -> bool
     ensures { result ≡ is_burst_word word.0 }
 {
-    let accepted = word.is_accepted();
-    let burst = word.is_burst();
-    accepted && burst
+    word.is_accepted() && word.is_burst()
 }
 
 // The word's number as that of a burst word, if it is one.

@@ -69,13 +69,9 @@ impl ChannelState {
         ensures { result ≡ long_by bads most self burst }
     {
         let closer = ControlWord(burst.closer);
-        let accepted = closer.is_accepted();
         let own = burst_bytes(burst.size, closer.end_format());
-        let passes = match self.bytes_before(bads, ControlWord(burst.word)) {
-            Some(bytes) => (most as u64) < bytes as u64 + own,
-            None => false,
-        };
-        accepted && passes
+        let before = self.bytes_before(bads, ControlWord(burst.word));
+        closer.is_accepted() && before.is_some_and(|bytes| (most as u64) < bytes as u64 + own)
     }
 }
 

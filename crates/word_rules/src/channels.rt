@@ -35,22 +35,21 @@ pub fn channel_at(kept: &[ChannelState], channel: u16) -> ChannelState
 fn breaks_sop(going: Option<bool>, word: ControlWord) -> bool
     ensures { result ≡ sop_by going word.0 }
 {
-    let burst = is_burst_word(word);
-    let sop = word.starts_packet();
-    burst && (sop && going.unwrap_or(false))
+    is_burst_word(word) && word.starts_packet() && going.unwrap_or(false)
 }
 
 // Whether a Control word breaks `open`, by whether the packet of its channel goes on, and whether a Bad word stands before.
 fn breaks_open(going: Option<bool>, any_bad: bool, word: ControlWord) -> bool
     ensures { result ≡ open_by going any_bad word.0 }
 {
-    let burst = is_burst_word(word);
-    let sop = word.starts_packet();
-    burst && (!sop && (!going.unwrap_or(false) && (going.is_some() || !any_bad)))
+    is_burst_word(word)
+        && !word.starts_packet()
+        && !going.unwrap_or(false)
+        && (going.is_some() || !any_bad)
 }
 
-/// Closes the burst right before a Control word, if there is one, after `bads` Bad words. It returns whether `long` is broken.
-pub fn close(
+// Closes the burst right before a Control word, if there is one, after `bads` Bad words. It returns whether `long` is broken.
+fn close(
     kept: &mut Vec<ChannelState>,
     before: Before,
     limits: WordLimits,

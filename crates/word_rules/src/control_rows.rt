@@ -20,21 +20,16 @@ use lk_base::{OutOfMemory, RxWord};
 fn breaks_idle(word: ControlWord) -> bool
     ensures { result ≡ breaks_idle word.0 }
 {
-    let accepted = word.is_accepted();
-    let burst = word.is_burst();
-    let sop = word.starts_packet();
-    let channel = word.channel(false) != 0;
-    let multi = word.multi() != 0;
-    (accepted && !burst) && (sop || (channel || multi))
+    word.is_accepted()
+        && !word.is_burst()
+        && (word.starts_packet() || word.channel(false) != 0 || word.multi() != 0)
 }
 
 // Whether a Control word breaks `multi`.
 fn breaks_multi(limits: WordLimits, word: ControlWord) -> bool
     ensures { result ≡ breaks_multi limits word.0 }
 {
-    let burst = is_burst_word(word);
-    let multi = word.multi() != 0;
-    !limits.wide && (burst && multi)
+    !limits.wide && is_burst_word(word) && word.multi() != 0
 }
 
 /// Whether the Control word of this number breaks `off`.
@@ -51,15 +46,8 @@ pub fn breaks_off(
     ensures off { (entries : List ℕ) (rows : List FlowRow) → IsFlow flow.old entries rows number → InOrder rows → result ≡ off_by limits kept.now entries rows number word.0 }
 {
     let channel = word.channel(limits.wide);
-    let burst = is_burst_word(word);
     let listed = channel_at(kept, channel).listed;
-    if !burst {
-        return false;
-    }
-    if !listed {
-        return false;
-    }
-    flow.is_off(channel, number)
+    is_burst_word(word) && listed && flow.is_off(channel, number)
 }
 
 /// Adds the rows of a Control word up to `long`, by what is kept of its channel, once it has closed the burst before it.

@@ -98,10 +98,8 @@ impl Due {
         requires { IfSome self.after_reset (λ n. n < 2 ^ 58) }
         ensures { result ≡ option_map_or (has_zero_past_last entries word.0) (entries_by self word.0) false }
     {
-        match self.entries(word) {
-            Some(number) => has_zero_past_last(entries, word, number),
-            None => false,
-        }
+        self.entries(word)
+            .is_some_and(|number| has_zero_past_last(entries, word, number))
     }
 
     /// Whether a Control word breaks `calendar`, where the calendar has so many entries.
@@ -110,14 +108,11 @@ impl Due {
         requires small { IfSome self.after_reset (λ n. n < 2 ^ 58) }
         ensures { result ≡ calendar_by entries self word.0 }
     {
-        let accepted = word.is_accepted();
-        let due = self.is_as_due(entries, word);
-        let zero = self.has_zero(entries, word);
-        accepted && (!due || zero)
+        word.is_accepted() && (!self.is_as_due(entries, word) || self.has_zero(entries, word))
     }
 
-    /// The words with an accepted control word after them.
-    pub fn after(self, word: ControlWord) -> Due
+    // The words with an accepted control word after them.
+    fn after(self, word: ControlWord) -> Due
         requires count { self.count < 2 ^ 60 }
         requires small { IfSome self.after_reset (λ n. n < 2 ^ 61) }
         ensures { (accepted : List ℕ) → IsDue self accepted → IsDue result (word.0 ∷ accepted) }

@@ -1,8 +1,6 @@
 //! The rules that a sender's words keep: what each says of a list of words.
 #![tactic(auto)]
 
-// proof: a condition of several calls binds them by `let` first, and is grouped as its definition is.
-
 mod before;
 mod burst;
 mod channel;

@@ -13,9 +13,7 @@ use lk_crc::{crc24_end, crc24_word};
 pub fn ends(word: ControlWord) -> bool
     ensures { result ≡ ends word.0 }
 {
-    let accepted = word.is_accepted();
-    let end = word.ends_packet();
-    accepted && end
+    word.is_accepted() && word.ends_packet()
 }
 
 // How many bytes of a last word are not valid.
@@ -62,7 +60,7 @@ impl Before {
     pub fn breaks_data(self) -> bool
         ensures { result ≡ data_by self }
     {
-        self.size == 0 && (self.burst.is_none() && !self.after_bad)
+        self.size == 0 && self.burst.is_none() && !self.after_bad
     }
 
     /// Whether a Data word breaks `max`.
@@ -86,12 +84,8 @@ impl Before {
     pub fn breaks_short(self, limits: WordLimits, word: ControlWord) -> bool
         ensures { result ≡ short_by limits self word.0 }
     {
-        let burst = is_burst_word(word);
-        let near = match self.since_burst {
-            Some(between) => between < (limits.burst_short / 8) as u64,
-            None => false,
-        };
-        burst && near
+        let least = (limits.burst_short / 8) as u64;
+        is_burst_word(word) && self.since_burst.is_some_and(|between| between < least)
     }
 
     // Whether a burst with Data is closed at the place.
@@ -105,43 +99,30 @@ impl Before {
     pub fn breaks_end(self, word: ControlWord) -> bool
         ensures { result ≡ end_by self word.0 }
     {
-        let end = ends(word);
-        let closes = self.closes_data();
-        end && (!closes && !self.after_bad)
+        ends(word) && !self.closes_data() && !self.after_bad
     }
 
     /// Whether a Control word breaks `fill`.
     pub fn breaks_fill(self, word: ControlWord) -> bool
         ensures { result ≡ fill_by self word.0 }
     {
-        let accepted = word.is_accepted();
-        let closes = self.closes_data();
-        let filled = has_wrong_fill(word.end_format(), self.last);
-        accepted && (closes && filled)
+        word.is_accepted() && self.closes_data() && has_wrong_fill(word.end_format(), self.last)
     }
 
     /// Whether a Control word breaks `part`.
     pub fn breaks_part(self, word: ControlWord) -> bool
         ensures { result ≡ part_by self word.0 }
     {
-        let accepted = word.is_accepted();
-        let end = word.ends_packet();
-        let closes = self.closes_data();
-        (accepted && !end) && (closes && self.size % 4 != 0)
+        word.is_accepted() && !word.ends_packet() && self.closes_data() && self.size % 4 != 0
     }
 
     // Whether the burst that a Control word closes is not the whole of a packet.
     fn is_partial(self, word: ControlWord) -> bool
         ensures { result ≡ partial_by self word.0 }
     {
-        match self.burst {
-            Some(burst) => {
-                let sop = ControlWord(burst).starts_packet();
-                let end = word.ends_packet();
-                !(sop && end)
-            }
-            None => false,
-        }
+        let end = word.ends_packet();
+        self.burst
+            .is_some_and(|burst| !(ControlWord(burst).starts_packet() && end))
     }
 
     /// Whether a Control word breaks `min`.
@@ -149,9 +130,10 @@ impl Before {
         requires { self.size < 2 ^ 60 }
         ensures { result ≡ min_by limits self word.0 }
     {
-        let accepted = word.is_accepted();
-        let few = burst_bytes(self.size, word.end_format()) < limits.burst_min as u64;
-        let partial = self.is_partial(word);
-        accepted && (self.size != 0 && (few && partial))
+        let bytes = burst_bytes(self.size, word.end_format());
+        word.is_accepted()
+            && self.size != 0
+            && bytes < limits.burst_min as u64
+            && self.is_partial(word)
     }
 }

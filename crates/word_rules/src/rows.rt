@@ -42,9 +42,7 @@ fn is_next_control(next: Option<RxWord>) -> bool
 pub fn breaks_empty(word: ControlWord, next: Option<RxWord>) -> bool
     ensures { result ≡ breaks_empty word.0 next }
 {
-    let burst = is_burst_word(word);
-    let control = is_next_control(next);
-    burst && control
+    is_burst_word(word) && is_next_control(next)
 }
 
 impl Before {
