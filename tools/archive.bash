@@ -4,5 +4,5 @@
 # Whether the archive is absent, or older than a file that it is built of, of its own crate or of a crate below it.
 is_stale() { # ARCHIVE FOLDER
   local main=interlaken_c
-  [ ! -f "$1" ] || is_older "$1" "$2" || [ -n "$(find "$2/crates/$main"/{src,specs,proofs} -newer "$1" -print -quit)" ]
+  [ ! -f "$1" ] || is_older "$1" "$2"
 }

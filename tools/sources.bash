@@ -26,7 +26,7 @@ find_parts() { # FOLDER
   mapfile -t lines < <(lines_of_crates "$1")
   parts=()
   for line in "${lines[@]}"; do
-    for part in "crates/${line%%:*}"/{src,specs,proofs}; do
+    for part in "crates/${line%%[: ]*}"/{src,specs,proofs}; do
       [ ! -d "$1/$part" ] || parts+=("$part")
     done
   done
