@@ -56,7 +56,7 @@ impl CalendarIn {
     ghost use Rattle.calendar.specs.Incoming.{Stands, StandsFor};
 
     /// All channels are on, and no word counts until a reset.
-    pub fn make(alloc: Global, entries: &[u16]) -> Result<CalendarIn, OutOfMemory>
+    pub fn new(alloc: Global, entries: &[u16]) -> Result<CalendarIn, OutOfMemory>
         ensures { IfOk result (λ calendar. Stands calendar entries.now []) }
     {
         let on = vec![in alloc; true; 65536]?;

@@ -29,7 +29,7 @@ impl CalendarOut {
     ghost use Rattle.calendar.specs.Outgoing.{StandsOut};
 
     /// All channels are on, and the next control word is the first.
-    pub fn make(alloc: Global, entries: &[u16]) -> Result<CalendarOut, OutOfMemory>
+    pub fn new(alloc: Global, entries: &[u16]) -> Result<CalendarOut, OutOfMemory>
         requires low { 1 ≤ length entries.now }
         requires high { length entries.now ≤ 1024 }
         ensures { IfOk result (λ calendar. StandsOut calendar entries.now [] 0) }

@@ -43,7 +43,7 @@ pub fn bytes_of_eight(codes: &[u128; 8]) -> [u8; 67]
     ensures bits { bits_of_bytes result ≡ bits_of_codes codes.now }
     ensures each { (i : ℕ) → slice_index result i < 2 ^ 8 }
 {
-    let mut bits = BitWriter::make();
+    let mut bits = BitWriter::new();
     let mut bytes = [0; 67];
     for place in 0..8 {
         bits.push(codes[place]);

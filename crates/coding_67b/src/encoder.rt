@@ -27,7 +27,7 @@ impl Model for Encoder {
 
 impl Encoder {
     /// The encoder of a lane with no code yet.
-    pub fn make() -> Encoder
+    pub fn new() -> Encoder
         ensures value { result ≡ pos 0 }
         ensures codes { result ≡ disparity [] }
     {

@@ -27,7 +27,7 @@ impl<'a> Model for BitReader<'a> {
 
 impl<'a> BitReader<'a> {
     /// All bits of the bytes are left.
-    pub fn make(bytes: &'a [u8]) -> BitReader<'a>
+    pub fn new(bytes: &'a [u8]) -> BitReader<'a>
         ensures { result ≡ bits_of_bytes bytes.now }
     {
         BitReader {

@@ -25,7 +25,7 @@ impl Model for BitWriter {
 
 impl BitWriter {
     /// No bit waits.
-    pub fn make() -> BitWriter
+    pub fn new() -> BitWriter
         ensures { result ≡ [] }
     {
         BitWriter { bits: 0, count: 0 }

@@ -34,7 +34,7 @@ fn put_files(store: &mut MemStore, name: &str, words: &[u8]) -> Result<(), OutOf
 fn store_of(alloc: Global, name: &str, words: &[u8]) -> Result<MemStore, OutOfMemory>
     ensures { IfOk result (λ store. store.faults ≡ 0) }
 {
-    let mut store = MemStore::make(alloc);
+    let mut store = MemStore::new(alloc);
     put_files(&mut store, name, words)?;
     Ok(store)
 }

@@ -21,7 +21,7 @@ const LANE_TEXT: &[u8] = b"lane\nrest 10100101\n";
 fn store_of(alloc: Global, name: &str, bytes: &[u8]) -> Result<MemStore, OutOfMemory>
     ensures { IfOk result (λ store. store.faults ≡ 0) }
 {
-    let mut store = MemStore::make(alloc);
+    let mut store = MemStore::new(alloc);
     store.put(name, bytes)?;
     Ok(store)
 }

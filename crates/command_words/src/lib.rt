@@ -4,10 +4,9 @@
 mod arguments;
 mod command_line;
 mod digits;
-mod law;
+pub mod laws;
 mod table;
 
 pub use arguments::{Arguments, arguments_of};
 pub use command_line::{CommandLine, line_of, read_line};
-pub use law::numbers;
 pub use table::{Name, Row, Rule, row_in, rows};

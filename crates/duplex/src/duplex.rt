@@ -68,7 +68,7 @@ impl<'a> Duplex<'a> {
 
     /// A run before its first slot, without packets. Packets of 1 to `max_packet` bytes come, and whoever receives reads channel
     /// numbers as wide ones where `wide` says so. It answers `OutOfMemory` where memory ran out, and nowhere else.
-    pub fn make(
+    pub fn new(
         alloc: Global,
         shape: Shape,
         channels: &[u16],
@@ -88,10 +88,10 @@ impl<'a> Duplex<'a> {
         ensures given { IfOk result (λ d. IsGiven d) }
         ensures got { IfOk result (λ d. (setting : Setting) → IsSettingOf setting channels.now max_packet wide → HasGot d setting (settings_of settings) 0 [] [] [] []) }
     {
-        let a = Side::make(alloc, shape, channels, entries, settings.delay as usize)?;
-        let b = Side::make(alloc, shape, channels, entries, settings.delay as usize)?;
-        let inbox_a = Inbox::make(alloc, channels, max_packet, wide)?;
-        let inbox_b = Inbox::make(alloc, channels, max_packet, wide)?;
+        let a = Side::new(alloc, shape, channels, entries, settings.delay as usize)?;
+        let b = Side::new(alloc, shape, channels, entries, settings.delay as usize)?;
+        let inbox_a = Inbox::new(alloc, channels, max_packet, wide)?;
+        let inbox_b = Inbox::new(alloc, channels, max_packet, wide)?;
         Ok(Duplex {
             a,
             b,

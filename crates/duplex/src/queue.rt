@@ -87,7 +87,7 @@ impl Queues {
     ghost use Rattle.duplex.specs.Queues.{names, empty_queue, queue_at, joined_by, turned_in, AreQueues, Tells};
 
     /// An empty queue for each channel.
-    pub fn make(alloc: Global) -> Result<Queues, AllocError>
+    pub fn new(alloc: Global) -> Result<Queues, AllocError>
         ensures queues { IfOk result (λ q. AreQueues q) }
         ensures empty { IfOk result (λ q. (channel : ℕ) → queue_at q.by_channel.items channel ≡ empty_queue) }
     {

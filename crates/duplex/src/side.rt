@@ -27,7 +27,7 @@ pub struct Side<'a> {
 
 impl<'a> Side<'a> {
     /// An end that sends no packets, before its first slot.
-    pub fn make(
+    pub fn new(
         alloc: Global,
         shape: Shape,
         channels: &[u16],
@@ -42,8 +42,8 @@ impl<'a> Side<'a> {
         requires among { All (Contains channels.now) entries.now }
         ensures { IfOk result (λ s. (settings : Settings) (ends : Ends) → AreSettings settings → delay ≡ settings.delay → shape ≡ ends.shape → channels.now ≡ ends.channels → entries.now ≡ ends.entries → IsFresh s settings ends []) }
     {
-        let scheduler = Scheduler::make(alloc, shape, channels, entries)?;
-        let queues = Queues::make(alloc)?;
+        let scheduler = Scheduler::new(alloc, shape, channels, entries)?;
+        let queues = Queues::new(alloc)?;
         let way = HeapCircularBuffer::with_capacity(alloc, delay)?;
         Ok(Side {
             scheduler,

@@ -32,7 +32,7 @@ fn two_ends<'a>(alloc: Global, settings: Settings) -> Result<Duplex<'a>, OutOfMe
         group: 28,
         warmup: 4,
     };
-    Duplex::make(alloc, shape, &[1], &[1], 262_144, false, settings)
+    Duplex::new(alloc, shape, &[1], &[1], 262_144, false, settings)
 }
 
 // A packet that end a sends.

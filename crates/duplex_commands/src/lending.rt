@@ -71,7 +71,7 @@ pub fn loaded<'a>(
     requires fit { FitEnds (numbers_of inputs.now.plan.channels.items) (packet_values inputs.now.packets_of_a.items) (packet_values inputs.now.packets_of_b.items) }
     ensures { IfOk result (IsLoaded (duplex_reading inputs.now)) }
 {
-    let mut duplex = Duplex::make(
+    let mut duplex = Duplex::new(
         alloc,
         inputs.plan.shape(),
         channels,

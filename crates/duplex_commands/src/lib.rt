@@ -4,7 +4,7 @@
 mod back;
 mod captures;
 mod command;
-mod law;
+pub mod laws;
 mod lending;
 mod names;
 mod reading;
@@ -15,7 +15,4 @@ mod text;
 mod write;
 
 pub use command::DuplexFile;
-pub use law::{
-    captures_are_sent, duplex_is_work, ends_hold_back, peaks_are_bounded, premises_are_met,
-};
 pub use reading::{DuplexInputs, read_duplex_inputs};

@@ -47,7 +47,7 @@ impl Session {
         let lanes = plan.link.lanes() as usize;
         let finished = none_finished(alloc, lanes)?;
         let fed = none_fed(alloc, lanes)?;
-        let receiver = Receiver::make(alloc, plan)?;
+        let receiver = Receiver::new(alloc, plan)?;
         Ok(Session {
             receiver,
             finished,

@@ -40,7 +40,7 @@ impl Model for LaneSteps {
 
 impl LaneSteps {
     /// A lane of which no byte came. It takes memory here, and none after.
-    pub fn make(alloc: Global, link: &Link) -> Result<LaneSteps, OutOfMemory>
+    pub fn new(alloc: Global, link: &Link) -> Result<LaneSteps, OutOfMemory>
         ensures { IfOk result (λ v. Stands v.lock link.now [] × (v.lock.taken ≡ 0) × (length v.shown ≡ 8)) }
     {
         let lock = LaneLock::new(alloc, link)?;

@@ -1,15 +1,10 @@
 ghost use Rattle.std.specs.Prelude.{◌≡◌, ◌^◌, ◌<◌, ◌≤◌, IfOk, length, map};
 ghost use Rattle.std.specs.List.{range_with_len};
 ghost use Rattle.lane_model.specs.Striping.{lane_payload, share};
-ghost use Rattle.lane_striper.specs.Gathered.{IsGathered, GatheredIsStriped};
+ghost use Rattle.lane_striper.specs.Gathered.{IsGathered};
 
 use lk_base::{OutOfMemory, Word};
 use std::alloc::Global;
-
-/// What is gathered from the lists of some words is those words.
-pub fn gathered_is_striped()
-    ensures { GatheredIsStriped }
-{}
 
 // How many of this many words a lane gets.
 fn share_of(lanes: u32, total: usize, lane: u32) -> usize

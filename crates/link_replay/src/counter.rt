@@ -33,7 +33,7 @@ impl<'w> Model for Counter<'w> {
 impl<'w> Counter<'w> {
     /// Nothing came. There is one skew for each lane of the link, and the words are a whole number of groups. It answers
     /// `OutOfMemory` where memory ran out, and nowhere else; no later call takes memory.
-    pub fn make(
+    pub fn new(
         alloc: Global,
         link: &Link,
         skews: &[u32],
@@ -45,7 +45,7 @@ impl<'w> Counter<'w> {
         ensures counts { IfOk result (λ c. Counts c link.now (λ i. []) []) }
         ensures counted { IfOk result (λ c. (lanes : List (List ℕ)) → HasCounted c link.now lanes (λ i. []) []) }
     {
-        let watch = Watch::make(alloc, link, skews)?;
+        let watch = Watch::new(alloc, link, skews)?;
         Ok(Counter { watch, sent })
     }
 

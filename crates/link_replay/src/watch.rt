@@ -43,7 +43,7 @@ impl Model for Watch {
 
 impl Watch {
     /// Nothing came. There are as many skews as lanes.
-    pub fn make(alloc: Global, link: &Link, skews: &[u32]) -> Result<Watch, OutOfMemory>
+    pub fn new(alloc: Global, link: &Link, skews: &[u32]) -> Result<Watch, OutOfMemory>
         requires { length skews.now ≡ link.now.lanes }
         ensures same { IfOk result (λ v. (v.settings ≡ link.now) × (skews_of v.lanes ≡ skews.now)) }
         ensures watches { IfOk result (λ v. (words : List SentWord) (lanes : List LaneSoFar) (locks : ℕ → List ℕ) →

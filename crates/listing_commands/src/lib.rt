@@ -3,12 +3,11 @@
 
 mod assemble_text;
 mod conversion;
-mod law;
+pub mod laws;
 mod limits;
 mod list_file;
 
 pub use assemble_text::AssembleText;
 pub use conversion::Made;
-pub use law::{listings_undo_each_other, output_names, worked_files};
 pub use limits::{LISTED_LIMIT, TEXT_LIMIT};
 pub use list_file::ListFile;

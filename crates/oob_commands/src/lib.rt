@@ -4,7 +4,7 @@
 
 mod content;
 mod flow_text;
-mod law;
+pub mod laws;
 mod limits;
 mod oob_read;
 mod oob_write;
@@ -13,10 +13,6 @@ mod rows;
 mod samples;
 mod write;
 
-pub use law::{
-    flow_files_are_accepted, handing_over_is_met, oobread_undoes_oobwrite, status_is_read_back,
-    status_is_work, worked_files,
-};
 pub use limits::SAMPLES_LIMIT;
 pub use oob_read::OobRead;
 pub use oob_write::OobWrite;

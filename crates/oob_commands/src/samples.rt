@@ -66,7 +66,7 @@ pub fn fill_samples<S: Store>(
     ensures filled { (was : Option Files) → IsOpen outputs.old (blank (open_names outputs.old)) was (S.files store.old) →
         FilledOne (λ bytes count. AreWritten entries.now local.now bytes × (count ≡ length bytes)) outputs.old outputs.new result was (S.files store.new) }
 {
-    let mut frames = FrameWriter::make(alloc, entries)?;
+    let mut frames = FrameWriter::new(alloc, entries)?;
     let mut samples = Vec::new(alloc);
     'giving: loop {
         if put_frame(alloc, store, outputs, &mut frames, local, &mut samples)? {

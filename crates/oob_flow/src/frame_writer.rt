@@ -78,12 +78,12 @@ impl FrameWriter {
     /// # Errors
     ///
     /// `OutOfMemory` where memory ran out.
-    pub fn make(alloc: Global, entries: &[u16]) -> Result<FrameWriter, OutOfMemory>
+    pub fn new(alloc: Global, entries: &[u16]) -> Result<FrameWriter, OutOfMemory>
         requires low { 1 ≤ length entries.now }
         requires high { length entries.now ≤ 1024 }
         ensures { IfOk result (λ writer. (local : List LocalRow) → StandsAt writer entries.now local 0) }
     {
-        let out = OobOut::make(alloc, entries)?;
+        let out = OobOut::new(alloc, entries)?;
         Ok(FrameWriter {
             out,
             taken: 0,

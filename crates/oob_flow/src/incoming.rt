@@ -21,7 +21,7 @@ impl OobIn {
     ghost use Rattle.oob_flow.specs.Receiving.{StandsIn, HasTaken, Closes};
 
     /// A reader for a calendar of this many entries, 1 to 1,024, before the first sample.
-    pub fn make(entries: u32) -> OobIn
+    pub fn new(entries: u32) -> OobIn
         requires low { 1 ≤ entries }
         requires high { entries ≤ 1024 }
         ensures { StandsIn result entries [] }

@@ -4,7 +4,7 @@
 
 mod capture;
 mod error;
-mod law;
+pub mod laws;
 mod name;
 mod order;
 mod place;
@@ -14,7 +14,6 @@ mod writer;
 
 pub use capture::{CaptureError, packets_of};
 pub use error::{PcapError, refusal_text};
-pub use law::{examples, packets_fit, records_stand, written_is_read};
 pub use name::capture_name;
 pub use place::PacketPlace;
 pub use places::places_of;

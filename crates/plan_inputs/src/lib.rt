@@ -5,7 +5,7 @@
 mod captures;
 mod channel_packets;
 mod inputs;
-mod law;
+pub mod laws;
 mod lending;
 mod plan_file;
 mod reading;
@@ -14,9 +14,6 @@ mod row_files;
 pub use captures::{ReadCaptures, read_captures_within};
 pub use channel_packets::CapturePackets;
 pub use inputs::{PlanInputs, PlanReading};
-pub use law::{
-    capture_packets, narrow_sources, one_source, plan_packets, some_plan_stream, some_source,
-};
 pub use plan_file::{plan_stop, read_plan_file};
 pub use reading::{read_inputs, read_plan_inputs};
 pub use row_files::{read_local_file, read_schedule_file, rows_stop};

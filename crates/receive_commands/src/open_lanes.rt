@@ -44,7 +44,7 @@ impl<'n> OpenLanes<'n> {
         ensures fresh { IfOk result (λ begun. All IsFresh begun.lanes.buffers.items) }
         ensures offsets { IfOk result (λ begun. begun.offsets.items ≡ replicate (length names.now) (Some 0)) }
     {
-        let receiver = Receiver::make(alloc, plan)?;
+        let receiver = Receiver::new(alloc, plan)?;
         let offsets = nothing_read(alloc, names.len())?;
         let lanes = FileLanes::new(alloc, names)?;
         Ok(OpenLanes {

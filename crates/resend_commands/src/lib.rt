@@ -3,13 +3,12 @@
 
 mod carrying;
 mod command;
-mod law;
+pub mod laws;
 mod plan;
 mod reading;
 mod words;
 mod write;
 
 pub use command::ResendPlan;
-pub use law::{premises_are_met, resend_is_work, resent_in_order};
 pub use reading::{ResendInputs, read_resend};
 pub use write::write_plan;

@@ -29,7 +29,7 @@ fn begin(alloc: Global, reading: &PlanReading, window: u32) -> Result<Resend, Ou
     ensures { IfOk result (IsBegun (reading_value reading.now) window) }
 {
     let stream = plan_stream(alloc, reading)?;
-    Resend::make(alloc, &stream.words, window)
+    Resend::new(alloc, &stream.words, window)
 }
 
 // The line of a retransmission.

@@ -65,7 +65,7 @@ fn store_of(alloc: Global) -> Result<MemStore, OutOfMemory>
     ensures { IfOk result (λ store. store.faults ≡ 0) }
 {
     let capture = capture(alloc)?;
-    let mut store = MemStore::make(alloc);
+    let mut store = MemStore::new(alloc);
     fill(&mut store, &capture)?;
     Ok(store)
 }
@@ -96,7 +96,7 @@ fn failing_store(alloc: Global, call: Call, number: u64) -> Result<MemStore, Out
 fn failing_sink(alloc: Global, call: Call, number: u64) -> Result<MemSink, OutOfMemory>
     ensures { IfOk result (λ out. out.faults ≡ 0) }
 {
-    let mut out = MemSink::make(alloc);
+    let mut out = MemSink::new(alloc);
     if let Call::Write = call {
         out.fail(&[number])?;
     }
@@ -124,7 +124,7 @@ fn run_over(alloc: Global, words: &[String], mut store: MemStore, mut out: MemSi
 pub fn run_whole(alloc: Global, texts: [&str; 2]) -> Result<Ended, OutOfMemory> {
     let words = words_of(alloc, texts)?;
     let store = store_of(alloc)?;
-    Ok(run_over(alloc, &words, store, MemSink::make(alloc)))
+    Ok(run_over(alloc, &words, store, MemSink::new(alloc)))
 }
 
 /// The command of these words, where the call of this kind and number fails.

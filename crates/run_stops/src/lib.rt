@@ -3,10 +3,9 @@
 
 mod faults;
 mod inputs;
-mod law;
+pub mod laws;
 mod stop;
 
 pub use faults::{InputError, fault_line, memory_line, usage_line};
 pub use inputs::{probe_input, read_input, read_piece, read_plan};
-pub use law::worked_lines;
 pub use stop::{Stop, input_stop, store_stop};

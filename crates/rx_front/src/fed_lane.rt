@@ -137,7 +137,7 @@ impl FedLane {
         ensures { IfOk result (λ v. IsFresh link.now v × (length v.steps ≡ 8)) }
     {
         let ring = HeapCircularBuffer::with_capacity(alloc, ROOM)?;
-        let steps = LaneSteps::make(alloc, link)?;
+        let steps = LaneSteps::new(alloc, link)?;
         Ok(FedLane {
             ring,
             finished: false,

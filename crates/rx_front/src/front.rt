@@ -67,7 +67,7 @@ const LEAST_BYTES: usize = 16;
 impl Front {
     /// A front for a link, to which nothing was fed. It answers `OutOfMemory` where memory ran out, and nowhere else; no later
     /// call takes memory.
-    pub fn make(alloc: Global, link: &Link) -> Result<Front, OutOfMemory>
+    pub fn new(alloc: Global, link: &Link) -> Result<Front, OutOfMemory>
         ensures { IfOk result (λ v. Stands v link.now (nothing_fed link.now.lanes) [] (begun link.now.lanes) × (v.waiting ≡ []) × (v.over ≡ false) × (v.deskew.settled ≡ true)) }
     {
         let lanes = fresh_lanes(alloc, link)?;

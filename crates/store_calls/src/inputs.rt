@@ -50,7 +50,7 @@ fn put_files(alloc: Global, store: &mut MemStore) -> Result<(), OutOfMemory>
 fn store_of(alloc: Global) -> Result<MemStore, OutOfMemory>
     ensures { IfOk result (λ store. store.faults ≡ 0) }
 {
-    let mut store = MemStore::make(alloc);
+    let mut store = MemStore::new(alloc);
     put_files(alloc, &mut store)?;
     Ok(store)
 }

@@ -17,7 +17,7 @@ const NAME: &str = "folder/file";
 fn tell_long(rt: &HostRuntime) -> io::Result<()> {
     let bytes = Vec::from_elem(rt.alloc(), 7, 70000)?;
     fs::write(rt, LONG, bytes.as_slice())?;
-    let mut store = HostStore::make(rt);
+    let mut store = HostStore::new(rt);
     let whole = read_whole(rt.alloc(), &mut store, LONG, 70000);
     fs::remove_file(rt, LONG)?;
     match whole {
@@ -31,7 +31,7 @@ fn tell_long(rt: &HostRuntime) -> io::Result<()> {
 
 // A file that is not there, and a folder.
 fn tell_absent(rt: &HostRuntime) -> io::Result<()> {
-    let mut store = HostStore::make(rt);
+    let mut store = HostStore::new(rt);
     let mut buf = [0; 8];
     let read = store.read_at(NAME, 0, &mut buf);
     let appended = store.append(NAME, b"ab");
@@ -42,7 +42,7 @@ fn tell_absent(rt: &HostRuntime) -> io::Result<()> {
 
 // A file that is created, grows and is read.
 fn tell_file(rt: &HostRuntime) -> io::Result<()> {
-    let mut store = HostStore::make(rt);
+    let mut store = HostStore::new(rt);
     let mut buf = [0; 8];
     let created = store.create(NAME);
     let first = store.append(NAME, b"abc");
@@ -55,7 +55,7 @@ fn tell_file(rt: &HostRuntime) -> io::Result<()> {
 
 // The same file, read past its end and created again.
 fn tell_again(rt: &HostRuntime) -> io::Result<()> {
-    let mut store = HostStore::make(rt);
+    let mut store = HostStore::new(rt);
     let mut buf = [0; 8];
     let behind = store.read_at(NAME, 9, &mut buf);
     println!(rt; "the file from 9: read {behind:?}")?;
@@ -94,7 +94,7 @@ fn narrow_output(alloc: Global) -> Result<String, OutOfMemory> {
     let narrow = Narrow {
         taken: Cell::new(0),
     };
-    let mut sink = HostSink::make(&narrow);
+    let mut sink = HostSink::new(&narrow);
     let abc = sink.write(b"abc");
     let abcd = sink.write(b"abcd");
     let taken = narrow.taken.get();
@@ -110,7 +110,7 @@ pub fn tell_all(rt: &HostRuntime) -> io::Result<()> {
     tell_again(rt)?;
     fs::remove_dir_all(rt, FOLDER)?;
     tell(rt, "an output of three bytes", narrow_output(rt.alloc()))?;
-    let mut out = HostSink::make(rt);
+    let mut out = HostSink::new(rt);
     let empty = out.write(b"");
     println!(rt; "an empty write to the output: {empty:?}")
 }

@@ -49,7 +49,7 @@ fn make_calls(alloc: Global, store: &mut MemStore) -> Result<String, OutOfMemory
 }
 
 fn each_call(alloc: Global) -> Result<String, OutOfMemory> {
-    let mut store = MemStore::make(alloc);
+    let mut store = MemStore::new(alloc);
     make_calls(alloc, &mut store)
 }
 
@@ -67,7 +67,7 @@ fn append_half(alloc: Global, store: &mut MemStore) -> Result<String, OutOfMemor
 }
 
 fn a_half(alloc: Global) -> Result<String, OutOfMemory> {
-    let mut store = MemStore::make(alloc);
+    let mut store = MemStore::new(alloc);
     append_half(alloc, &mut store)
 }
 
@@ -86,7 +86,7 @@ fn write_thrice(alloc: Global, sink: &mut MemSink) -> Result<String, OutOfMemory
 }
 
 fn three_writes(alloc: Global) -> Result<String, OutOfMemory> {
-    let mut sink = MemSink::make(alloc);
+    let mut sink = MemSink::new(alloc);
     write_thrice(alloc, &mut sink)
 }
 
@@ -105,7 +105,7 @@ fn read_file(alloc: Global, store: &mut MemStore) -> Result<String, OutOfMemory>
 }
 
 fn a_whole_file(alloc: Global) -> Result<String, OutOfMemory> {
-    let mut store = MemStore::make(alloc);
+    let mut store = MemStore::new(alloc);
     read_file(alloc, &mut store)
 }
 

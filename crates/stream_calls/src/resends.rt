@@ -25,9 +25,9 @@ fn carried(alloc: Global) -> Result<Resend, OutOfMemory>
         channel: 1,
         bytes: &bytes,
     }];
-    let source = StreamSource::make(shape, &[1], &[1], &packets, &[], &[]);
+    let source = StreamSource::new(shape, &[1], &[1], &packets, &[], &[]);
     let made = words_of(alloc, &source)?;
-    Resend::make(alloc, &made.words, 2)
+    Resend::new(alloc, &made.words, 2)
 }
 
 // Does these events, and returns how many of them did something.

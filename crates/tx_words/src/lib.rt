@@ -3,7 +3,7 @@
 
 mod bursts;
 mod counts;
-mod laws;
+pub mod laws;
 mod packet;
 mod rows;
 mod sent;
@@ -15,9 +15,6 @@ mod stream_words;
 mod word_maker;
 
 pub use counts::{SentCount, count_listed, count_sent};
-pub use laws::{
-    arguments_are_source, listed_packets_are_sent, made_words_are_first, small_streams,
-};
 pub use packet::{Made, Packet};
 pub use sent::Sent;
 pub use sent_list::SentList;

@@ -110,7 +110,7 @@ impl SentList {
     /// # Errors
     ///
     /// `OutOfMemory` where memory ran out, and nowhere else.
-    pub fn make(alloc: Global, room: usize) -> Result<SentList, OutOfMemory>
+    pub fn new(alloc: Global, room: usize) -> Result<SentList, OutOfMemory>
         ensures { IfOk result (λ l. Lists l [] room) }
     {
         let list = vec![in alloc; NO_PACKET; room]?;

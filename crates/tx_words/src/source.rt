@@ -36,7 +36,7 @@ impl<'a> StreamSource<'a> {
     /// of one channel are sent in their order. The flow rows are what the far end says of its channels, at slots of at most
     /// 16,777,215, and the local rows are this end's own states. Each list of rows is in order of slot, and rows of one slot
     /// count in their order.
-    pub fn make(
+    pub fn new(
         shape: Shape,
         channels: &'a [u16],
         entries: &'a [u16],

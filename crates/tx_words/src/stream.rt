@@ -32,7 +32,7 @@ pub fn words_of(alloc: Global, source: &StreamSource) -> Result<Made, OutOfMemor
     ensures held { IfOk result (λ made. (channel : ℕ) → (made.held ≡ Some channel) ↔ IsHeldOn source.now made.words channel) }
     ensures free { IfOk result (λ made. (made.held ≡ None) ↔ (IsHeld source.now made.words → ⊥)) }
 {
-    let mut maker = WordMaker::make(alloc, source)?;
+    let mut maker = WordMaker::new(alloc, source)?;
     let mut words = WordList::new(alloc);
     let mut block = [Word::Data(0); 512];
     while !maker.is_over() {

@@ -30,7 +30,7 @@ pub fn sent_in(alloc: Global, words: &WordList) -> Result<Vec<Sent>, OutOfMemory
     requires { count_by starts words.now < 2 ^ 32 }
     ensures { IfOk result (λ sent. AreSent words.now sent.items) }
 {
-    let mut list = SentList::make(alloc, 0)?;
+    let mut list = SentList::new(alloc, 0)?;
     for slot in 0..words.len() {
         let word = words.get(slot);
         make_room(&mut list, word)?;

@@ -26,10 +26,10 @@ impl<'a> StreamWords<'a> {
     /// # Errors
     ///
     /// `OutOfMemory` where memory ran out, and nowhere else.
-    pub fn make(alloc: Global, source: &StreamSource<'a>) -> Result<StreamWords<'a>, OutOfMemory>
+    pub fn new(alloc: Global, source: &StreamSource<'a>) -> Result<StreamWords<'a>, OutOfMemory>
         ensures { IfOk result (λ s. Streams s source.now []) }
     {
-        let maker = WordMaker::make(alloc, source)?;
+        let maker = WordMaker::new(alloc, source)?;
         let tallies = no_tallies(alloc)?;
         Ok(StreamWords { maker, tallies })
     }

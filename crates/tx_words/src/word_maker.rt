@@ -27,7 +27,7 @@ pub struct WordMaker<'a> {
 fn loaded<'a>(alloc: Global, source: &StreamSource<'a>) -> Result<Scheduler<'a>, OutOfMemory>
     ensures { IfOk result (λ s. Gives s (driven source.now [] 0 0 0 false false)) }
 {
-    let mut scheduler = Scheduler::make(alloc, source.shape, source.channels, source.entries)?;
+    let mut scheduler = Scheduler::new(alloc, source.shape, source.channels, source.entries)?;
     for packet in source.packets {
         scheduler.add_packet(packet.channel, packet.bytes)?;
     }
@@ -42,7 +42,7 @@ impl<'a> WordMaker<'a> {
     /// # Errors
     ///
     /// `OutOfMemory` where memory ran out, and nowhere else.
-    pub fn make(alloc: Global, source: &StreamSource<'a>) -> Result<WordMaker<'a>, OutOfMemory>
+    pub fn new(alloc: Global, source: &StreamSource<'a>) -> Result<WordMaker<'a>, OutOfMemory>
         ensures { IfOk result (λ m. GaveWords m source.now []) }
     {
         let scheduler = loaded(alloc, source)?;

@@ -25,7 +25,7 @@ fn append_samples(out: &mut OobOut, count: u32, samples: &mut Vec<u8>) -> Result
 // Two frames of channel 1, which is turned off within the first.
 fn turned_off_within(alloc: Global) -> Result<Vec<u8>, OutOfMemory> {
     let mut samples = Vec::new(alloc);
-    let mut out = OobOut::make(alloc, &[1])?;
+    let mut out = OobOut::new(alloc, &[1])?;
     append_samples(&mut out, 6, &mut samples)?;
     out.set(1, false);
     append_samples(&mut out, 14, &mut samples)?;
@@ -35,7 +35,7 @@ fn turned_off_within(alloc: Global) -> Result<Vec<u8>, OutOfMemory> {
 // A frame of the channels 1 and 2, of which 2 is off.
 fn second_off(alloc: Global) -> Result<Vec<u8>, OutOfMemory> {
     let mut samples = Vec::new(alloc);
-    let mut out = OobOut::make(alloc, &[1, 2])?;
+    let mut out = OobOut::new(alloc, &[1, 2])?;
     out.set(2, false);
     append_samples(&mut out, 12, &mut samples)?;
     Ok(samples)
@@ -45,7 +45,7 @@ fn second_off(alloc: Global) -> Result<Vec<u8>, OutOfMemory> {
 fn written(alloc: Global, row: LocalRow) -> Result<(Vec<u8>, bool, bool, u64), OutOfMemory> {
     let mut samples = Vec::new(alloc);
     let local = [row];
-    let mut writer = FrameWriter::make(alloc, &[1])?;
+    let mut writer = FrameWriter::new(alloc, &[1])?;
     let first = writer.next(&local, &mut samples)?;
     let second = writer.next(&local, &mut samples)?;
     let given = writer.given();
@@ -57,7 +57,7 @@ fn tell_rows(rt: &HostRuntime, name: &str, entries: u32, samples: &[u8]) -> io::
     requires low { 1 ≤ entries }
     requires high { entries ≤ 1024 }
 {
-    let mut reader = OobIn::make(entries);
+    let mut reader = OobIn::new(entries);
     for (number, sample) in samples.iter().enumerate() {
         let mut words = ArrayVec::new();
         reader.sample(*sample % 8, &mut words);

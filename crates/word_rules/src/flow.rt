@@ -70,7 +70,7 @@ impl Flow {
     pub fn new(alloc: Global, entries: &[u16], rows: &[FlowRow]) -> Result<Flow, OutOfMemory>
         ensures { IfOk result (λ flow. (t : ℕ) → IsFlow flow entries.now rows.now t) }
     {
-        let calendar = CalendarIn::make(alloc, entries)?;
+        let calendar = CalendarIn::new(alloc, entries)?;
         let own = Vec::from_slice(alloc, rows)?;
         Ok(Flow {
             calendar,

@@ -147,6 +147,6 @@ pub fn put_lane(
     ensures kept { IsKept out.old.items out.new.items }
 {
     let mut spelled = Vec::new(alloc);
-    let mut writer = BitWriter::make();
+    let mut writer = BitWriter::new();
     put_lines(&mut spelled, &mut writer, lines, out)
 }

@@ -7,7 +7,7 @@ mod cut;
 mod digits;
 mod error;
 mod lane_of_text;
-mod law;
+pub mod laws;
 mod line_of_code;
 mod line_of_word;
 mod piece;
@@ -20,10 +20,6 @@ mod words_of_text;
 
 pub use bytes_of_text::assemble;
 pub use error::WordsAt;
-pub use law::{
-    assembling_undoes_listing, examples, files_have_listings, lengths_of_listings,
-    listing_undoes_assembling, listings_are_determined, refusals_are_determined, worked_texts,
-};
 pub use text_of_lane::list_lane;
 pub use text_of_words::list_words;
 pub use words_files::TextError;

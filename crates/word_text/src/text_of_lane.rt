@@ -43,7 +43,7 @@ fn put_lane_text(alloc: Global, bytes: &[u8], out: &mut Vec<u8>) -> Result<u64, 
 {
     put(out, b"lane\n")?;
     let mut line = Vec::new(alloc);
-    let mut reader = BitReader::make(bytes);
+    let mut reader = BitReader::new(bytes);
     let mut piece = next_piece(&mut reader);
     let mut count = 1u64;
     while piece.count == CODE_BITS {

@@ -60,7 +60,7 @@ impl WordsFile {
     /// # Errors
     ///
     /// The refusal of the file, and nothing else.
-    pub fn make(bytes: Vec<u8>) -> Result<WordsFile, WordsError>
+    pub fn new(bytes: Vec<u8>) -> Result<WordsFile, WordsError>
         ensures { MatchResult result
             (λ words. words_of_file bytes.items ≡ Ok words)
             (λ refusal. words_of_file bytes.items ≡ Err refusal) }

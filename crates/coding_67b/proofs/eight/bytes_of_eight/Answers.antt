@@ -4,7 +4,7 @@ use Rattle.coding_67b.proofs.Runs.{no_codes, number_more}
 use Rattle.coding_67b.proofs.eight.bytes_of_eight.Goals as goal
 
 pub loop-place-init : goal.loop-place-init
-loop-place-init c = (c.make-bits.ensures ∙ sym no_codes, ap length c.make-bits.ensures)
+loop-place-init c = (c.new-bits.ensures ∙ sym no_codes, ap length c.new-bits.ensures)
 
 pub loop-place-preserved : goal.loop-place-preserved
 loop-place-preserved c =

@@ -16,28 +16,28 @@ use Rattle.duplex_commands.proofs.Lends.{keeps_both}
 use Rattle.duplex_commands.proofs.Loads.{is_loaded, on_order, has_room}
 use Rattle.duplex_commands.proofs.lending.loaded.Goals as goal
 
-pub make-requires-clause-channels_low : goal.make-requires-clause-channels_low
-make-requires-clause-channels_low c =
+pub new-requires-clause-channels_low : goal.new-requires-clause-channels_low
+new-requires-clause-channels_low c =
     let p = c.args.inputs.now.plan in
     let numbers = numbers_of p.channels.items in
     let rows = length-map p.channels.items (λ (r : ChannelRow). r.number) in
     let some = p.some_channels in
     subst (λ (cs : List ℕ). 1 ≤ length cs) (sym c.requires.channels) (order-some numbers (fit-top p.wide numbers p.in_width) (omega (arith, rows, some)))
 
-pub make-requires-clause-channels_high : goal.make-requires-clause-channels_high
-make-requires-clause-channels_high c = subst (λ (cs : List ℕ). length cs ≤ 1024) (sym c.requires.channels) (few_in_order c.args.inputs.now.plan)
+pub new-requires-clause-channels_high : goal.new-requires-clause-channels_high
+new-requires-clause-channels_high c = subst (λ (cs : List ℕ). length cs ≤ 1024) (sym c.requires.channels) (few_in_order c.args.inputs.now.plan)
 
-pub make-requires-clause-entries_low : goal.make-requires-clause-entries_low
-make-requires-clause-entries_low c = subst (λ (es : List ℕ). 1 ≤ length es) (sym c.deref.ensures.value) c.args.inputs.now.plan.some_entries
+pub new-requires-clause-entries_low : goal.new-requires-clause-entries_low
+new-requires-clause-entries_low c = subst (λ (es : List ℕ). 1 ≤ length es) (sym c.deref.ensures.value) c.args.inputs.now.plan.some_entries
 
-pub make-requires-clause-entries_high : goal.make-requires-clause-entries_high
-make-requires-clause-entries_high c = subst (λ (es : List ℕ). length es ≤ 1024) (sym c.deref.ensures.value) c.args.inputs.now.plan.few_entries
+pub new-requires-clause-entries_high : goal.new-requires-clause-entries_high
+new-requires-clause-entries_high c = subst (λ (es : List ℕ). length es ≤ 1024) (sym c.deref.ensures.value) c.args.inputs.now.plan.few_entries
 
-pub make-requires-clause-distinct : goal.make-requires-clause-distinct
-make-requires-clause-distinct c = subst (AllPairs (λ (x y : ℕ). x ≡ y → ⊥)) (sym c.requires.channels) (differ_in_order (numbers_of c.args.inputs.now.plan.channels.items))
+pub new-requires-clause-distinct : goal.new-requires-clause-distinct
+new-requires-clause-distinct c = subst (AllPairs (λ (x y : ℕ). x ≡ y → ⊥)) (sym c.requires.channels) (differ_in_order (numbers_of c.args.inputs.now.plan.channels.items))
 
-pub make-requires-clause-among : goal.make-requires-clause-among
-make-requires-clause-among c =
+pub new-requires-clause-among : goal.new-requires-clause-among
+new-requires-clause-among c =
     let p = c.args.inputs.now.plan in
     subst (λ (es : List ℕ). All (Contains c.args.channels.now) es) (sym c.deref.ensures.value)
     (subst (λ (cs : List ℕ). All (Contains cs) p.entries.items) (sym c.requires.channels) (entries_in_order p.wide (numbers_of p.channels.items) p.entries.items p.in_width p.listed))

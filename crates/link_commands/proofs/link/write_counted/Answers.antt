@@ -13,11 +13,11 @@ use Rattle.link_commands.specs.Values.{planned_value}
 use Rattle.link_commands.proofs.Writing.{came_of, counted_here, kept_words, stopped_link}
 use Rattle.link_commands.proofs.link.write_counted.Goals as goal
 
-pub make-requires-clause-skews : goal.make-requires-clause-skews
-make-requires-clause-skews g c = ap length c.as_slice.ensures.value ∙ c.requires.skews
+pub new-requires-clause-skews : goal.new-requires-clause-skews
+new-requires-clause-skews g c = ap length c.as_slice.ensures.value ∙ c.requires.skews
 
-pub make-requires-clause-whole : goal.make-requires-clause-whole
-make-requires-clause-whole g c =
+pub new-requires-clause-whole : goal.new-requires-clause-whole
+new-requires-clause-whole g c =
     let (inputs, is) = c.requires.carried in
     let i = planned_value c.args.plan.now inputs c.args.schedule.now in
     let carried = c.args.carried.now in

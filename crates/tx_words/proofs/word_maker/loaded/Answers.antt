@@ -49,20 +49,20 @@ returns c =
     (take_all c.loop-packet.packet-index packets (omega (arith, over))) c.loop-packet.invariant in
     subst (λ (ps : List (ℕ × List ℕ)). Gives c.loop-packet.scheduler (driven (having_packets c.args.source.now ps) [] 0 0 0 false false)) (ap (λ (q : Source). q.packets) c.source.view_is) all
 
-pub make-requires-clause-channels_low : goal.make-requires-clause-channels_low
-make-requires-clause-channels_low c = c.source.invariant.0.channels_low
+pub new-requires-clause-channels_low : goal.new-requires-clause-channels_low
+new-requires-clause-channels_low c = c.source.invariant.0.channels_low
 
-pub make-requires-clause-channels_high : goal.make-requires-clause-channels_high
-make-requires-clause-channels_high c = c.source.invariant.0.channels_high
+pub new-requires-clause-channels_high : goal.new-requires-clause-channels_high
+new-requires-clause-channels_high c = c.source.invariant.0.channels_high
 
-pub make-requires-clause-entries_low : goal.make-requires-clause-entries_low
-make-requires-clause-entries_low c = c.source.invariant.0.entries_low
+pub new-requires-clause-entries_low : goal.new-requires-clause-entries_low
+new-requires-clause-entries_low c = c.source.invariant.0.entries_low
 
-pub make-requires-clause-entries_high : goal.make-requires-clause-entries_high
-make-requires-clause-entries_high c = c.source.invariant.0.entries_high
+pub new-requires-clause-entries_high : goal.new-requires-clause-entries_high
+new-requires-clause-entries_high c = c.source.invariant.0.entries_high
 
-pub make-requires-clause-distinct : goal.make-requires-clause-distinct
-make-requires-clause-distinct c = c.source.invariant.0.distinct
+pub new-requires-clause-distinct : goal.new-requires-clause-distinct
+new-requires-clause-distinct c = c.source.invariant.0.distinct
 
-pub make-requires-clause-among : goal.make-requires-clause-among
-make-requires-clause-among c = c.source.invariant.0.among
+pub new-requires-clause-among : goal.new-requires-clause-among
+new-requires-clause-among c = c.source.invariant.0.among

@@ -30,7 +30,7 @@ none-left count bits reader z e = last-only count bits reader e ∙ ap (λ (n : 
 
 pub loop-piece-init : goal.loop-piece-init
 loop-piece-init c =
-    let size = ap length c.make-reader.ensures ∙ length-flat_map_bits 8 c.args.bytes.now in
+    let size = ap length c.new-reader.ensures ∙ length-flat_map_bits 8 c.args.bytes.now in
     let next = c.next_piece-piece.ensures in
     let left = taken _ c.next_piece-piece.new.reader c.next_piece-piece.result.count c.next_piece-piece.result.bits next.bits in
     record {
@@ -39,7 +39,7 @@ loop-piece-init c =
       last = next.all;
       first = omega arith;
       room = omega (arith, size, left);
-      listed = no-lines c.args.out.now.items c.put.new.line.items (bits_of_bytes c.args.bytes.now) (bits_of c.next_piece-piece.result.count c.next_piece-piece.result.bits ++ c.next_piece-piece.new.reader) (c.in_ok-put.ensures {u = tt}).ok (sym c.make-reader.ensures ∙ next.bits);
+      listed = no-lines c.args.out.now.items c.put.new.line.items (bits_of_bytes c.args.bytes.now) (bits_of c.next_piece-piece.result.count c.next_piece-piece.result.bits ++ c.next_piece-piece.new.reader) (c.in_ok-put.ensures {u = tt}).ok (sym c.new-reader.ensures ∙ next.bits);
     }
 
 pub put_code-requires : goal.put_code-requires

@@ -1,5 +1,0 @@
-use Rattle.lane_commands.proofs.StripeLaws as laws
-use Rattle.lane_commands.proofs.law.stripe_sends_burst.Goals as goal
-
-pub returns : goal.returns
-returns c = laws.stripe_sends_burst

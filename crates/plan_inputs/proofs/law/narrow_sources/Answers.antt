@@ -1,5 +1,0 @@
-use Rattle.plan_inputs.proofs.PlanChannels.{narrow_source}
-use Rattle.plan_inputs.proofs.law.narrow_sources.Goals as goal
-
-pub returns : goal.returns
-returns c = narrow_source

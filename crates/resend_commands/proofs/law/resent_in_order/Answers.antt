@@ -1,5 +1,0 @@
-use Rattle.resend_commands.proofs.InOrder.{resent_in_order}
-use Rattle.resend_commands.proofs.law.resent_in_order.Goals as goal
-
-pub returns : goal.returns
-returns c = resent_in_order

@@ -1,8 +1,0 @@
-use Rattle.tx_words.proofs.stream_words.StreamWords.make.Goals as goal
-
-pub returns : goal.returns
-returns c = record {
-  gave = c.in_ok-maker.ensures;
-  long = c.in_ok-tallies.ensures.len;
-  bursts = c.in_ok-tallies.ensures.none;
-}
