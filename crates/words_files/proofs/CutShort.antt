@@ -3,7 +3,8 @@ use Rattle.std.proofs.Common.{ℕ, ◌≡◌, ◌+◌, ◌<◌, ◌≤◌, List,
 use Rattle.std.proofs.lemmas.List.{take-append-drop, take_more}
 use Rattle.std.proofs.lemmas.List.Concat.{flat_map-append}
 use Rattle.lk_base.specs.declared.word.Word.{Word}
-use Rattle.words_files.specs.WordsFile.{IsCutShort, word_bytes, words_file}
+use Rattle.lk_base.specs.CutShort.{IsCutShort}
+use Rattle.words_files.specs.WordsFile.{word_bytes, words_file}
 
 pub none_came : (old more new : List ℕ) → 1 ≤ length more → new ≡ old → IsCutShort old more new
 none_came old more new not_all same = record { first = []; rest = more; parts = refl; not_all = not_all; now = same ∙ sym (append-nil old) }

@@ -1,0 +1,16 @@
+//! The links of these calls.
+use lk_base::{Link, LinkSettings};
+
+/// A link with one Skip word, and with bursts of 64 to 256 bytes; none where the numbers are out of range.
+pub fn link_of(lanes: u32, metaframe: u32) -> Option<Link> {
+    Link::new(LinkSettings {
+        lanes,
+        metaframe,
+        skips: 1,
+        burst_max: 256,
+        burst_short: 64,
+        deskew: 7,
+        warmup: 4,
+        max_packet: 262_144,
+    })
+}
