@@ -1,10 +1,8 @@
-ghost use Rattle.std.specs.Prelude.{◌≡◌, ◌++◌, IfOk, codes, string_bytes};
+ghost use Rattle.std.specs.Prelude.{◌++◌, codes};
 ghost use Rattle.std.specs.Fmt.{WritesOnOk, decimal};
 ghost use Rattle.pcap_files.specs.declared.error.PcapError.TheVariants.{Magic, Version, Long};
 ghost use Rattle.pcap_files.specs.Texts.{refusal_text};
 
-use lk_base::OutOfMemory;
-use std::alloc::Global;
 use std::fmt;
 use thiserror::Error;
 
@@ -54,6 +52,8 @@ fn write_long<W: fmt::Write>(f: &mut fmt::Formatter<W>, number: u64, length: u32
     write!(f, "long record {number} length {length}")
 }
 
+/// `magic XXXXXXXX` with eight upper case hexadecimal digits, `pcapng`, `version A.B`, `short at O`, `empty record N` or
+/// `long record N length M`, with no line end.
 impl fmt::Display for PcapError {
     ghost use Rattle.std.specs.Prelude.{Some};
     ghost use Rattle.pcap_files.specs.Texts.{refusal_text};
@@ -70,13 +70,4 @@ impl fmt::Display for PcapError {
             PcapError::Long(number, length) => write_long(f, number, length),
         }
     }
-}
-
-/// The text of a refusal, the one that `Display` writes: `magic XXXXXXXX` with eight upper case hexadecimal digits,
-/// `pcapng`, `version A.B`, `short at O`, `empty record N` or `long record N length M`, with no line end.
-pub fn refusal_text(alloc: Global, why: &PcapError) -> Result<String, OutOfMemory>
-    ensures { IfOk result (λ text. string_bytes text ≡ refusal_text why.now) }
-{
-    let text = format!(in alloc; "{why}")?;
-    Ok(text)
 }

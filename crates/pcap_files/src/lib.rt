@@ -13,7 +13,7 @@ mod reader;
 mod writer;
 
 pub use capture::{CaptureError, packets_of};
-pub use error::{PcapError, refusal_text};
+pub use error::PcapError;
 pub use name::capture_name;
 pub use place::PacketPlace;
 pub use places::places_of;

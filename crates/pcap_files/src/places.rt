@@ -22,7 +22,7 @@ fn place_at(offset: u32, packet: &[u8]) -> PacketPlace
 }
 
 // The offset after a packet.
-fn behind(place: PacketPlace) -> u32
+fn after(place: PacketPlace) -> u32
     requires { place.start + place.size < 2 ^ 32 }
     ensures { result ≡ place.start + place.size }
 {
@@ -52,7 +52,7 @@ pub fn places_of(alloc: Global, bytes: &[u8], most: u32) -> Result<Vec<PacketPla
                 if places.push(place).is_err() {
                     return Err(CaptureError::OutOfMemory);
                 }
-                offset = behind(place);
+                offset = after(place);
             }
             Ok(None) => return Ok(places),
             Err(e) => return Err(CaptureError::Refused(e)),

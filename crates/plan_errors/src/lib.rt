@@ -3,4 +3,4 @@
 
 mod error;
 
-pub use error::{Key, PlanError, refusal_text};
+pub use error::{Key, PlanError};

@@ -8,8 +8,8 @@ place_at-place-requires c = let fits = next_inside _ _ _ _ _ _ _ c.loop-packet.i
     let few = c.requires in
     omega arith
 
-pub behind-offset-requires : goal.behind-offset-requires
-behind-offset-requires c =
+pub after-offset-requires : goal.after-offset-requires
+after-offset-requires c =
     let fits = next_inside _ _ _ _ _ _ _ c.loop-packet.invariant (rw c.in-Ok-Some.field-0-is at c.in-Ok-Some.ensures.some) in
     let few = c.requires in
     let start = c.place_at-place.ensures.start in
@@ -23,7 +23,7 @@ no_err (Err e) h = absurd cc
 
 pub loop-packet-preserved : goal.loop-packet-preserved
 loop-packet-preserved c =
-    rw (c.push.ensures.items, no_err c.push.result (sym c.is_err.ensures.value ∙ c.if-is_err.false), c.behind-offset.ensures)
+    rw (c.push.ensures.items, no_err c.push.result (sym c.is_err.ensures.value ∙ c.if-is_err.false), c.after-offset.ensures)
     (one_more _ _ _ _ _ _ _ c.loop-packet.invariant (rw c.in-Ok-Some.field-0-is at c.in-Ok-Some.ensures.some) c.place_at-place.result c.place_at-place.ensures.start c.place_at-place.ensures.size)
 
 pub returns-in-Ok-None-clause-whole : goal.returns-in-Ok-None-clause-whole

@@ -4,7 +4,7 @@ use Rattle.csv.specs.Records.{fields_of}
 use Rattle.csv_rows.specs.Rows.{Row}
 use Rattle.csv_rows.specs.Fields.{field}
 use Rattle.csv_rows.proofs.Beside.{beside-more, beside-here, beside-none, fields-at, text-row}
-use Rattle.csv_rows.proofs.texts.text_of.Goals as goal
+use Rattle.csv_rows.proofs.texts.text_beside.Goals as goal
 
 pub text_at-requires : goal.text_at-requires
 text_at-requires c =
