@@ -3,9 +3,8 @@ use Rattle.std.proofs.Common.{◌≡◌, ℕ, List, [], ◌++◌, refl, sym, ap,
 use Rattle.words_files.specs.WordsOfFile.{words_of_file}
 use Rattle.words_files.specs.declared.error.WordsError.{WordsError}
 use Rattle.words_files.specs.declared.text_error.TextError.{TextError}
-use Rattle.word_text.specs.declared.error.WordsAt.{WordsAt}
 use Rattle.word_text.specs.Refusals.{IsRefusedFor}
-use Rattle.word_text.specs.Answers.{words_error, ListsWords, AnswersWords, ListsLane, Assembles}
+use Rattle.word_text.specs.Answers.{ListsWords, AnswersWords, ListsLane, Assembles}
 use Rattle.run_stops.specs.declared.faults.InputError.TheVariants.{Words}
 use Rattle.listing_commands.specs.Listing.{IsTextOfWords, IsTextOfLane, RefusesWords}
 
@@ -15,17 +14,14 @@ behind-none old new text e f = f ∙ ap (λ (o : List ℕ). o ++ text) e
 words-listed : (bytes old new : List ℕ) (count : ℕ) → old ≡ [] → ListsWords bytes old new count → IsTextOfWords bytes new count
 words-listed bytes old new count e l = subst (λ (t : List ℕ). IsTextOfWords bytes t count) (sym (behind-none old new l.text e l.put)) (l.listing, l.counted)
 
-pub words-text : (bytes old new : List ℕ) (answer : Result ℕ WordsAt) (count : ℕ) → old ≡ [] → answer ≡ Ok count → AnswersWords bytes old new answer → IsTextOfWords bytes new count
+pub words-text : (bytes old new : List ℕ) (answer : Result ℕ WordsError) (count : ℕ) → old ≡ [] → answer ≡ Ok count → AnswersWords bytes old new answer → IsTextOfWords bytes new count
 words-text bytes old new answer count e is h = words-listed bytes old new count e (subst (AnswersWords bytes old new) is h)
 
 pub lane-text : (bytes old new : List ℕ) (count : ℕ) → old ≡ [] → ListsLane bytes old new count → IsTextOfLane bytes new count
 lane-text bytes old new count e l = subst (λ (t : List ℕ). IsTextOfLane bytes t count) (sym (behind-none old new l.text e l.put)) (l.listing, l.counted)
 
-refused-as : (bytes old new : List ℕ) (answer : Result ℕ WordsAt) (refusal : WordsAt) → answer ≡ Err refusal → AnswersWords bytes old new answer → words_of_file bytes ≡ Err (words_error refusal)
-refused-as bytes old new answer refusal is h = (subst (AnswersWords bytes old new) is h).0
-
-pub words-refused : (bytes old new : List ℕ) (answer : Result ℕ WordsAt) (refusal : WordsAt) (why : WordsError) → answer ≡ Err refusal → why ≡ words_error refusal → AnswersWords bytes old new answer → RefusesWords bytes (Words why)
-words-refused bytes old new answer refusal why is e h = (why, refused-as bytes old new answer refusal is h ∙ ap (λ (w : WordsError). Err w) (sym e), refl)
+pub words-refused : (bytes old new : List ℕ) (answer : Result ℕ WordsError) (refusal : WordsError) → answer ≡ Err refusal → AnswersWords bytes old new answer → RefusesWords bytes (Words refusal)
+words-refused bytes old new answer refusal is h = (refusal, (subst (AnswersWords bytes old new) is h).0, refl)
 
 pub text-refused : (text old new : List ℕ) (answer : Result (Unit {0}) TextError) (why : TextError) → answer ≡ Err why → Assembles text old new answer → IsRefusedFor text why
 text-refused text old new answer why is h = (subst (Assembles text old new) is h).0

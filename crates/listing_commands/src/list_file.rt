@@ -27,7 +27,7 @@ fn list_words_file(alloc: Global, file: &str, bytes: &[u8]) -> Result<Made, Stop
     let mut content = Vec::new(alloc);
     match list_words(alloc, bytes, &mut content)? {
         Ok(count) => Ok(Made { content, count }),
-        Err(refusal) => Err(input_stop(alloc, file, InputError::Words(refusal.words_error()))),
+        Err(refusal) => Err(input_stop(alloc, file, InputError::Words(refusal))),
     }
 }
 

@@ -3,7 +3,7 @@ use Rattle.std.proofs.Common.{inl, inr, ◌≡◌, ℕ, ◌+◌, Result, Ok, Err
 use Rattle.std.specs.List.{flat_map}
 use Rattle.lk_base.specs.declared.word.RxWord.{RxWord}
 use Rattle.words_files.specs.WordsOfFile.{words_of_file}
-use Rattle.word_text.specs.declared.error.WordsAt.{WordsAt}
+use Rattle.words_files.specs.declared.error.WordsError.{WordsError}
 use Rattle.words_files.specs.declared.text_error.TextError.{TextError}
 use Rattle.word_text.specs.declared.word.FileWord.{FileWord}
 use Rattle.word_text.specs.Lines.{ended}
@@ -35,11 +35,11 @@ accepted-by (w ∷ ws) bytes rest offset e r =
 pub accepted : (text bytes : List ℕ) → IsWordsListing text bytes → (words : List RxWord) × (words_of_file bytes ≡ Ok words)
 accepted text bytes a = accepted-by a.words bytes bytes 0 a.file (read-none bytes)
 
-listed-by : (text bytes old new : List ℕ) (answer : Result ℕ WordsAt) → IsWordsListing text bytes → AnswersWords bytes old new answer → (count : ℕ) × (answer ≡ Ok count) × (new ≡ old ++ text)
+listed-by : (text bytes old new : List ℕ) (answer : Result ℕ WordsError) → IsWordsListing text bytes → AnswersWords bytes old new answer → (count : ℕ) × (answer ≡ Ok count) × (new ≡ old ++ text)
 listed-by text bytes old new (Ok count) a l = (count, refl, l.put ∙ ap (λ (t : List ℕ). old ++ t) (one-text l.text text bytes l.listing a))
 listed-by text bytes old new (Err why) a (r, e) = let (words, ok) = accepted text bytes a in absurd cc
 
-pub words-again : (lines bytes old new : List ℕ) (answer : Result ℕ WordsAt) → Assembles (ended words_head ++ lines) [] bytes (Ok tt) → AnswersWords bytes old new answer → (count : ℕ) × (answer ≡ Ok count) × (new ≡ old ++ (ended words_head ++ lines))
+pub words-again : (lines bytes old new : List ℕ) (answer : Result ℕ WordsError) → Assembles (ended words_head ++ lines) [] bytes (Ok tt) → AnswersWords bytes old new answer → (count : ℕ) × (answer ≡ Ok count) × (new ≡ old ++ (ended words_head ++ lines))
 words-again lines bytes old new answer (other, k, e) =
     listed-by (ended words_head ++ lines) bytes old new answer (subst (IsWordsListing (ended words_head ++ lines)) (sym e) (words-kind lines other k))
 

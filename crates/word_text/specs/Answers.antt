@@ -2,19 +2,11 @@
 use Rattle.std.specs.Prelude.{ℕ, ◌≡◌, ◌+◌, Result, Ok, Err, List, ◌++◌, length}
 use Rattle.lk_base.specs.declared.word.RxWord.{RxWord}
 use Rattle.words_files.specs.declared.error.WordsError.{WordsError}
-use Rattle.words_files.specs.declared.error.WordsError.TheVariants as words
 use Rattle.words_files.specs.WordsOfFile.{words_of_file}
-use Rattle.word_text.specs.declared.error.WordsAt.{WordsAt}
-use Rattle.word_text.specs.declared.error.WordsAt.TheVariants as at
 use Rattle.words_files.specs.declared.text_error.TextError.{TextError}
 use Rattle.word_text.specs.CodeLines.{rest_lines}
 use Rattle.word_text.specs.Listings.{IsWordsListing, IsLaneListing, IsListing}
 use Rattle.word_text.specs.Refusals.{IsRefusedFor}
-
--- the refusal of a words file, as its readers report it
-abbrev pub words_error : WordsAt → WordsError
-words_error (at.Tag offset) = words.Tag offset
-words_error (at.Short offset) = words.Short offset
 
 -- the listing of a words file that its readers accept was appended to `old`, with this many lines
 pub record ListsWords (bytes old new : List ℕ) (count : ℕ) : Type 0 where
@@ -26,9 +18,9 @@ pub record ListsWords (bytes old new : List ℕ) (count : ℕ) : Type 0 where
   pub accepted : words_of_file bytes ≡ Ok read
 
 -- the answer to a words file: its listing was appended to `old`, or it is refused as its readers refuse it and nothing changed
-abbrev pub AnswersWords : List ℕ → List ℕ → List ℕ → Result ℕ WordsAt → Type 0
+abbrev pub AnswersWords : List ℕ → List ℕ → List ℕ → Result ℕ WordsError → Type 0
 AnswersWords bytes old new (Ok count) = ListsWords bytes old new count
-AnswersWords bytes old new (Err refusal) = (words_of_file bytes ≡ Err (words_error refusal)) × (new ≡ old)
+AnswersWords bytes old new (Err refusal) = (words_of_file bytes ≡ Err refusal) × (new ≡ old)
 
 -- the listing of a lane file was appended to `old`, with this many lines
 pub record ListsLane (bytes old new : List ℕ) (count : ℕ) : Type 0 where

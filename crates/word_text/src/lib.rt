@@ -5,7 +5,6 @@ mod bytes_of_text;
 mod code_of_line;
 mod cut;
 mod digits;
-mod error;
 mod lane_of_text;
 pub mod laws;
 mod line_of_code;
@@ -19,7 +18,6 @@ mod word_of_line;
 mod words_of_text;
 
 pub use bytes_of_text::assemble;
-pub use error::WordsAt;
 pub use text_of_lane::list_lane;
 pub use text_of_words::list_words;
-pub use words_files::TextError;
+pub use words_files::{TextError, WordsError};

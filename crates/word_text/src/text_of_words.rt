@@ -1,18 +1,18 @@
 ghost use Rattle.std.specs.Prelude.{false, Err, OnOk, IfErr, ◌≡◌, ◌<◌, ◌≤◌, ◌++◌, ℕ, List, Some, length, take, IfOk, OnErr, MatchResult};
 ghost use Rattle.words_files.specs.WordsOfFile.{first_refusal, has_wrong_tag, words_of_file};
 ghost use Rattle.word_text.specs.Bytes.{IsKept};
-ghost use Rattle.word_text.specs.Answers.{words_error, ListsWords, AnswersWords};
+ghost use Rattle.word_text.specs.Answers.{ListsWords, AnswersWords};
 ghost use Rattle.word_text.specs.WordLines.{nine_bytes, IsSized, IsWordLine};
 ghost use Rattle.word_text.specs.Lines.{ended};
 
 use crate::cut::after;
 use crate::digits::{put, put_byte};
-use crate::error::WordsAt;
 use crate::line_of_word::word_line;
 use crate::word::FileWord;
 use byteorder::{BigEndian, ByteOrder};
 use lk_base::OutOfMemory;
 use std::alloc::Global;
+use words_files::WordsError;
 
 // The word in nine bytes whose first is 1, 2 or 3.
 fn word_in(bytes: &[u8]) -> FileWord
@@ -33,16 +33,16 @@ fn word_in(bytes: &[u8]) -> FileWord
 }
 
 // The first word of these bytes, which stand at an offset, or its refusal.
-fn first_word(offset: u64, bytes: &[u8]) -> Result<FileWord, WordsAt>
+fn first_word(offset: u64, bytes: &[u8]) -> Result<FileWord, WordsError>
     requires { 0 < length bytes.now }
     ensures word { IfOk result (λ word. IsSized word × (9 ≤ length bytes.now) × (take 9 bytes.now ≡ nine_bytes word)) }
-    ensures refusal { IfErr result (λ e. first_refusal offset (take 9 bytes.now) ≡ Some (words_error e)) }
+    ensures refusal { IfErr result (λ e. first_refusal offset (take 9 bytes.now) ≡ Some e) }
 {
     if !matches!(bytes[0], 1 | 2 | 3) {
-        return Err(WordsAt::Tag(offset));
+        return Err(WordsError::Tag(offset));
     }
     if bytes.len() < 9 {
-        return Err(WordsAt::Short(offset));
+        return Err(WordsError::Short(offset));
     }
     Ok(word_in(bytes))
 }
@@ -62,10 +62,10 @@ fn put_words_text(
     alloc: Global,
     bytes: &[u8],
     out: &mut Vec<u8>,
-) -> Result<Result<u64, WordsAt>, OutOfMemory>
+) -> Result<Result<u64, WordsError>, OutOfMemory>
     ensures answer { IfOk result (λ answer. MatchResult answer
         (λ count. ListsWords bytes.now out.old.items out.new.items count)
-        (λ refusal. words_of_file bytes.now ≡ Err (words_error refusal))) }
+        (λ refusal. words_of_file bytes.now ≡ Err refusal)) }
     ensures kept { IsKept out.old.items out.new.items }
 {
     put(out, b"words\n")?;
@@ -96,7 +96,7 @@ pub fn list_words(
     alloc: Global,
     bytes: &[u8],
     out: &mut Vec<u8>,
-) -> Result<Result<u64, WordsAt>, OutOfMemory>
+) -> Result<Result<u64, WordsError>, OutOfMemory>
     ensures answer { IfOk result (λ answer. AnswersWords bytes.now out.old.items out.new.items answer) }
     ensures memory { OnErr result (out.new.items ≡ out.old.items) }
 {

@@ -9,4 +9,4 @@ returns-in-Ok-clause-answers c =
 
 pub returns-in-Err-clause-answers : goal.returns-in-Err-clause-answers
 returns-in-Err-clause-answers c =
-    inl (Words c.words_error.result, words-refused c.args.bytes.now c.new-content.result.items c.list_words.new.out.items c.in_ok-count.field-0 c.in-Err.refusal c.words_error.result c.in-Err.is c.words_error.ensures c.in_ok-count.ensures.answer, c.input_stop.ensures)
+    inl (Words c.in-Err.refusal, words-refused c.args.bytes.now c.new-content.result.items c.list_words.new.out.items c.in_ok-count.field-0 c.in-Err.refusal c.in-Err.is c.in_ok-count.ensures.answer, c.input_stop.ensures)

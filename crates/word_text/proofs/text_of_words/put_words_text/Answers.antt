@@ -2,7 +2,7 @@ use Rattle.std.proofs.Common.{rules, ◌≡◌, ◌+◌, ◌<◌, ℕ, List, [],
 use Rattle.word_text.specs.declared.word.FileWord.{FileWord}
 use Rattle.word_text.specs.Lines.{ended}
 use Rattle.word_text.specs.WordLines.{IsWordLine, IsSized, nine_bytes}
-use Rattle.word_text.specs.Answers.{words_error, ListsWords}
+use Rattle.word_text.specs.Answers.{ListsWords}
 use Rattle.word_text.proofs.Kept.{kept-put, kept-by}
 use Rattle.word_text.proofs.Growing.{WordsBehind, ReadSoFar, no-words, one-word-behind, all-listed, read-none, read-more, read-refused, read-all, first-nine}
 use Rattle.word_text.proofs.text_of_words.put_words_text.Goals as goal
@@ -28,7 +28,7 @@ loop-rest-init c = record {
 pub returns-in-Err-clause-answer : goal.returns-in-Err-clause-answer
 returns-in-Err-clause-answer c =
     let some : 0 < length c.loop-rest.rest.now = search rules in
-    read-refused c.args.bytes.now c.loop-rest.rest.now c.loop-rest.offset (words_error c.in-Err.refusal) some (c.in-Err.ensures {u = tt}).refusal c.loop-rest.invariant.read
+    read-refused c.args.bytes.now c.loop-rest.rest.now c.loop-rest.offset c.in-Err.refusal some (c.in-Err.ensures {u = tt}).refusal c.loop-rest.invariant.read
 
 pub returns-in-Err-clause-kept : goal.returns-in-Err-clause-kept
 returns-in-Err-clause-kept c = kept-put c.args.out.now.items c.loop-rest.invariant.listed.text c.loop-rest.out.items c.loop-rest.invariant.listed.put
