@@ -1,5 +1,5 @@
 -- What data words do one after another is what they do at once.
-use Rattle.std.proofs.Common.{ℕ, zero, suc, ◌≡◌, ◌+◌, ◌-◌, ◌/◌, ◌%◌, ◌<◌, ◌≤◌, refl, sym, ap, ◌∙◌, Bool, true, false, cond, ◌||◌, ◌&&◌, not, ◌==◌, nat_lt, List, [], ◌∷◌, ◌++◌, append_assoc, append-nil, length, set, flat_map, Option, Some, None, is_some, arith, length-append}
+use Rattle.std.proofs.Common.{ℕ, ◌≡◌, ◌+◌, ◌-◌, ◌/◌, ◌%◌, ◌<◌, ◌≤◌, refl, sym, ap, ◌∙◌, Bool, true, false, cond, ◌||◌, ◌&&◌, not, ◌==◌, nat_lt, List, [], ◌∷◌, ◌++◌, append_assoc, append-nil, length, set, flat_map, Option, Some, None, is_some, arith, length-append}
 use Rattle.std.proofs.Math.Bool.{and-true}
 use Rattle.std.specs.Int.{w64, to_be_bytes}
 use Rattle.std.proofs.lemmas.Bool.{false≢true, lt-ltb, ne_eqb}
@@ -20,6 +20,7 @@ use Rattle.reassembly.specs.Parts.{open_burst}
 use Rattle.reassembly.specs.States.{Row, State, row_at, unlisted_row}
 use Rattle.reassembly.specs.Steps.{change, with_data, with_data_word, with_word}
 use Rattle.reassembly.specs.Tables.{channel_as, channel_row}
+use Rattle.reassembly.proofs.Tables.{change-both, change-none}
 
 -- ---- the bytes
 
@@ -94,21 +95,6 @@ listed-one greatest x listed kinds.Ended bytes over = refl
 pub listed-words : (greatest : ℕ) (xs : List ℕ) (r : Row) → (with_words greatest xs r).listed ≡ r.listed
 listed-words greatest [] r = refl
 listed-words greatest (x ∷ xs) r = listed-words greatest xs (with_word greatest x r) ∙ listed-one greatest x r.listed r.piece r.bytes r.over
-
--- ---- the table
-
-set-twice : (t : List Row) (n : ℕ) (f g : Row → Row) → set (set t n (g (row_at t n))) n (f (row_at (set t n (g (row_at t n))) n)) ≡ set t n (f (g (row_at t n)))
-set-twice [] n f g = refl
-set-twice (r ∷ t) zero f g = refl
-set-twice (r ∷ t) (suc n) f g = ap (λ (rows : List Row). r ∷ rows) (set-twice t n f g)
-
-change-both : (b : Option ℕ) (f g : Row → Row) (t : List Row) → change b f (change b g t) ≡ change b (λ r. f (g r)) t
-change-both None f g t = refl
-change-both (Some n) f g t = set-twice t n f g
-
-change-none : (b : Option ℕ) (t : List Row) → change b (λ r. r) t ≡ t
-change-none None t = refl
-change-none (Some n) t = set-get_or t n unlisted_row
 
 -- ---- the state
 
