@@ -173,6 +173,10 @@ pub packet_none : (w : List Word) (bytes : List ℕ) (first : Option ℕ) → pa
 packet_none w bytes None = refl
 packet_none w bytes (Some a) = refl
 
+pub first_get : (xs : List ℕ) → slice_get xs 0 ≡ first_of xs
+first_get [] = refl
+first_get (x ∷ xs) = refl
+
 tally-sent : (shape : Shape) (w : List Word) (ps : List (List ℕ)) (slots : List ℕ) (tally : Tally) → HaveBytes ps → Closed w slots → tally.bursts ≡ length slots
     → HasSent tally (fold (λ t (bytes : List ℕ). with_packet shape.burst_max t (length bytes)) tally ps) (sent_from numbered shape w ps slots) (length ps)
 tally-sent shape w [] slots tally each closed same = record { packets = omega arith; bytes = omega arith; left = omega arith }
@@ -194,10 +198,6 @@ tally-sent shape w (bytes ∷ ps) slots tally (some, each) closed same =
     let past : slice_get slots (n - 1) ≡ None = slice_get_past slots (n - 1) (omega arith) in
     let rest = tally-sent shape w ps (drop n slots) next each (closed-drop w n slots closed) (omega arith) in
     rw (h, past, packet_none w bytes (first_of slots)) (none_more tally next (fold (λ t (bytes : List ℕ). with_packet shape.burst_max t (length bytes)) next ps) (sent_from numbered shape w ps (drop n slots)) (length ps) refl refl refl rest))
-  where
-    first_get : (xs : List ℕ) → slice_get xs 0 ≡ first_of xs
-    first_get [] = refl
-    first_get (x ∷ xs) = refl
 
 pub some_bytes : (packets : List Packet) → All (λ (packet : Packet). (1 ≤ length packet.bytes.now) × (length packet.bytes.now ≤ 262144)) packets → All (λ (p : ℕ × List ℕ). 1 ≤ length p.1) (packets_by packets)
 some_bytes packets h = All-map (λ (p : ℕ × List ℕ). 1 ≤ length p.1) (λ (packet : Packet). (packet.channel, packet.bytes.now)) packets (λ k d l. (h k d l).0)

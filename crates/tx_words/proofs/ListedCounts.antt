@@ -31,16 +31,11 @@ use Rattle.tx_words.specs.SentLaw.{ended_on}
 use Rattle.tx_words.specs.Sources.{packets_by, source_by}
 use Rattle.tx_words.specs.Counts.{count_of}
 use Rattle.tx_words.specs.Tallies.{count_from, ended_in, is_ended_on, first_tally, with_packet, tally_of}
-use Rattle.tx_words.proofs.Counting.{HasSent, one_more, none_more, packet_none, tally-on, on_channel, same_counts, some_bytes}
+use Rattle.tx_words.proofs.Counting.{HasSent, first_get, one_more, none_more, packet_none, tally-on, on_channel, same_counts, some_bytes}
 use Rattle.tx_words.proofs.ListedSent.{lists_the_sent}
-use Rattle.tx_words.proofs.Slots.{all_aligned, aligned-closed, HaveBytes, have_bytes}
+use Rattle.tx_words.proofs.Slots.{all_aligned, aligned-closed, HaveBytes, have_bytes, nothing_sent}
 
 -- ---- a channel sends its first packets
-
-none_sent : (shape : Shape) (w : List Word) (ps : List (List ℕ)) → sent_from numbered shape w ps [] ≡ []
-none_sent shape w [] = refl
-none_sent shape w (bytes ∷ ps) =
-    ap (λ (s : List ℕ). sent_from numbered shape w ps s) (drop_all (length (chunks_by shape bytes)) [] (omega arith)) ∙ none_sent shape w ps
 
 pub first_sent : (shape : Shape) (w : List Word) (ps : List (List ℕ)) (slots : List ℕ) → HaveBytes ps → Closed w slots
     → map (λ (p : received.Packet). p.bytes) (sent_from numbered shape w ps slots) ≡ take (length (sent_from numbered shape w ps slots)) ps
@@ -57,12 +52,8 @@ first_sent shape w (bytes ∷ ps) slots (some, each) closed =
     rw (here, last.2, last.3) (ap (λ xs. bytes ∷ xs) rest))
     (λ h. let more : length slots < n = leb-false n (length slots) h in
     let past : slice_get slots (n - 1) ≡ None = slice_get_past slots (n - 1) (omega arith) in
-    let none : sent_from numbered shape w ps (drop n slots) ≡ [] = ap (λ (s : List ℕ). sent_from numbered shape w ps s) (drop_all n slots (omega arith)) ∙ none_sent shape w ps in
+    let none : sent_from numbered shape w ps (drop n slots) ≡ [] = ap (λ (s : List ℕ). sent_from numbered shape w ps s) (drop_all n slots (omega arith)) ∙ nothing_sent shape w ps in
     rw (past, packet_none w bytes (first_of slots), none) refl)
-  where
-    first_get : (xs : List ℕ) → slice_get xs 0 ≡ first_of xs
-    first_get [] = refl
-    first_get (x ∷ xs) = refl
 
 -- ---- each packet takes one burst
 

@@ -2,6 +2,7 @@
 use Rattle.std.proofs.Common.{◌≡◌, ℕ, zero, suc, ◌+◌, ◌-◌, ◌<◌, ◌≤◌, ◌==◌, ◌&&◌, refl, sym, ap, ap₂, ◌∙◌, subst, cond, true, false, Bool, List, [], ◌∷◌, ◌++◌, append_assoc, map, filter, filter_map, flat_map, take, drop, length, nat_le, slice_get, count_by, Option, Some, None, option_and_then, MatchOption, All, arith, eq-eqb, eqb-true, leb-false, length-drop}
 use Rattle.std.specs.List.{enumerate_from, cons_option}
 use Rattle.std.specs.Option.{option_map}
+use Rattle.std.proofs.Math.Bool.{and-true}
 use Rattle.std.proofs.Math.Seq.{take-append_seam}
 use Rattle.std.proofs.lemmas.Bool.{and_parts}
 use Rattle.std.proofs.lemmas.List.{length_push, length-map, drop_all}
@@ -69,10 +70,6 @@ head_row c p y q e idles burst first channel on h =
     ∙ ap (λ b. cond b (control_slot (length p + 1) q) (rest_end w (burst_slots c (length p + 1) q))) (and-true (next_ends q)) ∙ sym (own-seam p y q (burst_slots c (length p + 1) q)) in
     let number : e.number ≡ count_by (starts_on c) p = h.number ∙ ap (λ i. count_by (starts_on i) (take e.first w)) channel ∙ ap (λ f. count_by (starts_on c) (take f w)) first ∙ ap (count_by (starts_on c)) (take-append_seam p (Control y ∷ q)) in
     rw (number, first, end) refl
-  where
-    and-true : (b : Bool) → (b && true) ≡ b
-    and-true true = refl
-    and-true false = refl
 
 -- what is to show of the entries whose SOP words stand after p
 abbrev RowsAre : ℕ → List Word → List Word → Type 0

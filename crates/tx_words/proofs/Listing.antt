@@ -1,6 +1,7 @@
 -- The listed packets of a channel, read off the slots of its burst words.
 use Rattle.std.proofs.Common.{◌≡◌, inl, inr, ℕ, suc, ◌+◌, ◌<◌, ◌==◌, ◌&&◌, refl, sym, ap, ◌∙◌, subst, cond, true, false, Bool, List, [], ◌∷◌, ◌++◌, append_assoc, take, length, Option, Some, None, MatchOption, arith, append-nil, length-append}
 use Rattle.std.specs.Option.{option_map_or}
+use Rattle.std.proofs.Math.Bool.{and-false, and-true}
 use Rattle.std.proofs.Math.Seq.{take-append_seam, get_or-append_seam}
 use Rattle.std.proofs.lemmas.Bool.{cases_lt, both_ways}
 use Rattle.std.proofs.lemmas.List.{length_push}
@@ -61,6 +62,9 @@ IsEndSlot w c f o = MatchOption o ((z : ℕ) → IsEnd w c f z → ⊥) (λ z. I
 not_quiet : (w : List Word) (c f n z : ℕ) → IsQuiet w c f n → IsEnd w c f z → z < n → ⊥
 not_quiet w c f n z quiet end l = both_ways (ends_on c (take z w) (word_at w z)) (quiet z end.behind l).0 end.ends
 
+pub inside : (p : List Word) (word : Word) (q : List Word) → length p < length (p ++ word ∷ q)
+inside p word q = let e : length (p ++ word ∷ q) ≡ length p + suc (length q) = length-append p (word ∷ q) in omega arith
+
 pub end-found : (c f : ℕ) (p q : List Word) → f < length p → IsQuiet (p ++ q) c f (length p) → IsEndSlot (p ++ q) c f (end_in c (is_last c p) (length p) q)
 end-found c f p [] l quiet = λ z end. not_quiet (p ++ []) c f (length p) z quiet end (let e : length (p ++ []) ≡ length p = ap length (append-nil p) in omega (arith, end.within))
 end-found c f p (Data x ∷ q) l quiet =
@@ -94,9 +98,6 @@ end-found c f p (Control y ∷ q) l quiet = split (has_end y && is_last c p)
     let rest = end-found c f (p ++ Control y ∷ []) q (omega arith) (rw (same, long) more) in
     let here = rw (same, long, is_last-control c y p) at rest in
     rw (t, s) here))
-  where
-    inside : (p : List Word) (word : Word) (q : List Word) → length p < length (p ++ word ∷ q)
-    inside p word q = let e : length (p ++ word ∷ q) ≡ length p + suc (length q) = length-append p (word ∷ q) in omega arith
 
 -- there is one end word at most
 one_end : (w : List Word) (c f y z : ℕ) → IsEnd w c f y → IsEnd w c f z → y ≡ z
@@ -157,11 +158,3 @@ end-read c l p (Control y ∷ q) (idle, idles) = split (has_end y && l)
     (λ s. rw (t, b, s, k) (here ∙ rw (and-false (next_ends q)) refl))
     (λ s. rw (t, b, s, k) (here ∙ rw (and-false (next_ends q)) refl))))
     (λ b. let here = rw b at next in let none : next_ends q ≡ false = idle b in rw (t, b) (here ∙ rw none refl)))
-  where
-    and-true : (b : Bool) → (b && true) ≡ b
-    and-true true = refl
-    and-true false = refl
-
-    and-false : (b : Bool) → (b && false) ≡ false
-    and-false true = refl
-    and-false false = refl

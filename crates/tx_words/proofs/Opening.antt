@@ -16,7 +16,7 @@ use Rattle.receive_model.proofs.Cuts.{split}
 use Rattle.tx_words.specs.declared.sent.Sent.{Sent}
 use Rattle.tx_words.specs.declared.sent.Place.{Place}
 use Rattle.tx_words.specs.Sent.{burst_channel, starts, starts_on, ends, last_channel, ends_on, slots_where, IsQuiet, IsEnd, IsSent}
-use Rattle.tx_words.specs.Places.{start_channel, ended_channel, channel_behind, fresh_place, IsOpen, Stands, Half}
+use Rattle.tx_words.specs.Places.{start_channel, ended_channel, channel_after, fresh_place, IsOpen, Stands, Half}
 
 -- ---- the slots below stay as they were
 
@@ -360,7 +360,7 @@ stands-some p word channel sent places e h is low place =
 -- ---- the words so far
 
 -- the channel of the last burst word, with one word more
-pub last-push : (p : List Word) (word : Word) → last_channel (p ++ word ∷ []) ≡ channel_behind (last_channel p) word
+pub last-push : (p : List Word) (word : Word) → last_channel (p ++ word ∷ []) ≡ channel_after (last_channel p) word
 last-push p word = ap last_of (filter_map-append burst_channel p (word ∷ [])) ∙ by (filter_map burst_channel p) word
   where
     last-append : (xs : List ℕ) (x : ℕ) → last_of (xs ++ x ∷ []) ≡ Some x
@@ -368,7 +368,7 @@ last-push p word = ap last_of (filter_map-append burst_channel p (word ∷ [])) 
     last-append (y ∷ []) x = refl
     last-append (y ∷ z ∷ xs) x = last-append (z ∷ xs) x
 
-    by : (xs : List ℕ) (word : Word) → last_of (xs ++ filter_map burst_channel (word ∷ [])) ≡ channel_behind (last_of xs) word
+    by : (xs : List ℕ) (word : Word) → last_of (xs ++ filter_map burst_channel (word ∷ [])) ≡ channel_after (last_of xs) word
     by xs (Data x) = ap last_of (append-nil xs)
     by xs (Control x) = split (has_burst x)
         (λ b. rw b (last-append xs (channel_number true x)))

@@ -1,5 +1,5 @@
 -- Any words have a list of sent packets.
-use Rattle.std.proofs.Common.{◌≡◌, ℕ, zero, suc, ◌+◌, ◌<◌, ◌==◌, ◌&&◌, refl, sym, ap, ◌∙◌, cond, true, false, Bool, List, [], ◌∷◌, ◌++◌, append_assoc, map, length, count_by, All, arith, eq-eqb, length-append}
+use Rattle.std.proofs.Common.{◌≡◌, ℕ, zero, suc, ◌+◌, ◌==◌, ◌&&◌, refl, sym, ap, ◌∙◌, cond, true, false, Bool, List, [], ◌∷◌, ◌++◌, append_assoc, map, length, count_by, All, arith, eq-eqb}
 use Rattle.std.proofs.Math.Seq.{take-append_seam}
 use Rattle.std.proofs.lemmas.List.{length_push}
 use Rattle.lk_base.specs.Fields.{channel_number, has_burst, has_sop}
@@ -9,7 +9,7 @@ use Rattle.receive_model.proofs.Cuts.{split}
 use Rattle.tx_words.specs.declared.sent.Sent.{Sent}
 use Rattle.tx_words.specs.Sent.{starts, starts_on, slots_where, IsSent}
 use Rattle.tx_words.specs.SentLaw.{SomeList}
-use Rattle.tx_words.proofs.Listing.{is_last, is_last-control, end_in, end-found, starts-seam}
+use Rattle.tx_words.proofs.Listing.{is_last, is_last-control, end_in, end-found, inside, starts-seam}
 
 -- the packet whose SOP word, with this payload, stands after p and before q
 abbrev sent_at : List Word → ℕ → List Word → Sent
@@ -34,9 +34,6 @@ firsts_in p (Control y ∷ q) =
     split (has_burst y && has_sop y)
     (λ h. rw h (ap (λ (ns : List ℕ). length p ∷ ns) rest))
     (λ h. rw h rest)
-
-inside : (p : List Word) (word : Word) (q : List Word) → length p < length (p ++ word ∷ q)
-inside p word q = let e : length (p ++ word ∷ q) ≡ length p + suc (length q) = length-append p (word ∷ q) in omega arith
 
 burst_of : (a b : Bool) → (a && b) ≡ true → a ≡ true
 burst_of true b h = refl

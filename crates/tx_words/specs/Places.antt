@@ -1,5 +1,6 @@
 -- What is known of the channels while the words of a stream are gone over.
 use Rattle.std.specs.Prelude.{ℕ, ◌≡◌, ◌<◌, false, true, List, ◌∷◌, [], ◌++◌, map, length, cond, ◌&&◌, count_by, slice_index_or, All, Option, Some, None}
+use Rattle.std.specs.Option.{option_or}
 use Rattle.lk_base.specs.Words.{word_at}
 use Rattle.lk_base.specs.Fields.{has_burst, has_sop, channel_number}
 use Rattle.lk_base.specs.declared.word.Word.{Word}
@@ -18,12 +19,8 @@ abbrev pub ended_channel : Option ℕ → Word → Option ℕ
 ended_channel last word = cond (ends word) last None
 
 -- and the channel of the last burst word after the word
-abbrev pub channel_after : Option ℕ → Option ℕ → Option ℕ
-channel_after last None = last
-channel_after last (Some channel) = Some channel
-
-abbrev pub channel_behind : Option ℕ → Word → Option ℕ
-channel_behind last word = channel_after last (burst_channel word)
+abbrev pub channel_after : Option ℕ → Word → Option ℕ
+channel_after last word = option_or (burst_channel word) last
 
 -- no packet has started
 abbrev pub fresh_place : Place

@@ -1,17 +1,18 @@
 -- The packets whose SOP word is in a stream, with the slots of their SOP words and end words.
-use Rattle.std.specs.Prelude.{ℕ, ◌≡◌, ◌+◌, ◌<◌, ◌==◌, Bool, true, false, ◌&&◌, cond, List, [], ◌∷◌, map, filter_map, length, take, count_by, All, Option, Some, None, MatchOption}
+use Rattle.std.specs.Prelude.{ℕ, ◌≡◌, ◌+◌, ◌<◌, ◌==◌, Bool, true, false, ◌&&◌, cond, List, [], ◌∷◌, map, filter_map, length, take, count_by, All, Option, None, MatchOption}
 use Rattle.std.specs.Option.{option_map_or}
 use Rattle.lk_base.specs.Words.{word_at}
 use Rattle.lk_base.specs.Fields.{has_burst, has_sop, has_end, channel_number}
 use Rattle.lk_base.specs.declared.word.Word.{Word}
 use Rattle.lk_base.specs.declared.word.Word.TheVariants.{Data, Control}
+use Rattle.control_words.specs.ControlWord as control
 use Rattle.receive_model.specs.Lists.{last_of}
 use Rattle.tx_words.specs.declared.sent.Sent.{Sent}
 
 -- the channel of a burst word
 abbrev pub burst_channel : Word → Option ℕ
 burst_channel (Data x) = None
-burst_channel (Control x) = cond (has_burst x) (Some (channel_number true x)) None
+burst_channel (Control x) = control.burst_channel true x
 
 -- a burst word with SOP, which is the SOP word of a packet
 abbrev pub starts : Word → Bool

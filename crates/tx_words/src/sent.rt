@@ -1,7 +1,7 @@
 ghost use Rattle.std.specs.Prelude.{◌≡◌, ℕ, ◌<◌, slice_index_or, IfOk, IfSome, vec_len};
 ghost use Rattle.lk_base.specs.declared.word.Word.{Word};
 ghost use Rattle.tx_words.specs.Sent.{ends};
-ghost use Rattle.tx_words.specs.Places.{channel_behind, ended_channel, fresh_place, start_channel};
+ghost use Rattle.tx_words.specs.Places.{channel_after, ended_channel, fresh_place, start_channel};
 ghost use Rattle.tx_words.specs.declared.sent.Place.{Place};
 
 use crate::bursts::{NUMBERS, burst_channel};
@@ -73,15 +73,12 @@ fn ends(word: Word) -> bool
     }
 }
 
-// The channel of the last burst word, where this is the next word.
-pub fn channel_behind(last: Option<usize>, word: Word) -> Option<usize>
-    ensures channel { result ≡ channel_behind last word }
+// The channel of the last burst word after this word, where `last` is that of the one before.
+pub fn channel_after(last: Option<usize>, word: Word) -> Option<usize>
+    ensures channel { result ≡ channel_after last word }
     ensures within { IfSome last (λ channel. channel < 65536) → IfSome result (λ channel. channel < 65536) }
 {
-    match burst_channel(word) {
-        Some(channel) => Some(channel),
-        None => last,
-    }
+    burst_channel(word).or(last)
 }
 
 // The channel on which the word ends a packet.

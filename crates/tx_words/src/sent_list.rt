@@ -3,7 +3,7 @@ ghost use Rattle.lk_base.specs.declared.word.Word.{Word};
 ghost use Rattle.tx_words.specs.Sent.{ends, last_channel, starts, starts_on};
 ghost use Rattle.tx_words.specs.Places.{Half, Stands, start_channel as channel_of_start};
 
-use crate::sent::{Place, Sent, channel_behind, ended_channel, no_places, start_channel};
+use crate::sent::{Place, Sent, channel_after, ended_channel, no_places, start_channel};
 use lk_base::{OutOfMemory, Word};
 use std::alloc::Global;
 
@@ -166,7 +166,7 @@ impl SentList {
             word,
             self.slot,
         );
-        self.last = channel_behind(self.last, word);
+        self.last = channel_after(self.last, word);
         self.slot += 1;
     }
 

@@ -3,7 +3,7 @@ use Rattle.std.specs.Vec.{with_items}
 use Rattle.std.proofs.lemmas.List.{length_push, with_items_is}
 use Rattle.tx_words.specs.declared.sent.Sent.{Sent}
 use Rattle.tx_words.specs.declared.sent.Place.{Place}
-use Rattle.tx_words.specs.Places.{channel_behind, Stands, Half}
+use Rattle.tx_words.specs.Places.{channel_after, Stands, Half}
 use Rattle.tx_words.proofs.Opening.{last-push}
 use Rattle.tx_words.proofs.sent_list.SentList.pass_control.Goals as goal
 
@@ -30,7 +30,7 @@ returns c p total lists =
           (subst (λ (ys : List Place). Stands (p ++ c.args.word ∷ []) (take c.start_packet-self.result c.start_packet-self.new.list) ys) (sym last_places) (c.start_packet-self.ensures.stands p begun lists.slot));
       within = omega (arith, c.start_packet-self.ensures.within, ap length last_list);
       room = (let a = ap length last_list in let b = v.ok.0 in omega (arith, a, three, b, lists.room));
-      last = c.channel_behind-self.ensures.channel ∙ ap (λ l. channel_behind l c.args.word) lists.last ∙ sym (last-push p c.args.word);
-      low = c.channel_behind-self.ensures.within lists.low;
+      last = c.channel_after-self.ensures.channel ∙ ap (λ l. channel_after l c.args.word) lists.last ∙ sym (last-push p c.args.word);
+      low = c.channel_after-self.ensures.within lists.low;
       slot = ap (λ n. n + 1) lists.slot ∙ sym (length_push p c.args.word);
     }
