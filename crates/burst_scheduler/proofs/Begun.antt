@@ -17,13 +17,7 @@ started_with s ring range = record s { ready = ring; started = true; end_in_rang
 pub line_filled : (s : Scheduler) (a : Asked) (ring : Held) (range : IsInRange s.eop) → Holds s a → s.started ≡ false → IsSameSize s.ready ring → IsApart ring
     → ring_list ring ≡ filter (has_chunk s.queues.items) (places_of s.order.items) → Holds (started_with s ring range) a
 line_filled s a ring range g fresh same apart is = record {
-  sizes = g.sizes;
-  short = g.short;
-  group = g.group;
-  warm = g.warm;
-  channels = g.channels;
-  distinct = g.distinct;
-  entries = g.entries;
+  settings = g.settings;
   slot = g.slot;
   right = g.right;
   begun = g.begun;
@@ -44,8 +38,7 @@ line_filled s a ring range g fresh same apart is = record {
   given = g.given;
   since = g.since;
   end = g.end;
-  near = g.near;
-  far = g.far;
+  spaces = g.spaces;
 }
 
 pub runs_filled : (s : Scheduler) (a : Asked) (ring : Held) (range : IsInRange s.eop) → Runs s a → s.started ≡ false → IsSameSize s.ready ring → IsApart ring

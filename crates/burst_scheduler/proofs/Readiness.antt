@@ -64,7 +64,7 @@ holds_ready s a g on = record {
         let inside : p < length a.source.channels = All-contains (λ q. q < length a.source.channels) (ring_list s.ready) p listed at.1 in
         elim (cases_eq p place) [
           | inl e ↦ subst (Contains (ring_list s.ready)) e at.1
-          | inr ne ↦ absurd (apart_at a.source.channels place g.distinct below p inside ne at.2)
+          | inr ne ↦ absurd (apart_at a.source.channels place g.settings.distinct below p inside ne at.2)
         ]),
   );
   ordered = λ i j d l k.
@@ -79,7 +79,7 @@ holds_ready s a g on = record {
     listed = listed_in s.ready (length a.source.channels) g.room.0
 
     line : IsLine a.source (told_back a.source.entries a.source.flow) a.words (channels_at a.source.channels (ring_list s.ready))
-    line = subst (λ cs. IsLine a.source (told_back a.source.entries a.source.flow) a.words (channels_at cs (ring_list s.ready))) g.channels (line_now a.source (told_back a.source.entries a.source.flow) a.words (to_come s) (line_in s) (g.line on))
+    line = subst (λ cs. IsLine a.source (told_back a.source.entries a.source.flow) a.words (channels_at cs (ring_list s.ready))) g.settings.channels (line_now a.source (told_back a.source.entries a.source.flow) a.words (to_come s) (line_in s) (g.line on))
 
 -- a flow or a step was asked, so the line was filled
 pub ready_now : (s : Scheduler) (a : Asked) → HasWords s a → HasBegun a → HoldsReady s.ready a.source a.words

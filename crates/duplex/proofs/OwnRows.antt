@@ -76,13 +76,7 @@ module _ (s : Scheduler) (a : Asked) (rows rows_too : List LocalRow) (here : Are
   pub same_words : ((channel : ℕ) → channel < 65536 → last_local (a.source.local ++ rows) channel ≡ last_local (a.source.local ++ rows_too) channel) → HasWords s (locals_added a rows) → HasWords s (locals_added a rows_too)
   same_words same g = record {
     holds = record {
-      sizes = g.holds.sizes;
-      short = g.holds.short;
-      group = g.holds.group;
-      warm = g.holds.warm;
-      channels = g.holds.channels;
-      distinct = g.holds.distinct;
-      entries = g.holds.entries;
+      settings = g.holds.settings;
       slot = g.holds.slot;
       right = right_too (planned s a) g.holds.begun g.holds.right;
       begun = g.holds.begun;
@@ -109,8 +103,7 @@ module _ (s : Scheduler) (a : Asked) (rows rows_too : List LocalRow) (here : Are
       given = g.holds.given;
       since = g.holds.since;
       end = g.holds.end;
-      near = g.holds.near;
-      far = g.holds.far;
+      spaces = g.holds.spaces;
     };
     waiting = g.waiting;
   }
