@@ -17,7 +17,7 @@ use Rattle.reassembly.specs.declared.word_at.WordAt.{WordAt}
 use Rattle.reassembly.specs.Folds.{are_kept, grown_by, with_all_data, with_data_at_once, with_data_words, with_words}
 use Rattle.reassembly.specs.Packets.{grown}
 use Rattle.reassembly.specs.Parts.{open_burst}
-use Rattle.reassembly.specs.States.{Row, State, row_at, unlisted_row}
+use Rattle.reassembly.specs.States.{Row, State, row_at, unlisted_row, with_stretch, with_table}
 use Rattle.reassembly.specs.Steps.{change, with_data, with_data_word, with_word}
 use Rattle.reassembly.specs.Tables.{channel_as, channel_row}
 use Rattle.reassembly.proofs.Tables.{change-both, change-none}
@@ -99,17 +99,7 @@ listed-words greatest (x ∷ xs) r = listed-words greatest xs (with_word greates
 -- ---- the state
 
 abbrev pub state_with : State → Stretch → List Row → State
-state_with r stretch table = record {
-  channels = r.channels;
-  max_packet = r.max_packet;
-  wide = r.wide;
-  stretch = stretch;
-  run = r.run;
-  table = table;
-  waiting = r.waiting;
-  packet = r.packet;
-  lending = r.lending;
-}
+state_with r stretch table = with_table table (with_stretch stretch r)
 
 table-none : (o : Bool) (b : Option ℕ) (t : List Row) → t ≡ cond o (change b (λ r. r) t) t
 table-none true b t = sym (change-none b t)

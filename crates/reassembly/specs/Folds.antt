@@ -2,7 +2,7 @@
 use Rattle.std.specs.Prelude.{ℕ, Bool, true, cond, ◌&&◌, nat_lt, List, [], ◌∷◌, length, is_some}
 use Rattle.reassembly.specs.declared.stretch.Stretch.{Stretch}
 use Rattle.reassembly.specs.Packets.{grown}
-use Rattle.reassembly.specs.States.{Row, State}
+use Rattle.reassembly.specs.States.{Row, State, with_stretch, with_table}
 use Rattle.reassembly.specs.Parts.{open_burst}
 use Rattle.reassembly.specs.Steps.{change, with_data, with_data_word, with_word}
 
@@ -33,14 +33,6 @@ with_data_words r (x ∷ xs) = with_data_words (with_data_word r x) xs
 
 -- the same, part by part: the burst's channel is looked up once
 abbrev pub with_data_at_once : State → List ℕ → State
-with_data_at_once r xs = record {
-  channels = r.channels;
-  max_packet = r.max_packet;
-  wide = r.wide;
-  stretch = with_all_data xs r.stretch;
-  run = r.run;
-  table = cond (is_some r.stretch.opened) (change (open_burst r.wide r.run) (with_words r.max_packet xs) r.table) r.table;
-  waiting = r.waiting;
-  packet = r.packet;
-  lending = r.lending;
-}
+with_data_at_once r xs =
+    with_table (cond (is_some r.stretch.opened) (change (open_burst r.wide r.run) (with_words r.max_packet xs) r.table) r.table)
+    (with_stretch (with_all_data xs r.stretch) r)
