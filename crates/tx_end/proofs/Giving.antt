@@ -20,7 +20,7 @@ use Rattle.tx_end.specs.Lanes.{Fills, HasEnded, HasFilled, HasRoom, InTurn, IsCa
 use Rattle.tx_end.specs.LaneRows.{bytes_on, on_lane}
 use Rattle.tx_end.specs.Sending.{AreAll, Awaits, Closes, HasTurn, IsDriven, Makes, Sending, Sends, gave_more, left_on, made_on}
 use Rattle.tx_end.proofs.Finishing.{file_closed, none_waits}
-use Rattle.tx_end.proofs.Groups.{payload_append}
+use Rattle.tx_end.proofs.Groups.{payload_append, regroup_words}
 use Rattle.tx_end.proofs.LaneRows.{all_on_lane, bytes_apart, bytes_behind}
 use Rattle.tx_end.proofs.Shapes.{whole_groups}
 use Rattle.tx_end.proofs.Turns.{first_lane, one_turn, same_turn}
@@ -75,9 +75,6 @@ given_on turn lane outs first left i last = split {b = i + 1 == turn}
     rw e (ap (λ b. b ++ []) (bytes_apart i lane outs first other)))
 
 -- ---- a group more
-
-pub regroup_words : (m l p : ℕ) → m * (l * p) ≡ m * p * l
-regroup_words m l p = omega arith
 
 -- where the stream goes on, the whole group is made
 block_full : (source : Source) (words block : List Word) (m g n : ℕ) → source.shape.group ≡ g → length words ≡ m * g → n ≤ g → length block ≡ g → (IsBurstStream source words → ⊥) →

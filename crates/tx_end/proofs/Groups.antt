@@ -62,12 +62,12 @@ payload_append lanes n i words more h e =
     over : (k n lanes i : ℕ) → n ≤ k → n * lanes ≤ k * lanes + i
     over k n lanes i l = (let a : n * lanes ≤ k * lanes = mul-le-mul l (omega arith) in omega (arith, a))
 
-regroup : (m l p : ℕ) → m * (l * p) ≡ m * p * l
-regroup m l p = omega arith
+pub regroup_words : (m l p : ℕ) → m * (l * p) ≡ m * p * l
+regroup_words m l p = omega arith
 
 -- a lane made its metaframe of one group more
 pub filled_more : (s : Settings) (i m : ℕ) (words group : List Word) (old new : LaneWriter) (bytes more : List ℕ) → i < s.lanes → length words ≡ m * group_of s → HasFilled old s i (lane_payload s.lanes words i) m bytes → Fills s i group old new more →
     HasFilled new s i (lane_payload s.lanes (words ++ group) i) (m + 1) (bytes ++ more)
 filled_more s i m words group old new bytes more h e k fills =
-    subst (λ (g : List Word). HasFilled new s i g (m + 1) (bytes ++ more)) (sym (payload_append s.lanes (m * payloads s) i words group h (e ∙ regroup m s.lanes (payloads s))))
+    subst (λ (g : List Word). HasFilled new s i g (m + 1) (bytes ++ more)) (sym (payload_append s.lanes (m * payloads s) i words group h (e ∙ regroup_words m s.lanes (payloads s))))
     (fills (lane_payload s.lanes words i) m bytes k)
