@@ -11,7 +11,7 @@ use Rattle.lock_model.specs.Low.{all_low, is_low}
 use Rattle.lock_model.specs.Shows.{shown_in, shows}
 use Rattle.lane_lock.specs.declared.completed.Completed.{Completed}
 use Rattle.lane_lock.specs.Bytes.{Brings, BringsBatch, IsSparse, StaysSparse, steps_of_bits}
-use Rattle.lane_lock.specs.Lane.{LaneState}
+use Rattle.lane_lock.specs.Lane.{LaneView}
 use Rattle.lane_lock.proofs.Resting.{brings_both, brings_none}
 
 -- ---- steps that show something
@@ -38,10 +38,10 @@ low_nothings (suc n) = (tt, low_nothings n)
 
 -- ---- bits after one another
 
-pub batch_none : (v : LaneState) (before : List LaneStep) → BringsBatch v v [] before before
+pub batch_none : (v : LaneView) (before : List LaneStep) → BringsBatch v v [] before before
 batch_none v before = record { column = []; long = refl; low = tt; appended = sym (append-nil before); brings = brings_none v }
 
-pub batch_both : (u v w : LaneState) (first second : List Bool) (before between after : List LaneStep) → BringsBatch u v first before between → BringsBatch v w second between after →
+pub batch_both : (u v w : LaneView) (first second : List Bool) (before between after : List LaneStep) → BringsBatch u v first before between → BringsBatch v w second between after →
     BringsBatch u w (first ++ second) before after
 batch_both u v w first second before between after f g = record {
   column = f.column ++ g.column;
@@ -52,13 +52,13 @@ batch_both u v w first second before between after f g = record {
   brings = brings_both u v w first second f.column g.column f.brings g.brings;
 }
 
-pub batch_same : (v w : LaneState) (first second : List Bool) (before after : List LaneStep) → first ≡ second → BringsBatch v w first before after → BringsBatch v w second before after
+pub batch_same : (v w : LaneView) (first second : List Bool) (before after : List LaneStep) → first ≡ second → BringsBatch v w first before after → BringsBatch v w second before after
 batch_same v w first second before after e h = subst (λ (bits : List Bool). BringsBatch v w bits before after) e h
 
 -- ---- the steps of some bits, of which one at most shows something
 
 -- a step at a place
-pub batch_step : (v w : LaneState) (given : List Bool) (place behind : ℕ) (x : LaneStep) (before after : List LaneStep) → length given ≡ place + 1 + behind → is_low x →
+pub batch_step : (v w : LaneView) (given : List Bool) (place behind : ℕ) (x : LaneStep) (before after : List LaneStep) → length given ≡ place + 1 + behind → is_low x →
     after ≡ before ++ shown_in (x ∷ []) → Brings v w given (replicate place steps.Nothing ++ x ∷ replicate behind steps.Nothing) → BringsBatch v w given before after
 batch_step v w given place behind x before after long low e brings = record {
   column = replicate place steps.Nothing ++ x ∷ replicate behind steps.Nothing;
@@ -76,18 +76,18 @@ batch_step v w given place behind x before after long low e brings = record {
 }
 
 -- that of a whole word
-pub batch_whole : (v w : LaneState) (code : ℕ) (given : List Bool) (x : LaneStep) (before after : List LaneStep) → bits_of 67 code ≡ given → is_low x → after ≡ before ++ shown_in (x ∷ []) →
+pub batch_whole : (v w : LaneView) (code : ℕ) (given : List Bool) (x : LaneStep) (before after : List LaneStep) → bits_of 67 code ≡ given → is_low x → after ≡ before ++ shown_in (x ∷ []) →
     Brings v w (bits_of 67 code) (replicate 66 steps.Nothing ++ x ∷ []) → BringsBatch v w given before after
 batch_whole v w code given x before after is low e brings =
     batch_same v w (bits_of 67 code) given before after is (batch_step v w (bits_of 67 code) 66 0 x before after (length-bits_of 67 code) low e brings)
 
-pub batch_ends : (v w : LaneState) (width bits : ℕ) (c : Completed) (before after : List LaneStep) → c.place < width → is_low c.step → after ≡ before ++ shown_in (c.step ∷ []) →
+pub batch_ends : (v w : LaneView) (width bits : ℕ) (c : Completed) (before after : List LaneStep) → c.place < width → is_low c.step → after ≡ before ++ shown_in (c.step ∷ []) →
     Brings v w (bits_of width bits) (steps_of_bits width (Some c)) → BringsBatch v w (bits_of width bits) before after
 batch_ends v w width bits c before after within low e brings =
     batch_step v w (bits_of width bits) c.place (width - 1 - c.place) c.step before after (let l = length-bits_of width bits in omega (arith, l, within)) low e brings
 
 -- none
-pub batch_rests : (v w : LaneState) (width bits : ℕ) (before : List LaneStep) → Brings v w (bits_of width bits) (steps_of_bits width None) → BringsBatch v w (bits_of width bits) before before
+pub batch_rests : (v w : LaneView) (width bits : ℕ) (before : List LaneStep) → Brings v w (bits_of width bits) (steps_of_bits width None) → BringsBatch v w (bits_of width bits) before before
 batch_rests v w width bits before brings = record {
   column = replicate width steps.Nothing;
   long = length-replicate width steps.Nothing ∙ sym (length-bits_of width bits);
@@ -105,29 +105,29 @@ shown_most (steps.Locked at) = omega arith
 shown_most (steps.Lost why at) = omega arith
 shown_most steps.Ended = omega arith
 
-pub sparse_word : (v w : LaneState) (x : LaneStep) (before after : List LaneStep) → v.at + 67 ≤ w.at → v.taken < w.at → after ≡ before ++ shown_in (x ∷ []) →
+pub sparse_word : (v w : LaneView) (x : LaneStep) (before after : List LaneStep) → v.at + 67 ≤ w.at → v.taken < w.at → after ≡ before ++ shown_in (x ∷ []) →
     StaysSparse v (length before) w (length after)
 sparse_word v w x before after further behind e first had early sparse =
     let l : length after ≡ length before + length (shown_in (x ∷ [])) = ap length e ∙ length-append before (shown_in (x ∷ [])) in
     let m = shown_most x in
     omega (arith, further, behind, early, sparse, l, m)
 
-pub sparse_rest : (v w : LaneState) (count : ℕ) → v.at ≤ w.at → StaysSparse v count w count
+pub sparse_rest : (v w : LaneView) (count : ℕ) → v.at ≤ w.at → StaysSparse v count w count
 sparse_rest v w count later first had early sparse = omega (arith, later, early, sparse)
 
 -- ---- whole words
 
 -- this many words of these bits were taken from where one began
-pub record Ran (v w : LaneState) (given : List Bool) (words : ℕ) (before after : List LaneStep) : Type 0 where
+pub record Ran (v w : LaneView) (given : List Bool) (words : ℕ) (before after : List LaneStep) : Type 0 where
   pub taken : w.taken ≡ v.taken + 67 * words
   pub at : w.at ≡ v.at + 67 * words
   pub few : length after ≤ length before + words
   pub batch : BringsBatch v w (take (67 * words) given) before after
 
-pub ran_none : (v : LaneState) (given : List Bool) (before : List LaneStep) → Ran v v given 0 before before
+pub ran_none : (v : LaneView) (given : List Bool) (before : List LaneStep) → Ran v v given 0 before before
 ran_none v given before = record { taken = omega arith; at = omega arith; few = omega arith; batch = batch_none v before }
 
-pub ran_more : (u v w : LaneState) (given : List Bool) (words code : ℕ) (x : LaneStep) (before between after : List LaneStep) → Ran u v given words before between →
+pub ran_more : (u v w : LaneView) (given : List Bool) (words code : ℕ) (x : LaneStep) (before between after : List LaneStep) → Ran u v given words before between →
     w.taken ≡ v.taken + 67 → w.at ≡ v.at + 67 → bits_of 67 code ≡ take 67 (drop (67 * words) given) → is_low x → after ≡ between ++ shown_in (x ∷ []) →
     Brings v w (bits_of 67 code) (replicate 66 steps.Nothing ++ x ∷ []) → Ran u w given (words + 1) before after
 ran_more u v w given words code x before between after r taken at is low e brings = record {
@@ -148,15 +148,15 @@ ran_more u v w given words code x before between after r taken at is low e bring
 -- ---- the first bits of a batch
 
 -- the first n of these bits were taken
-pub record Batched (v w : LaneState) (given : List Bool) (n : ℕ) (before after : List LaneStep) : Type 0 where
+pub record Batched (v w : LaneView) (given : List Bool) (n : ℕ) (before after : List LaneStep) : Type 0 where
   pub taken : w.taken ≡ v.taken + n
   pub sparse : IsSparse v.taken (length before) w (length after)
   pub batch : BringsBatch v w (take n given) before after
 
-pub batched_none : (v : LaneState) (given : List Bool) (before : List LaneStep) → Batched v v given 0 before before
+pub batched_none : (v : LaneView) (given : List Bool) (before : List LaneStep) → Batched v v given 0 before before
 batched_none v given before = record { taken = omega arith; sparse = omega arith; batch = batch_none v before }
 
-pub batched_more : (u v w : LaneState) (given piece : List Bool) (n m : ℕ) (before between after : List LaneStep) → Batched u v given n before between → w.taken ≡ v.taken + m →
+pub batched_more : (u v w : LaneView) (given piece : List Bool) (n m : ℕ) (before between after : List LaneStep) → Batched u v given n before between → w.taken ≡ v.taken + m →
     StaysSparse v (length between) w (length after) → BringsBatch v w piece between after → take n given ++ piece ≡ take (n + m) given → Batched u w given (n + m) before after
 batched_more u v w given piece n m before between after b taken sparse more e = record {
   taken = (let t = b.taken in omega (arith, t, taken));
@@ -164,7 +164,7 @@ batched_more u v w given piece n m before between after b taken sparse more e = 
   batch = batch_same u w (take n given ++ piece) (take (n + m) given) before after e (batch_both u v w (take n given) piece before between after b.batch more);
 }
 
-pub batched_all : (v w : LaneState) (given : List Bool) (n : ℕ) (before after : List LaneStep) → length given ≤ n → Batched v w given n before after → BringsBatch v w given before after
+pub batched_all : (v w : LaneView) (given : List Bool) (n : ℕ) (before after : List LaneStep) → length given ≤ n → Batched v w given n before after → BringsBatch v w given before after
 batched_all v w given n before after all b = batch_same v w (take n given) given before after (take_all n given all) b.batch
 
 -- a byte more
@@ -181,7 +181,7 @@ next_byte (b ∷ bytes) (suc k) byte lt is =
     ∙ ap (λ (bits : List Bool). bits_of 8 b ++ bits) (next_byte bytes k byte (omega (arith, lt)) is)
     ∙ sym (take-append-add (bits_of 8 b) (bits_of_bytes bytes) (8 * k + 8)) ∙ ap (λ (n : ℕ). take n (bits_of 8 b ++ bits_of_bytes bytes)) f
 
-pub batched_byte : (u v w : LaneState) (bytes : List ℕ) (k byte : ℕ) (before between after : List LaneStep) → k < length bytes → get_or bytes k 0 ≡ byte → Batched u v (bits_of_bytes bytes) (8 * k) before between →
+pub batched_byte : (u v w : LaneView) (bytes : List ℕ) (k byte : ℕ) (before between after : List LaneStep) → k < length bytes → get_or bytes k 0 ≡ byte → Batched u v (bits_of_bytes bytes) (8 * k) before between →
     w.taken ≡ v.taken + 8 → StaysSparse v (length between) w (length after) → BringsBatch v w (bits_of 8 byte) between after → Batched u w (bits_of_bytes bytes) (8 * (k + 1)) before after
 batched_byte u v w bytes k byte before between after lt is b taken sparse more =
     let e : 8 * k + 8 ≡ 8 * (k + 1) = omega arith in

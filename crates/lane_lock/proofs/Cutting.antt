@@ -10,7 +10,7 @@ use Rattle.lk_base.proofs.Bits.{bits-cut, bits-mod, no_bits}
 use Rattle.lock_model.specs.declared.types.LaneStep.{LaneStep}
 use Rattle.lock_model.specs.declared.types.LaneStep.TheVariants as steps
 use Rattle.lane_lock.specs.Bytes.{Brings, with_bits}
-use Rattle.lane_lock.specs.Lane.{LaneState, with_bit}
+use Rattle.lane_lock.specs.Lane.{LaneView, with_bit}
 use Rattle.lane_lock.specs.Standing.{IsStep, Stands}
 use Rattle.lane_lock.proofs.LastWord.{held}
 use Rattle.lane_lock.proofs.Resting.{all_at_once, brings_bit, brings_both, brings_none, brings_same, with_both}
@@ -29,7 +29,7 @@ cut_at width x place behind e =
     ∙ sym (bits-cut place (behind + 1) x) ∙ ap (λ (n : ℕ). bits_of n x) e
 
 -- the bits up to the one at a place are those before it and this bit
-pub last_pushed : (v : LaneState) (width all place behind : ℕ) → place < width → behind ≡ width - 1 - place →
+pub last_pushed : (v : LaneView) (width all place behind : ℕ) → place < width → behind ≡ width - 1 - place →
     with_bits v (place + 1) (all / 2 ^ (width - (place + 1))) ≡ with_bit (with_bits v place (all / 2 ^ (width - place))) (bit_at all behind == 1)
 last_pushed v width all place behind lt e =
     let f : width - (place + 1) ≡ behind = omega (arith, lt, e) in
@@ -42,7 +42,7 @@ last_pushed v width all place behind lt e =
     ∙ ap (λ (n : ℕ). with_both v (((v.window * 2 ^ place + all / 2 ^ (width - place)) % 2 ^ 67 * 2 + digit (bit_at all behind == 1)) % 2 ^ 67) n) t
 
 -- the bits before, the last bit of the word, and the bits after it
-pub cut_brings : (v u w : LaneState) (width all place behind : ℕ) (x : LaneStep) (b : Bool) → v.watching ≡ true → place ≡ v.at + 66 - v.taken → behind ≡ width - 1 - place → place < width →
+pub cut_brings : (v u w : LaneView) (width all place behind : ℕ) (x : LaneStep) (b : Bool) → v.watching ≡ true → place ≡ v.at + 66 - v.taken → behind ≡ width - 1 - place → place < width →
     all / 2 ^ (width - place) < 2 ^ place → b ≡ (bit_at all behind == 1) →
     ((s : Settings) (bits : List Bool) → Stands (with_bits v place (all / 2 ^ (width - place))) s bits → Stands u s (bits ++ b ∷ []) × IsStep s (bits ++ b ∷ []) x) →
     Brings u w (bits_of behind (all % 2 ^ behind)) (replicate behind steps.Nothing) →
@@ -83,8 +83,8 @@ masked x count most =
 
 -- ---- a whole word at once
 
-pub code_brings : (v u w : LaneState) (code : ℕ) (x : LaneStep) → v.watching ≡ true → v.at ≡ v.taken → code < 2 ^ 67 → u ≡ with_both v code (v.taken + 67) →
-    ((s : Settings) (bits : List Bool) (z : LaneState) (b : Bool) → Stands z s bits → u ≡ with_bit z b → z.watching ≡ true → z.at + 67 ≤ z.taken + 1 → Stands w s (bits ++ b ∷ []) × IsStep s (bits ++ b ∷ []) x) →
+pub code_brings : (v u w : LaneView) (code : ℕ) (x : LaneStep) → v.watching ≡ true → v.at ≡ v.taken → code < 2 ^ 67 → u ≡ with_both v code (v.taken + 67) →
+    ((s : Settings) (bits : List Bool) (z : LaneView) (b : Bool) → Stands z s bits → u ≡ with_bit z b → z.watching ≡ true → z.at + 67 ≤ z.taken + 1 → Stands w s (bits ++ b ∷ []) × IsStep s (bits ++ b ∷ []) x) →
     Brings v w (bits_of 67 code) (replicate 66 steps.Nothing ++ x ∷ [])
 code_brings v u w code x ew begins low is goes =
     let before = with_bits v 66 (code / 2 ^ (67 - 66)) in

@@ -19,7 +19,7 @@ use Rattle.lock_model.proofs.Prefixes.{legal_same}
 use Rattle.phase_finder.specs.Phases.{highest}
 use Rattle.phase_finder.specs.Runs.{hit_at}
 use Rattle.phase_finder.proofs.Passing.{missed_since}
-use Rattle.lane_lock.specs.Lane.{LaneState}
+use Rattle.lane_lock.specs.Lane.{LaneView}
 use Rattle.lane_lock.specs.Search.{FarDeclaresNothing, HasFewSyncs}
 use Rattle.lane_lock.specs.Standing.{Chain, Holds, Hunts, positions}
 use Rattle.lane_lock.specs.Watch.{WatchState}
@@ -32,7 +32,7 @@ use Rattle.lane_lock.proofs.WatchSteps.{declared_before, has_frames, none_of, un
 -- ---- no word lock began long ago
 
 -- 33 words of a word lock would be counted
-pub begun_early : (v : LaneState) (s : Settings) (bits rest : List Bool) (front : List Attempt) (q : ℕ) → Hunts v s bits front → highest v.starts.counts ≤ 32 → v.from ≤ q → q + 67 * 33 ≤ length bits →
+pub begun_early : (v : LaneView) (s : Settings) (bits rest : List Bool) (front : List Attempt) (q : ℕ) → Hunts v s bits front → highest v.starts.counts ≤ 32 → v.from ≤ q → q + 67 * 33 ≤ length bits →
     LocksWords (bits ++ rest) q → ⊥
 begun_early v s bits rest front q h few low early k = elim (cases_lt (length bits) (q + 4288)) [
   | inl short ↦
@@ -205,7 +205,7 @@ module _ (w : WatchState) (s : Settings) (bits : List Bool) (p t : ℕ) (k : Wat
 -- ---- the law
 
 -- of a word lock that goes on
-none_of_lock : (v : LaneState) (s : Settings) (bits more : List Bool) (front back : List Attempt) (at : ℕ) → Holds v s bits front → HasFewSyncs v.watch → 32 ≤ s.metaframe →
+none_of_lock : (v : LaneView) (s : Settings) (bits more : List Bool) (front back : List Attempt) (at : ℕ) → Holds v s bits front → HasFewSyncs v.watch → 32 ≤ s.metaframe →
     length more ≤ 67 * 64 → AttemptsFrom s.metaframe (bits ++ more) (Some v.from) back → step_of s (bits ++ more) (front ++ back) ≡ steps.Locked at → ⊥
 none_of_lock v s bits more front [] at h far long short are e = let lock = h.lock more in are h.p lock.0.0 lock.0.1
 none_of_lock v s bits more front (a ∷ back) at h far long short are e =
@@ -231,7 +231,7 @@ none_of_lock v s bits more front (a ∷ back) at h far long short are e =
         (ap (step_of s (bits ++ more)) (append_assoc front (a ∷ []) (b ∷ back)) ∙ e)
 
 -- of a search
-none_of_search : (v : LaneState) (s : Settings) (bits more : List Bool) (front back : List Attempt) (at : ℕ) → Hunts v s bits front → highest v.starts.counts ≤ 32 → 32 ≤ s.metaframe →
+none_of_search : (v : LaneView) (s : Settings) (bits more : List Bool) (front back : List Attempt) (at : ℕ) → Hunts v s bits front → highest v.starts.counts ≤ 32 → 32 ≤ s.metaframe →
     1 ≤ length more → length more ≤ 67 * 64 → AttemptsFrom s.metaframe (bits ++ more) (Some v.from) back → step_of s (bits ++ more) (front ++ back) ≡ steps.Locked at → ⊥
 none_of_search v s bits [] front back at h low long some short are e = absurd (omega (arith, some))
 none_of_search v s bits (b ∷ more) front [] at h low long some short are e =

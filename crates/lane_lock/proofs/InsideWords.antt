@@ -10,10 +10,10 @@ use Rattle.lock_model.specs.declared.types.LaneReport.{LaneReport}
 use Rattle.lock_model.specs.declared.types.LaneStep.TheVariants as steps
 use Rattle.lock_model.specs.Steps.{step_covered}
 use Rattle.lane_lock.specs.declared.passing.Passing.TheVariants as passings
-use Rattle.lane_lock.specs.declared.seen.Seen.{Seen}
+use Rattle.lane_lock.specs.declared.seen_word.SeenWord.{SeenWord}
 use Rattle.lane_lock.specs.Behind.{Sees}
 use Rattle.lane_lock.specs.Counts.{with_seen}
-use Rattle.lane_lock.specs.Lane.{LaneState}
+use Rattle.lane_lock.specs.Lane.{LaneView}
 use Rattle.lane_lock.specs.Standing.{IsStep, Stands, open_lock, tally}
 use Rattle.lane_lock.specs.Watch.{WatchState}
 use Rattle.lane_lock.specs.Watching.{Answers, WatchesLock}
@@ -22,7 +22,7 @@ use Rattle.lane_lock.proofs.LastWord.{held, last_word_is, there_behind, word_beh
 use Rattle.lane_lock.proofs.Tallies.{tally_seen}
 
 -- a word after the declaring one is no declaration
-covered_step : (s : Settings) (bits : List Bool) (p d t at : ℕ) (seen : Seen) → d < t → at ≡ p + 67 * t → Sees seen s bits (p + 67 * d) (t - d) →
+covered_step : (s : Settings) (bits : List Bool) (p d t at : ℕ) (seen : SeenWord) → d < t → at ≡ p + 67 * t → Sees seen s bits (p + 67 * d) (t - d) →
     steps.Word seen.word seen.role at ≡ step_covered s bits p (Some d) t
 covered_step s bits p d t at seen less e k =
     let n = ne_eqb t d (λ e. omega arith) in
@@ -36,8 +36,8 @@ earlier : (v : WatchState) (s : Settings) (bits : List Bool) (p t d : ℕ) (decl
 earlier v s bits p t d declared k e = (subst (λ (x : Option ℕ). WatchesLock v s bits p t x) e k).phase.behind
 
 -- the last bit ends it, where it is answered as such a word and the report counts it
-pub inside_word : (v w : LaneState) (s : Settings) (bits : List Bool) (b : Bool) → Stands v s bits → v.watching ≡ true → v.at + 67 ≤ v.taken + 1 →
-    (word : RxWord) (seen : Seen) (at : ℕ) {window : ℕ} → window ≡ (v.window * 2 + digit b) % 2 ^ 67 → word ≡ word_of_code window → Answers (passings.Inside seen) v.watch w.watch word →
+pub inside_word : (v w : LaneView) (s : Settings) (bits : List Bool) (b : Bool) → Stands v s bits → v.watching ≡ true → v.at + 67 ≤ v.taken + 1 →
+    (word : RxWord) (seen : SeenWord) (at : ℕ) {window : ℕ} → window ≡ (v.window * 2 + digit b) % 2 ^ 67 → word ≡ word_of_code window → Answers (passings.Inside seen) v.watch w.watch word →
     w.watch.settings ≡ v.watch.settings → w.window ≡ (v.window * 2 + digit b) % 2 ^ 67 → w.taken ≡ v.taken + 1 → w.from ≡ v.from → w.watching ≡ true → w.at ≡ v.taken + 1 →
     w.report ≡ with_seen v.report seen → at ≡ v.at → Stands w s (bits ++ b ∷ []) × IsStep s (bits ++ b ∷ []) (steps.Word seen.word seen.role at)
 inside_word v w s bits b k ew due word seen at of_window of_word answered e1 e2 e3 ef eg ea report e =

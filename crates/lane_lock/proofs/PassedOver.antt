@@ -24,7 +24,7 @@ use Rattle.phase_finder.specs.Phases.{Watches}
 use Rattle.phase_finder.specs.Runs.{hit_at}
 use Rattle.phase_finder.proofs.Passing.{others_agree}
 use Rattle.lane_lock.specs.Bytes.{Brings, BringsBatch}
-use Rattle.lane_lock.specs.Lane.{LaneState}
+use Rattle.lane_lock.specs.Lane.{LaneView}
 use Rattle.lane_lock.specs.Marks.{IsAlive, MarkList, Recalls, RecallsAlive}
 use Rattle.lane_lock.specs.Search.{CanPass}
 use Rattle.lane_lock.specs.Standing.{Chain, Holds, Hunts, IsStep, Stands, positions, tally}
@@ -71,7 +71,7 @@ quiet_steps s bits (b ∷ given) own are quiet =
 
 -- ---- what comes where bytes can be passed over
 
-module _ (v : LaneState) (s : Settings) (bits : List Bool) (st : Stands v s bits) (bytes : List ℕ) (words : ℕ) (can : CanPass v bytes words) where
+module _ (v : LaneView) (s : Settings) (bits : List Bool) (st : Stands v s bits) (bytes : List ℕ) (words : ℕ) (can : CanPass v bytes words) where
   abbrev pub given : List Bool
   given = bits_of_bytes bytes
 
@@ -289,7 +289,7 @@ module _ (v : LaneState) (s : Settings) (bits : List Bool) (st : Stands v s bits
           let at : m + (t - f.1) * 67 ≡ f.0 = omega (arith, sum, low, lt) in
           clash (is (t - f.1) (omega (arith, la, at, high))) (ap (hit_at (test_of has_legal ++ last_of has_legal)) at ∙ last_at has_legal (test_of has_legal) f.0 a f.4 f.5 ∙ f.6)
 
-  pub passes : (w : LaneState) (code n : ℕ) → w.watch.settings ≡ v.watch.settings → w.window ≡ code → code ≡ code_at given (many - 67) → w.taken ≡ v.taken + many → w.from ≡ v.from → w.watching ≡ v.watching → w.report ≡ v.report →
+  pub passes : (w : LaneView) (code n : ℕ) → w.watch.settings ≡ v.watch.settings → w.window ≡ code → code ≡ code_at given (many - 67) → w.taken ≡ v.taken + many → w.from ≡ v.from → w.watching ≡ v.watching → w.report ≡ v.report →
       Watches w.starts 67 64 v.from ((positions has_legal bits v.from ++ replicate passed false) ++ last_of has_legal) →
       n ≡ old → Recalls w.marks (replicate (n + passed) false ++ last_of has_sync) → Stands w s (bits ++ given)
   passes w code n e1 e2 ec e3 ef ew er starts en recalls =
@@ -320,7 +320,7 @@ module _ (v : LaneState) (s : Settings) (bits : List Bool) (st : Stands v s bits
       quiet_after (x ∷ g) b rest = h.quiet x (g ++ b ∷ rest)
 
 -- bytes of which no bit completes a step append none
-pub quiet_batch : (v w : LaneState) (bytes : List ℕ) (before : List LaneStep) → Brings v w (bits_of_bytes bytes) (replicate (8 * length bytes) steps.Nothing) → BringsBatch v w (bits_of_bytes bytes) before before
+pub quiet_batch : (v w : LaneView) (bytes : List ℕ) (before : List LaneStep) → Brings v w (bits_of_bytes bytes) (replicate (8 * length bytes) steps.Nothing) → BringsBatch v w (bits_of_bytes bytes) before before
 quiet_batch v w bytes before brings =
     let n = 8 * length bytes in
     record {

@@ -17,7 +17,7 @@ use Rattle.lock_model.specs.Locks.{AreAttempts}
 use Rattle.lock_model.specs.Steps.{AreSteps, step_of}
 use Rattle.lock_model.proofs.Reading.{low_number-append}
 use Rattle.lane_lock.specs.Bytes.{Brings, Rests, with_bits}
-use Rattle.lane_lock.specs.Lane.{LaneState, with_bit}
+use Rattle.lane_lock.specs.Lane.{LaneView, with_bit}
 use Rattle.lane_lock.specs.Standing.{IsStep, Stands}
 use Rattle.lane_lock.proofs.Lanes.{holding_short}
 use Rattle.lane_lock.proofs.LastWord.{held}
@@ -46,17 +46,17 @@ one_step s bits b own x are is = record {
 
 -- ---- bits after one another
 
-pub brings_none : (v : LaneState) → Brings v v [] []
+pub brings_none : (v : LaneView) → Brings v v [] []
 brings_none v = λ s bits own st are. (
   subst (λ (bs : List Bool). Stands v s bs) (sym (append-nil bits)) st,
   subst (λ (bs : List Bool). AreSteps s bs (own ++ [])) (sym (append-nil bits)) (subst (λ (g : List LaneStep). AreSteps s bits g) (sym (append-nil own)) are),
 )
 
-pub brings_bit : (v w : LaneState) (b : Bool) (x : LaneStep) →
+pub brings_bit : (v w : LaneView) (b : Bool) (x : LaneStep) →
     ((s : Settings) (bits : List Bool) → Stands v s bits → Stands w s (bits ++ b ∷ []) × IsStep s (bits ++ b ∷ []) x) → Brings v w (b ∷ []) (x ∷ [])
 brings_bit v w b x goes = λ s bits own st are. (let both = goes s bits st in (both.0, one_step s bits b own x are both.1))
 
-pub brings_both : (u v w : LaneState) (first second : List Bool) (one two : List LaneStep) → Brings u v first one → Brings v w second two → Brings u w (first ++ second) (one ++ two)
+pub brings_both : (u v w : LaneView) (first second : List Bool) (one two : List LaneStep) → Brings u v first one → Brings v w second two → Brings u w (first ++ second) (one ++ two)
 brings_both u v w first second one two f g = λ s bits own st are. (
     let p = f s bits own st are in
     let q = g s (bits ++ first) (own ++ one) p.0 p.1 in
@@ -66,17 +66,17 @@ brings_both u v w first second one two f g = λ s bits own st are. (
           (subst (λ (g : List LaneStep). AreSteps s ((bits ++ first) ++ second) g) (append_assoc own one two) q.1),
     ))
 
-pub brings_same : (v w : LaneState) (first second : List Bool) (one two : List LaneStep) → first ≡ second → one ≡ two → Brings v w first one → Brings v w second two
+pub brings_same : (v w : LaneView) (first second : List Bool) (one two : List LaneStep) → first ≡ second → one ≡ two → Brings v w first one → Brings v w second two
 brings_same v w first second one two e f h = subst (λ (bs : List Bool). Brings v w bs two) e (subst (λ (g : List LaneStep). Brings v w first g) f h)
 
 -- ---- within a word of a word lock
 
 -- one bit after the other
-abbrev all_bits : LaneState → List Bool → LaneState
+abbrev all_bits : LaneView → List Bool → LaneView
 all_bits v [] = v
 all_bits v (b ∷ given) = all_bits (with_bit v b) given
 
-abbrev pub with_both : LaneState → ℕ → ℕ → LaneState
+abbrev pub with_both : LaneView → ℕ → ℕ → LaneView
 with_both v window taken = record {
   window = window;
   taken = taken;
@@ -89,13 +89,13 @@ with_both v window taken = record {
   report = v.report;
 }
 
-all_kept : (given : List Bool) (v : LaneState) → all_bits v given ≡ with_both v (all_bits v given).window (v.taken + length given)
+all_kept : (given : List Bool) (v : LaneView) → all_bits v given ≡ with_both v (all_bits v given).window (v.taken + length given)
 all_kept [] v = (let e : v.taken ≡ v.taken + 0 = omega arith in ap (λ (n : ℕ). with_both v v.window n) e)
 all_kept (b ∷ given) v =
     let e : v.taken + 1 + length given ≡ v.taken + suc (length given) = omega arith in
     all_kept given (with_bit v b) ∙ ap (λ (n : ℕ). with_both v (all_bits (with_bit v b) given).window n) e
 
-all_brought : (given : List Bool) (v : LaneState) → v.watching ≡ true → v.taken + length given < v.at + 67 → Brings v (all_bits v given) given (replicate (length given) steps.Nothing)
+all_brought : (given : List Bool) (v : LaneView) → v.watching ≡ true → v.taken + length given < v.at + 67 → Brings v (all_bits v given) given (replicate (length given) steps.Nothing)
 all_brought [] v ew short = brings_none v
 all_brought (b ∷ given) v ew short =
     brings_both v (with_bit v b) (all_bits (with_bit v b) given) (b ∷ []) given (steps.Nothing ∷ []) (replicate (length given) steps.Nothing)
@@ -125,7 +125,7 @@ windows_more window bits given h =
     ∙ ap (λ (x : ℕ). x % 2 ^ 67) (sym parts)
 
 -- this many bits at once
-pub all_at_once : (v : LaneState) (count x : ℕ) → v.watching ≡ true → v.taken + count < v.at + 67 → x < 2 ^ count → Brings v (with_bits v count x) (bits_of count x) (replicate count steps.Nothing)
+pub all_at_once : (v : LaneView) (count x : ℕ) → v.watching ≡ true → v.taken + count < v.at + 67 → x < 2 ^ count → Brings v (with_bits v count x) (bits_of count x) (replicate count steps.Nothing)
 all_at_once v count x ew short low = λ s bits own st are. (
     let given = bits_of count x in
     let l : length given ≡ count = length-bits_of count x in
@@ -136,7 +136,7 @@ all_at_once v count x ew short low = λ s bits own st are. (
     ∙ windows_more v.window bits given st.window ∙ sym p.0.window in
     let same : all_bits v given ≡ with_bits v count x =
     all_kept given v ∙ ap (λ (y : ℕ). with_both v y (v.taken + length given)) (sym w) ∙ ap (λ (y : ℕ). with_both v ((v.window * 2 ^ count + x) % 2 ^ 67) (v.taken + y)) l in (
-      subst (λ (z : LaneState). Stands z s (bits ++ given)) same p.0,
+      subst (λ (z : LaneView). Stands z s (bits ++ given)) same p.0,
       subst (λ (y : ℕ). AreSteps s (bits ++ given) (own ++ replicate y steps.Nothing)) l p.1,
     ))
 
@@ -161,15 +161,15 @@ nothings_more (suc k) =
     ap (λ (g : List LaneStep). steps.Nothing ∷ g) (nothings_more k) ∙ ap (λ (n : ℕ). replicate n steps.Nothing) (sym e)
 
 -- the first bits were taken
-pub record Sought (v w : LaneState) (count bits k : ℕ) : Type 0 where
+pub record Sought (v w : LaneView) (count bits k : ℕ) : Type 0 where
   pub taken : w.taken ≡ v.taken + k
   pub rests : Rests w (count - k)
   pub stands : Brings v w (take k (bits_of count bits)) (replicate k steps.Nothing)
 
-pub sought_none : (v : LaneState) (count bits : ℕ) → Rests v count → Sought v v count bits 0
+pub sought_none : (v : LaneView) (count bits : ℕ) → Rests v count → Sought v v count bits 0
 sought_none v count bits rests = record { taken = omega arith; rests = λ ew. (let h = rests ew in omega (arith, h)); stands = brings_none v }
 
-pub sought_more : (v w w' : LaneState) (count bits k : ℕ) (b : Bool) → k < count → count ≤ 56 → Sought v w count bits k → b ≡ (bit_at bits (count - 1 - k) == 1) → w'.taken ≡ w.taken + 1 →
+pub sought_more : (v w w' : LaneView) (count bits k : ℕ) (b : Bool) → k < count → count ≤ 56 → Sought v w count bits k → b ≡ (bit_at bits (count - 1 - k) == 1) → w'.taken ≡ w.taken + 1 →
     ((n : ℕ) → n ≤ 66 → Rests w (n + 1) → Rests w' n) →
     ((s : Settings) (given : List Bool) → Stands w s given → Stands w' s (given ++ b ∷ []) × IsStep s (given ++ b ∷ []) steps.Nothing) → Sought v w' count bits (k + 1)
 sought_more v w w' count bits k b lt most sought e taken rests goes = record {
@@ -180,7 +180,7 @@ sought_more v w w' count bits k b lt most sought e taken rests goes = record {
       (brings_both v w w' (take k (bits_of count bits)) (b ∷ []) (replicate k steps.Nothing) (steps.Nothing ∷ []) sought.stands (brings_bit w w' b steps.Nothing goes));
 }
 
-pub sought_all : (v w : LaneState) (count bits k : ℕ) → count ≤ k → k ≤ count → Sought v w count bits k → Brings v w (bits_of count bits) (replicate count steps.Nothing)
+pub sought_all : (v w : LaneView) (count bits k : ℕ) → count ≤ k → k ≤ count → Sought v w count bits k → Brings v w (bits_of count bits) (replicate count steps.Nothing)
 sought_all v w count bits k low high sought =
     let e : k ≡ count = omega arith in
     brings_same v w (take k (bits_of count bits)) (bits_of count bits) (replicate k steps.Nothing) (replicate count steps.Nothing)

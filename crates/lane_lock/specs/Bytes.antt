@@ -7,7 +7,7 @@ use Rattle.lock_model.specs.Low.{all_low}
 use Rattle.lock_model.specs.Shows.{shown_in}
 use Rattle.lock_model.specs.Steps.{AreSteps}
 use Rattle.lane_lock.specs.declared.completed.Completed.{Completed}
-use Rattle.lane_lock.specs.Lane.{LaneState}
+use Rattle.lane_lock.specs.Lane.{LaneView}
 use Rattle.lane_lock.specs.Standing.{Stands}
 
 -- the steps of this many bits, one for each, where a word of a word lock ends within them or none does
@@ -20,12 +20,12 @@ abbrev pub steps_of_byte : Option Completed → List LaneStep
 steps_of_byte completed = steps_of_bits 8 completed
 
 -- these bits complete these steps, one for each, whatever bits came before
-abbrev pub Brings : LaneState → LaneState → List Bool → List LaneStep → Type 0
+abbrev pub Brings : LaneView → LaneView → List Bool → List LaneStep → Type 0
 Brings v w given shown = (s : Settings) (bits : List Bool) (own : List LaneStep) → Stands v s bits → AreSteps s bits own →
     Stands w s (bits ++ given) × AreSteps s (bits ++ given) (own ++ shown)
 
 -- these bits complete a step each, and those of them that show something are appended
-pub record BringsBatch (v w : LaneState) (given : List Bool) (before after : List LaneStep) : Type 0 where
+pub record BringsBatch (v w : LaneView) (given : List Bool) (before after : List LaneStep) : Type 0 where
   -- one for each bit in order
   pub column : List LaneStep
   pub long : length column ≡ length given
@@ -34,22 +34,22 @@ pub record BringsBatch (v w : LaneState) (given : List Bool) (before after : Lis
   pub brings : Brings v w given column
 
 -- a word of a word lock ends within this many bits
-abbrev pub EndsWithin : LaneState → ℕ → Type 0
+abbrev pub EndsWithin : LaneView → ℕ → Type 0
 EndsWithin v count = (v.watching ≡ true) × (v.at + 67 ≤ v.taken + count)
 
 -- since the first `first` bits had come, words ended at least 67 bits apart: there are `count` steps, and were `before` then
-abbrev pub IsSparse : ℕ → ℕ → LaneState → ℕ → Type 0
+abbrev pub IsSparse : ℕ → ℕ → LaneView → ℕ → Type 0
 IsSparse first before v count = 67 * (count - before) ≤ v.at + 66 - first
 
-abbrev pub StaysSparse : LaneState → ℕ → LaneState → ℕ → Type 0
+abbrev pub StaysSparse : LaneView → ℕ → LaneView → ℕ → Type 0
 StaysSparse v count w more = (first before : ℕ) → first ≤ v.taken → IsSparse first before v count → IsSparse first before w more
 
 -- no word of a word lock ends within this many bits
-abbrev pub Rests : LaneState → ℕ → Type 0
+abbrev pub Rests : LaneView → ℕ → Type 0
 Rests v count = v.watching ≡ true → v.taken + count < v.at + 67
 
 -- this many bits more, which are this number
-abbrev pub with_bits : LaneState → ℕ → ℕ → LaneState
+abbrev pub with_bits : LaneView → ℕ → ℕ → LaneView
 with_bits v count bits = record {
   window = (v.window * 2 ^ count + bits) % 2 ^ 67;
   taken = v.taken + count;

@@ -2,7 +2,7 @@
 use Rattle.std.specs.Prelude.{ℕ, ◌+◌, ◌*◌}
 use Rattle.lane_lock.specs.Headers.{HeaderCount}
 use Rattle.lane_lock.specs.Inside.{InsideState}
-use Rattle.lane_lock.specs.Lane.{LaneState}
+use Rattle.lane_lock.specs.Lane.{LaneView}
 use Rattle.lane_lock.specs.Watch.{WatchState}
 
 -- what they change
@@ -18,7 +18,7 @@ abbrev pub watch_ran : WatchState → ℕ → RunState → WatchState
 watch_ran v n run = record { settings = v.settings; words = v.words + n; headers = run.headers; frames = v.frames; declared = v.declared; inside = run.inside }
 
 -- the lane after n of them, the last of which has this code
-abbrev pub lane_ran : LaneState → ℕ → ℕ → RunState → LaneState
+abbrev pub lane_ran : LaneView → ℕ → ℕ → RunState → LaneView
 lane_ran v n code run = record {
   window = code;
   taken = v.taken + 67 * n;

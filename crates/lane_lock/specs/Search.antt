@@ -8,7 +8,7 @@ use Rattle.lock_model.specs.declared.types.LaneStep.TheVariants as steps
 use Rattle.lock_model.specs.Locks.{code_at}
 use Rattle.lock_model.specs.Steps.{AreSteps}
 use Rattle.phase_finder.specs.Phases.{highest}
-use Rattle.lane_lock.specs.Lane.{LaneState}
+use Rattle.lane_lock.specs.Lane.{LaneView}
 use Rattle.lane_lock.specs.Standing.{Stands}
 use Rattle.lane_lock.specs.Watch.{WatchState}
 
@@ -19,14 +19,14 @@ pub record HasFewSyncs (w : WatchState) : Type 0 where
 
 -- no word lock goes on, and no position of the search has more than 32 words with legal headers in a row up to the last bit; or one goes
 -- on that had few Syncs
-abbrev pub IsFar : LaneState → Type 0
+abbrev pub IsFar : LaneView → Type 0
 IsFar v = MatchBool v.watching (HasFewSyncs v.watch) (highest v.starts.counts ≤ 32)
 
 -- no step that the next bits complete, those of 64 words at most, declares a lock: a word lock that a search finds in them began less
 -- than 33 words ago, and a lock is declared at its 97th word or later; of one that goes on 64 words have two Syncs of one place at most,
 -- where it takes four in a row
 abbrev pub FarDeclaresNothing : Type 0
-FarDeclaresNothing = (v : LaneState) (s : Settings) (bits given : List Bool) (own shown : List LaneStep) (k at : ℕ) → IsFar v → length given ≤ 67 * 64 →
+FarDeclaresNothing = (v : LaneView) (s : Settings) (bits given : List Bool) (own shown : List LaneStep) (k at : ℕ) → IsFar v → length given ≤ 67 * 64 →
     Stands v s bits → AreSteps s bits own → AreSteps s (bits ++ given) (own ++ shown) → slice_get shown k ≡ Some (steps.Locked at) → ⊥
 
 -- each of the last 67 positions of these bits at which a whole word is there, or one up to `words` - 1 words before it, has an illegal
@@ -35,7 +35,7 @@ abbrev pub MissEach : List Bool → ℕ → Type 0
 MissEach bits words = (j : ℕ) → j < 67 → (i : ℕ) × (1 ≤ i) × (i ≤ words) × (is_legal (code_at bits (length bits + j - 66 - 67 * i)) ≡ false)
 
 -- no word lock is found in these bytes, which come next, and their last words alone show what a search knows after them
-pub record CanPass (v : LaneState) (bytes : List ℕ) (words : ℕ) : Type 0 where
+pub record CanPass (v : LaneView) (bytes : List ℕ) (words : ℕ) : Type 0 where
   pub searching : v.watching ≡ false
   pub far : highest v.starts.counts ≤ 32
   -- a position of the search is there

@@ -10,18 +10,18 @@ ghost use Rattle.lane_lock.specs.Watching.{Answers};
 
 use crate::headers::Headers;
 use crate::inside::Inside;
-use crate::seen::Seen;
+use crate::seen_word::SeenWord;
 use lk_base::RxWord;
 use std::marker::Model;
 
 /// What payload words of a declared lock change, one after another: a copy, which a loop over many of them holds in registers.
 #[derive(Clone, Copy)]
-pub struct Run {
+pub struct PayloadRun {
     headers: Headers,
     inside: Inside,
 }
 
-impl Model for Run {
+impl Model for PayloadRun {
     ghost use Rattle.lane_lock.specs.Run.{RunState};
 
     ghost Value = { RunState };
@@ -31,12 +31,12 @@ impl Model for Run {
     ghost inverse = { λ r. record { headers = r.headers; inside = r.inside } };
 }
 
-impl Run {
+impl PayloadRun {
     /// A run that begins after these words.
-    pub fn new(headers: Headers, inside: Inside) -> Run
+    pub fn new(headers: Headers, inside: Inside) -> PayloadRun
         ensures { result ≡ record { headers = headers; inside = inside } }
     {
-        Run { headers, inside }
+        PayloadRun { headers, inside }
     }
 
     /// The headers after it.
@@ -55,7 +55,7 @@ impl Run {
 
     /// Takes the next word, which is a payload word with a legal header. It counts as nothing in a report.
     #[inline(always)]
-    pub fn payload(&mut self, word: RxWord) -> Seen
+    pub fn payload(&mut self, word: RxWord) -> SeenWord
         requires ahead { 1 ≤ payloads_left self.old.inside }
         requires legal { bad_of word ≡ false }
         ensures left { payloads_left self.old.inside ≡ payloads_left self.new.inside + 1 }

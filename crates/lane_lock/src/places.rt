@@ -2,6 +2,7 @@ ghost use Rattle.std.specs.Prelude.{◌≡◌, ◌<◌, ◌≤◌, ◌+◌, ◌*
 ghost use Rattle.lk_base.specs.Checksum.{bits_of, bits_of_bytes};
 
 use crate::words::last_bits;
+use lane_model::CODE_BITS;
 use lk_base::eight_at;
 
 /// Some bits of bytes from bit `at` on as a number, the first of them highest. There are at least eight bytes.
@@ -35,5 +36,5 @@ pub fn code_at(bytes: &[u8], at: usize) -> u128
     let high = eight_at(bytes, place);
     let low = eight_at(bytes, place + 8);
     // The remainder is the count; with it the shift is known to be below 64.
-    ((high as u128) << 64 | low as u128) >> (after % 64) & ((1 << 67) - 1)
+    ((high as u128) << 64 | low as u128) >> (after % 64) & ((1 << CODE_BITS) - 1)
 }

@@ -13,11 +13,11 @@ use crate::marks::Marks;
 use crate::places::code_at;
 use crate::words::{is_bad, is_control_of};
 use coding_67b::decode;
-use lane_model::SYNC;
+use lane_model::{CODE_BITS, SYNC};
 use phase_finder::Finder;
 
-// 67 positions, all of them.
-const ALL: u128 = (1 << 67) - 1;
+// As many positions as a code has bits, all of them.
+const ALL: u128 = (1 << CODE_BITS) - 1;
 
 // The most words that are looked at: a position that has legal headers in all of them may be one of a word lock.
 const MOST_WORDS: usize = 24;
@@ -38,7 +38,7 @@ pub fn words_to_miss(bytes: &[u8]) -> Option<usize>
             return None;
         }
         words += 1;
-        legal &= legal_headers(bytes, end - 67 * words);
+        legal &= legal_headers(bytes, end - CODE_BITS as usize * words);
     }
     Some(words)
 }

@@ -3,7 +3,7 @@ ghost use Rattle.lock_model.specs.PayloadSteps.{payload_steps};
 ghost use Rattle.lock_model.specs.Shows.{shown_in};
 ghost use Rattle.lane_lock.specs.Found.{found_steps};
 
-use lane_model::Role;
+use lane_model::{CODE_BITS, Role};
 use lk_base::{OutOfMemory, RxWord};
 use lock_model::LaneStep;
 use std::alloc::Global;
@@ -15,7 +15,7 @@ pub const MOST_WORDS: usize = 64;
 /// The steps that bits of a lane show, in order: steps, then payload words that stand one after another, then steps. It takes
 /// memory when it is made, and none after.
 #[derive(Drop)]
-pub struct Found {
+pub struct StepList {
     before: Vec<LaneStep>,
     after: Vec<LaneStep>,
     /// The payload words are the first `count` of these.
@@ -29,7 +29,7 @@ pub struct Found {
     room: usize,
 }
 
-impl Model for Found {
+impl Model for StepList {
     ghost use Rattle.std.specs.Prelude.{◌≡◌, ◌≤◌, length, take, vec_capacity};
     ghost use Rattle.lane_lock.specs.Found.{FoundSteps};
 
@@ -40,14 +40,14 @@ impl Model for Found {
     ghost invariant = { λ f. (f.room ≤ vec_capacity f.before) × (f.room ≤ vec_capacity f.after) × (f.count ≤ 64) };
 }
 
-impl Found {
+impl StepList {
     /// No steps, with room for this many.
-    pub fn new(alloc: Global, room: usize) -> Result<Found, OutOfMemory>
+    pub fn new(alloc: Global, room: usize) -> Result<StepList, OutOfMemory>
         ensures { IfOk result (λ found. (found_steps found ≡ []) × (found.room ≡ room)) }
     {
         let before = Vec::with_capacity(alloc, room)?;
         let after = Vec::with_capacity(alloc, room)?;
-        Ok(Found {
+        Ok(StepList {
             before,
             after,
             words: [RxWord::Bad; 64],
@@ -130,7 +130,7 @@ impl Found {
     {
         for k in 0..words.len() {
             let role = Role::Payload(number + k as u32);
-            self.push(LaneStep::Word(words[k], role, at + 67 * k as u64));
+            self.push(LaneStep::Word(words[k], role, at + CODE_BITS as u64 * k as u64));
         }
     }
 

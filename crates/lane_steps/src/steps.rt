@@ -7,12 +7,12 @@ ghost use Rattle.lock_model.specs.Low.{is_low};
 ghost use Rattle.lane_lock.specs.Bytes.{Brings, BringsBatch};
 ghost use Rattle.lane_lock.specs.Found.{found_steps};
 ghost use Rattle.lane_lock.specs.Search.{IsFar};
-ghost use Rattle.lane_lock.specs.Standing.{IsReport, Stands};
+ghost use Rattle.lane_lock.specs.Standing.{IsReport, IsState, Stands};
 
 use crate::shown::{Shown, shown_of};
-use lane_lock::{Found, LaneLock};
+use lane_lock::{LaneLock, StepList};
 use lk_base::{Link, OutOfMemory};
-use lock_model::{LaneReport, LaneStep};
+use lock_model::{LaneReport, LaneState, LaneStep};
 use std::alloc::Global;
 use std::marker::Model;
 
@@ -88,7 +88,7 @@ impl LaneSteps {
     /// Takes bytes at once, and appends the steps that their bits complete to `found`, in order, without those that show nothing.
     /// The steps are those of as many calls of `byte`; after it no bit's step is kept. At most 2^60 bits come in all. It takes no
     /// memory.
-    pub fn take_batch(&mut self, bytes: &[u8], found: &mut Found)
+    pub fn take_batch(&mut self, bytes: &[u8], found: &mut StepList)
         requires few { self.old.lock.taken + 8 * length bytes.now ≤ 2 ^ 60 }
         requires room { length (found_steps found.old) + 8 * length bytes.now / 67 + 1 ≤ found.old.room }
         ensures taken { self.new.lock.taken ≡ self.old.lock.taken + 8 * length bytes.now }
@@ -136,5 +136,12 @@ impl LaneSteps {
         ensures { (s : Settings) (bits : List Bool) → Stands self.now.lock s bits → IsReport s bits result }
     {
         self.lock.report()
+    }
+
+    /// How far the search for locks is after the bytes so far.
+    pub fn state(&self) -> LaneState
+        ensures { (s : Settings) (bits : List Bool) → Stands self.now.lock s bits → IsState s bits result }
+    {
+        self.lock.state()
     }
 }

@@ -10,7 +10,7 @@ use Rattle.lock_model.specs.PayloadSteps.{payload_steps}
 use Rattle.lane_lock.specs.Bytes.{Brings}
 use Rattle.lane_lock.specs.Found.{found_steps}
 use Rattle.lane_lock.specs.Inside.{payload_number}
-use Rattle.lane_lock.specs.Lane.{LaneState}
+use Rattle.lane_lock.specs.Lane.{LaneView}
 use Rattle.lane_lock.specs.Run.{RunState, lane_ran, run_of, watch_ran}
 use Rattle.lane_lock.specs.Watch.{payloads_ahead}
 use Rattle.lane_lock.proofs.Batches.{Ran, ran_more}
@@ -21,15 +21,15 @@ use Rattle.lane_lock.proofs.lane.LaneLock.take_payloads.Goals as goal
 
 pub loop-done-init : goal.loop-done-init
 loop-done-init c =
-    let v : LaneState = c.args.self.now in
+    let v : LaneView = c.args.self.now in
     let found = found_steps c.args.found.now in
     let given = drop c.args.first (bits_of_bytes c.args.bytes.now) in
-    let run : c.run-run.result ≡ run_of v.watch = c.run-run.ensures ∙ ap (λ (x : LaneState). run_of x.watch) c.self.view_is in
+    let run : c.run-run.result ≡ run_of v.watch = c.run-run.ensures ∙ ap (λ (x : LaneView). run_of x.watch) c.self.view_is in
     let number : payload_number c.run-run.result.inside ≡ c.payload_number-number.result =
-    ap (λ (x : RunState). payload_number x.inside) run ∙ sym (c.payload_number-number.ensures.value ∙ ap (λ (x : LaneState). payload_number x.watch.inside) c.self.view_is) in
+    ap (λ (x : RunState). payload_number x.inside) run ∙ sym (c.payload_number-number.ensures.value ∙ ap (λ (x : LaneView). payload_number x.watch.inside) c.self.view_is) in
     record {
       ran = subst (λ (after : List LaneStep). Ran v (lane_ran v 0 c.self.inside.window c.run-run.result) given 0 found after) (sym (append-nil found))
-          (ran_first v given found c.self.inside.window c.run-run.result (ap (λ (x : LaneState). x.window) c.self.view_is) run);
+          (ran_first v given found c.self.inside.window c.run-run.result (ap (λ (x : LaneView). x.window) c.self.view_is) run);
       number = omega (arith, number);
       low = c.self.invariant.0;
       ahead = (let l = c.requires.ahead in let e = ahead_first v.watch 0 c.run-run.result run in omega (arith, l, e));
@@ -39,7 +39,7 @@ loop-done-init c =
 
 pub loop-done-preserved : goal.loop-done-preserved
 loop-done-preserved c =
-    let v : LaneState = c.args.self.now in
+    let v : LaneView = c.args.self.now in
     let given = drop c.args.first (bits_of_bytes c.args.bytes.now) in
     let found = found_steps c.args.found.now in
     let i = c.loop-done.invariant in
@@ -56,7 +56,7 @@ loop-done-preserved c =
     let next : 1 ≤ payloads_ahead old = omega (arith, more, ahead) in
     let inside = ahead_inside old next in
     let moves = ahead_moves old new next refl c.payload-seen.ensures.left in
-    let place : start + 67 * done ≡ v.at + 67 * done = ap (λ (x : LaneState). x.at + 67 * done) c.self.view_is in
+    let place : start + 67 * done ≡ v.at + 67 * done = ap (λ (x : LaneView). x.at + 67 * done) c.self.view_is in
     let role : seen.role ≡ roles.Payload (number + done) = c.payload-seen.ensures.role ∙ ap roles.Payload i.number in
     let few = c.requires.few in
     let most = c.requires.most in

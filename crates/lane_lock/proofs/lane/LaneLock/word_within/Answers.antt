@@ -5,7 +5,7 @@ use Rattle.lk_base.specs.Checksum.{bits_of}
 use Rattle.lk_base.specs.Link.{Settings}
 use Rattle.lock_model.specs.declared.types.LaneStep.TheVariants as steps
 use Rattle.lane_lock.specs.Bytes.{Brings, with_bits}
-use Rattle.lane_lock.specs.Lane.{LaneState, with_bit}
+use Rattle.lane_lock.specs.Lane.{LaneView, with_bit}
 use Rattle.lane_lock.specs.Standing.{Stands}
 use Rattle.lane_lock.proofs.Cutting.{cut_brings, first_below, last_pushed}
 use Rattle.lane_lock.proofs.lane.LaneLock.word_within.Goals as goal
@@ -18,8 +18,8 @@ returns-clause-stands c =
     let place = c.saturating_sub-place.result in
     let behind = width - 1 - place in
     let last = bit_at all behind == 1 in
-    let taken : c.self.inside.taken ≡ v.taken = ap (λ (x : LaneState). x.taken) c.self.view_is in
-    let from : c.self.inside.at ≡ v.at = ap (λ (x : LaneState). x.at) c.self.view_is in
+    let taken : c.self.inside.taken ≡ v.taken = ap (λ (x : LaneView). x.taken) c.self.view_is in
+    let from : c.self.inside.at ≡ v.at = ap (λ (x : LaneView). x.at) c.self.view_is in
     let at : place ≡ v.at + 66 - v.taken = (let e = c.saturating_sub-place.ensures in omega (arith, e, taken, from)) in
     let lt : place < width = (let h = c.requires.ends in omega (arith, at, h)) in
     let before = with_bits v place (all / 2 ^ (width - place)) in

@@ -7,7 +7,7 @@ use Rattle.lane_lock.specs.Behind.{Follows}
 use Rattle.lane_lock.specs.Watching.{illegal_at}
 use Rattle.lane_lock.proofs.WatchSteps.{illegal_is, inside_answer, loses_is_said}
 use Rattle.lane_lock.specs.Headers.{CountsHeaders}
-use Rattle.lane_lock.proofs.run.Run.payload.Goals as goal
+use Rattle.lane_lock.proofs.payload_run.PayloadRun.payload.Goals as goal
 
 pub returns-clause-answer : goal.returns-clause-answer
 returns-clause-answer c v going is s bits p t declared k there word =

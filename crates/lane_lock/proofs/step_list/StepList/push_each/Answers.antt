@@ -5,7 +5,7 @@ use Rattle.lk_base.specs.declared.word.RxWord.TheVariants.{Data}
 use Rattle.lock_model.specs.PayloadSteps.{payload_steps}
 use Rattle.lane_lock.specs.Found.{found_steps}
 use Rattle.lane_lock.proofs.FoundSteps.{length-payloads, words_more}
-use Rattle.lane_lock.proofs.found.Found.push_each.Goals as goal
+use Rattle.lane_lock.proofs.step_list.StepList.push_each.Goals as goal
 
 pub loop-k-init : goal.loop-k-init
 loop-k-init c = (sym (append-nil (found_steps c.args.self.now)), refl)
