@@ -10,7 +10,7 @@ use Rattle.lk_base.specs.declared.word.RxWord.{RxWord}
 use Rattle.lk_base.specs.declared.word.RxWord.TheVariants.{Bad}
 use Rattle.deskew.specs.States.{LaneState}
 use Rattle.deskew.specs.Blocks.{rows_at, word_at}
-use Rattle.deskew.specs.Lanes.{word_behind}
+use Rattle.deskew.specs.Lanes.{word_before_last}
 use Rattle.deskew.specs.Spread.{column, spread, spread_all}
 
 -- words after others stand after them
@@ -112,9 +112,9 @@ all_spread behind (suc n) ls block is =
 word_kept : (behind back first : ℕ) (l : LaneState) → back ≡ (l.last - (l.start + 67 * behind)) / 67 → back < length l.words → first ≡ length l.words - back - 1 →
     get_or l.words first Bad ≡ word_at behind l
 word_kept behind back first l b k f =
-    let e : get_or l.words first Bad ≡ word_behind back l.words =
+    let e : get_or l.words first Bad ≡ word_before_last back l.words =
     ap (λ (i : ℕ). get_or l.words i Bad) f ∙ sym (rw (lt-ltb back (length l.words) k) (unwrap_or-slice_get l.words (length l.words - back - 1) Bad)) in
-    e ∙ ap (λ (c : ℕ). word_behind c l.words) b
+    e ∙ ap (λ (c : ℕ). word_before_last c l.words) b
 
 one_kept : (behind n back first : ℕ) (l : LaneState) → back ≡ (l.last - (l.start + 67 * behind)) / 67 → back < length l.words → first ≡ length l.words - back - 1 →
     take n (drop (first + 1) l.words) ≡ column (behind + 1) n l → take (suc n) (drop first l.words) ≡ column behind (suc n) l

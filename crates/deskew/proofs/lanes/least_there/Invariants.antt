@@ -4,4 +4,4 @@ use Rattle.deskew.specs.Blocks.{least_there}
 use Rattle.deskew.proofs.lanes.least_there.Given as goal
 
 abbrev pub invariant-loop-lane : goal.invariant-loop-lane
-invariant-loop-lane l = (min l.least (least_there l.behind l.most (drop l.lane-index l.lanes)) ≡ least_there l.behind l.most l.lanes) × (l.least ≤ l.most)
+invariant-loop-lane l = (min l.least (least_there l.after l.most (drop l.lane-index l.lanes)) ≡ least_there l.after l.most l.lanes) × (l.least ≤ l.most)

@@ -10,7 +10,7 @@ loop-i-init c =
     let e = ap length c.requires.empty in
     let m = c.make_places.ensures.items in
     let long : length c.make_places.new.block.items ≡ c.args.rows * length c.args.lanes.now = omega (arith, e, m) in
-    (c.make_places.ensures.capacity, long, all_spread c.args.behind c.args.rows c.args.lanes.now c.make_places.new.block.items long)
+    (c.make_places.ensures.capacity, long, all_spread c.args.after c.args.rows c.args.lanes.now c.make_places.new.block.items long)
 
 pub loop-i-preserved : goal.loop-i-preserved
 loop-i-preserved c =
@@ -20,7 +20,7 @@ loop-i-preserved c =
     let lane = c.index-lanes-i.result in
     let step = length lanes in (
       c.spread.ensures.capacity ∙ inv.0,
-      ap length c.spread.ensures.items ∙ length_spread step i (column c.args.behind c.args.rows lane) c.loop-i.block.items ∙ inv.1,
-      ap (λ (ws : List RxWord). spread_all step (i + 1) c.args.behind c.args.rows (drop (i + 1) lanes) ws) c.spread.ensures.items
-          ∙ lane_more step i c.args.behind c.args.rows lanes lane c.loop-i.block.items c.loop-i-test.true c.index-lanes-i.is ∙ inv.2,
+      ap length c.spread.ensures.items ∙ length_spread step i (column c.args.after c.args.rows lane) c.loop-i.block.items ∙ inv.1,
+      ap (λ (ws : List RxWord). spread_all step (i + 1) c.args.after c.args.rows (drop (i + 1) lanes) ws) c.spread.ensures.items
+          ∙ lane_more step i c.args.after c.args.rows lanes lane c.loop-i.block.items c.loop-i-test.true c.index-lanes-i.is ∙ inv.2,
     )

@@ -8,4 +8,4 @@ abbrev pub invariant-loop-i : goal.invariant-loop-i
 invariant-loop-i l =
     (vec_capacity l.block ≡ vec_capacity l.fn.block)
     × (length l.block.items ≡ l.rows * length l.lanes)
-    × (spread_all (length l.lanes) l.i l.behind l.rows (drop l.i l.lanes) l.block.items ≡ rows_at l.behind l.rows l.lanes)
+    × (spread_all (length l.lanes) l.i l.after l.rows (drop l.i l.lanes) l.block.items ≡ rows_at l.after l.rows l.lanes)

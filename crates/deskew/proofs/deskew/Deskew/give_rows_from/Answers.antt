@@ -15,8 +15,8 @@ invariant_of-self c =
     let index = c.args.index in
     let count = c.count_rows-count.result in
     let phase : c.self.inside.phase ≡ phases.Inside index = ap (λ (d : State). d.phase) c.self.view_is ∙ c.requires.phase in
-    let turns : IsTurn link (phases.Inside index) c.self.inside.turn c.self.inside.behind = subst (λ (p : Phase). IsTurn link p c.self.inside.turn c.self.inside.behind) phase i.4 in
-    let behind : c.after_sync-behind.result ≡ link.skips + 2 + index / link.lanes = c.after_sync-behind.ensures ∙ ap (λ (d : State). d.settings.skips + 2 + index / d.settings.lanes) (sym c.self.view_is) in
+    let turns : IsTurn link (phases.Inside index) c.self.inside.turn c.self.inside.after = subst (λ (p : Phase). IsTurn link p c.self.inside.turn c.self.inside.after) phase i.4 in
+    let behind : c.after_sync-after.result ≡ link.skips + 2 + index / link.lanes = c.after_sync-after.ensures ∙ ap (λ (d : State). d.settings.skips + 2 + index / d.settings.lanes) (sym c.self.view_is) in
     let next = rows_place index link.lanes count i.2 in
     let q = next.1 in
     let lanes = c.lanes.ensures in (
@@ -26,7 +26,7 @@ invariant_of-self c =
       i.3,
       (
         turns.0 ∙ sym next.0 ∙ ap (λ (n : ℕ). (index + count * n) % link.lanes) (sym lanes),
-        (let e : c.after_sync-behind.result + count ≡ link.skips + 2 + (index + count * link.lanes) / link.lanes = omega (arith, behind, q) in e)
+        (let e : c.after_sync-after.result + count ≡ link.skips + 2 + (index + count * link.lanes) / link.lanes = omega (arith, behind, q) in e)
             ∙ ap (λ (n : ℕ). link.skips + 2 + (index + count * n) / link.lanes) (sym lanes),
       ),
     )
@@ -41,11 +41,11 @@ returns-clause-rows c =
     let held : State = record { settings = link; lanes = c.self.inside.lanes.items; phase = c.self.inside.phase; settled = c.self.inside.settled } in
     let after : State = record { settings = link; lanes = c.self.inside.lanes.items; phase = phases.Inside (index + count * c.lanes.result); settled = false } in
     let phase : c.self.inside.phase ≡ phases.Inside index = ap (λ (d : State). d.phase) c.self.view_is ∙ c.requires.phase in
-    let behind : c.after_sync-behind.result ≡ link.skips + 2 + index / link.lanes = c.after_sync-behind.ensures ∙ ap (λ (d : State). d.settings.skips + 2 + index / d.settings.lanes) (sym c.self.view_is) in
+    let behind : c.after_sync-after.result ≡ link.skips + 2 + index / link.lanes = c.after_sync-after.ensures ∙ ap (λ (d : State). d.settings.skips + 2 + index / d.settings.lanes) (sym c.self.view_is) in
     let counted : IsCount (vec_capacity c.args.block.now) count index held =
     subst (λ (n : ℕ). IsCount n count index held) c.capacity.ensures (subst (λ (d : State). IsCount c.capacity.result count index d) (sym c.self.view_is) c.count_rows-count.ensures.count) in
-    let items : c.push_rows.new.block.items ≡ rows_at c.after_sync-behind.result count c.self.inside.lanes.items =
-    c.push_rows.ensures.items ∙ ap (λ (ls : List LaneState). rows_at c.after_sync-behind.result count ls) c.deref.ensures.value in
+    let items : c.push_rows.new.block.items ≡ rows_at c.after_sync-after.result count c.self.inside.lanes.items =
+    c.push_rows.ensures.items ∙ ap (λ (ls : List LaneState). rows_at c.after_sync-after.result count ls) c.deref.ensures.value in
     subst (λ (d : State). AllRows (vec_capacity c.args.block.now) d c.push_rows.new.block.items after) c.self.view_is
-    (all_rows (vec_capacity c.args.block.now) count index c.after_sync-behind.result held after c.push_rows.new.block.items phase i.0 i.2 behind counted (omega (arith, none)) items
+    (all_rows (vec_capacity c.args.block.now) count index c.after_sync-after.result held after c.push_rows.new.block.items phase i.0 i.2 behind counted (omega (arith, none)) items
     (ap (λ (n : ℕ). record { settings = link; lanes = c.self.inside.lanes.items; phase = phases.Inside (index + count * n); settled = false }) c.lanes.ensures))

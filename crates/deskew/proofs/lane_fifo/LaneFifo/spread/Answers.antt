@@ -11,8 +11,8 @@ spread-next-requires-clause-within c =
     let n = c.len.ensures.len in
     let t = c.if-back-len.true in
     let here = subst (λ (l : LaneState). c.back-back.result < length l.words) c.self.view_is (omega (arith, n, t)) in
-    let is = parts_are c.args.behind c.args.rows c.back-back.result c.args.self.now c.kept.result.0.now c.kept.result.1.now c.back-back.ensures.value here c.if-rows-back.true c.kept.ensures in
-    (two_fit c.args.from c.args.step c.args.rows (length c.args.block.now.items) c.kept.result.0.now c.kept.result.1.now (ap length is ∙ length_column c.args.behind c.args.rows c.args.self.now)
+    let is = parts_are c.args.after c.args.rows c.back-back.result c.args.self.now c.kept.result.0.now c.kept.result.1.now c.back-back.ensures.value here c.if-rows-back.true c.kept.ensures in
+    (two_fit c.args.from c.args.step c.args.rows (length c.args.block.now.items) c.kept.result.0.now c.kept.result.1.now (ap length is ∙ length_column c.args.after c.args.rows c.args.self.now)
     c.requires.within).0
 
 pub spread-requires-clause-within : goal.spread-requires-clause-within
@@ -20,8 +20,8 @@ spread-requires-clause-within c =
     let n = c.len.ensures.len in
     let t = c.if-back-len.true in
     let here = subst (λ (l : LaneState). c.back-back.result < length l.words) c.self.view_is (omega (arith, n, t)) in
-    let is = parts_are c.args.behind c.args.rows c.back-back.result c.args.self.now c.kept.result.0.now c.kept.result.1.now c.back-back.ensures.value here c.if-rows-back.true c.kept.ensures in
-    let fit = (two_fit c.args.from c.args.step c.args.rows (length c.args.block.now.items) c.kept.result.0.now c.kept.result.1.now (ap length is ∙ length_column c.args.behind c.args.rows c.args.self.now)
+    let is = parts_are c.args.after c.args.rows c.back-back.result c.args.self.now c.kept.result.0.now c.kept.result.1.now c.back-back.ensures.value here c.if-rows-back.true c.kept.ensures in
+    let fit = (two_fit c.args.from c.args.step c.args.rows (length c.args.block.now.items) c.kept.result.0.now c.kept.result.1.now (ap length is ∙ length_column c.args.after c.args.rows c.args.self.now)
     c.requires.within).1 in
     let place = c.spread-next.ensures.place in
     let long = ap length c.spread-next.ensures.items ∙ length_spread c.args.step c.args.from c.kept.result.0.now c.args.block.now.items in
@@ -35,7 +35,7 @@ returns-then-rows-back-clause-items c =
     let front = c.kept.result.0.now in
     let rest = c.kept.result.1.now in
     let step = c.args.step in
-    let is = parts_are c.args.behind c.args.rows c.back-back.result c.args.self.now front rest c.back-back.ensures.value here c.if-rows-back.true c.kept.ensures in
+    let is = parts_are c.args.after c.args.rows c.back-back.result c.args.self.now front rest c.back-back.ensures.value here c.if-rows-back.true c.kept.ensures in
     c.spread.ensures.items
     ∙ ap (λ (at : ℕ). spread step at rest c.spread-next.new.block.items) c.spread-next.ensures.place
     ∙ ap (λ (ws : List RxWord). spread step (c.args.from + length front * step) rest ws) c.spread-next.ensures.items

@@ -12,5 +12,5 @@ loop-row-preserved c =
       i.0,
       length-set c.loop-row.block.items at c.word_at.result ∙ i.1,
       rows_left c.args.step at row c.args.rows c.loop-row-test.true ∙ i.2,
-      column_more c.args.step at c.args.behind row c.args.rows c.args.self.now c.loop-row.block.items c.word_at.result c.loop-row-test.true c.word_at.ensures ∙ i.3,
+      column_more c.args.step at c.args.after row c.args.rows c.args.self.now c.loop-row.block.items c.word_at.result c.loop-row-test.true c.word_at.ensures ∙ i.3,
     )

@@ -9,4 +9,4 @@ invariant-loop-row l =
     (vec_capacity l.block ≡ vec_capacity l.fn.block)
     × (length l.block.items ≡ length l.fn.block.items)
     × (l.at + (l.rows - l.row) * l.step ≡ l.from + l.rows * l.step)
-    × (spread l.step l.at (column (l.behind + l.row) (l.rows - l.row) l.self) l.block.items ≡ spread l.step l.from (column l.behind l.rows l.self) l.fn.block.items)
+    × (spread l.step l.at (column (l.after + l.row) (l.rows - l.row) l.self) l.block.items ≡ spread l.step l.from (column l.after l.rows l.self) l.fn.block.items)
