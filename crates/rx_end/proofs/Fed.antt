@@ -11,6 +11,7 @@ use Rattle.rx_front.specs.Standing as front
 use Rattle.rx_front.specs.Standing.{Progress}
 use Rattle.rx_front.specs.States as fronts
 use Rattle.rx_front.specs.States.{Lane, with_lanes}
+use Rattle.rx_front.proofs.Feeding.{finished_longest}
 use Rattle.rx_end.specs.States.{State}
 use Rattle.rx_end.specs.Observing.{Feeds, IsAtEnd}
 
@@ -27,11 +28,6 @@ all_few zero bytes (v ∷ lanes) s rounds (lane ∷ fed) (column ∷ columns) n 
 all_few (suc i) bytes (v ∷ lanes) s rounds (lane ∷ fed) (column ∷ columns) n st few =
     let r = all_few i bytes lanes s rounds fed columns n st.1 (omega (arith, few)) in
     omega (arith, r, few)
-
-same_longest : (i : ℕ) (fed : List Fed) → longest (finished_at i fed) ≡ longest fed
-same_longest i [] = refl
-same_longest zero (lane ∷ fed) = refl
-same_longest (suc i) (lane ∷ fed) = ap (max (length lane.bytes)) (same_longest i fed)
 
 -- only the front's lanes are others
 still_at_end : (lanes : List Lane) (f g : fronts.State) → g ≡ with_lanes lanes f → IsAtEnd f → IsAtEnd g
@@ -50,7 +46,7 @@ pub one_finished : (i : ℕ) (lanes : List Lane) (v w : State) → w.front ≡ w
     ((s : Settings) (fed : List Fed) (items : List Aligned) (t : Progress) → front.Stands v.front s fed items t → front.Stands w.front s (finished_at i fed) items t) → Feeds (finished_at i) v w
 one_finished i lanes v w e stage stands = record {
   stands = stands;
-  few = λ s fed items t st few. (let l = same_longest i fed in omega (arith, few, l));
+  few = λ s fed items t st few. (let l = finished_longest i fed in omega (arith, few, l));
   stage = stage;
   at_end = still_at_end lanes v.front w.front e;
 }

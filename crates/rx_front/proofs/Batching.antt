@@ -12,7 +12,7 @@ use Rattle.lock_model.specs.declared.types.LaneStep.{LaneStep}
 use Rattle.lock_model.specs.declared.types.LaneStep.TheVariants as steps
 use Rattle.lock_model.specs.Shows.{shown_in}
 use Rattle.lane_lock.specs.Bytes.{Brings, BringsBatch}
-use Rattle.lane_lock.specs.Lane.{LaneState}
+use Rattle.lane_lock.specs.Lane.{LaneView}
 use Rattle.lane_lock.specs.Search.{IsFar}
 use Rattle.lock_model.proofs.StepsHold.{steps_exist}
 use Rattle.lane_lock.proofs.Far.{far_declares_nothing}
@@ -45,7 +45,7 @@ use Rattle.rx_front.proofs.Taking.{all_did}
 -- ---- a lane
 
 -- it took this many bytes, and kept no step
-pub is_batch : (u v : Lane) (ring : List ℕ) (later : LaneState) (given kept : List LaneStep) (n : ℕ) → v ≡ u → length given ≡ 8 * n → 1 ≤ n → n ≤ length v.ring → ring ≡ drop n v.ring → kept ≡ [] →
+pub is_batch : (u v : Lane) (ring : List ℕ) (later : LaneView) (given kept : List LaneStep) (n : ℕ) → v ≡ u → length given ≡ 8 * n → 1 ≤ n → n ≤ length v.ring → ring ≡ drop n v.ring → kept ≡ [] →
     Brings v.lock later (bits_of_bytes (take n v.ring)) given →
     IsBatch n u (record { ring = ring; finished = v.finished; fed = v.fed; lock = later; steps = kept }) given
 is_batch u v ring later given kept n e count some has rest none goes =
@@ -65,7 +65,7 @@ is_batch u v ring later given kept n e count some has rest none goes =
     })
 
 -- and the deskew took the steps that they show
-pub batch_of : (u v : Lane) (ring : List ℕ) (later : LaneState) (kept found : List LaneStep) (n i : ℕ) (d e : deskew.State) → v ≡ u → 1 ≤ n → n ≤ length v.ring → ring ≡ drop n v.ring → kept ≡ [] →
+pub batch_of : (u v : Lane) (ring : List ℕ) (later : LaneView) (kept found : List LaneStep) (n i : ℕ) (d e : deskew.State) → v ≡ u → 1 ≤ n → n ≤ length v.ring → ring ≡ drop n v.ring → kept ≡ [] →
     BringsBatch v.lock later (bits_of_bytes (take n v.ring)) [] found → e ≡ steps_taken i found d →
     IsBatchOf n i u (record { ring = ring; finished = v.finished; fed = v.fed; lock = later; steps = kept }) d e
 batch_of u v ring later kept found n i d e same some has rest none b taken =

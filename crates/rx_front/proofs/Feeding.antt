@@ -34,7 +34,7 @@ more_longest i bytes [] = omega arith
 more_longest zero bytes (lane ∷ fed) = (let l = length-append lane.bytes bytes in omega (arith, l))
 more_longest (suc i) bytes (lane ∷ fed) = (let l = more_longest i bytes fed in omega (arith, l))
 
-finished_longest : (i : ℕ) (fed : List Fed) → longest (finished_at i fed) ≡ longest fed
+pub finished_longest : (i : ℕ) (fed : List Fed) → longest (finished_at i fed) ≡ longest fed
 finished_longest i [] = refl
 finished_longest zero (lane ∷ fed) = refl
 finished_longest (suc i) (lane ∷ fed) = ap (max (length lane.bytes)) (finished_longest i fed)

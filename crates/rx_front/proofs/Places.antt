@@ -5,14 +5,13 @@ use Rattle.std.proofs.lemmas.List.{length-append, length-take-le, take-append-le
 use Rattle.lk_base.specs.Link.{Settings}
 use Rattle.lk_base.specs.Checksum.{bits_of_bytes}
 use Rattle.lock_model.specs.declared.types.LaneStep.{LaneStep}
-use Rattle.lock_model.specs.declared.types.LaneReport.{LaneReport}
 use Rattle.lock_model.specs.Steps.{AreSteps}
 use Rattle.lane_lock.specs.Standing as lock
 use Rattle.event_model.specs.Fed.{Fed, first_bits}
 use Rattle.event_model.proofs.Clocks.{length-bits, bits-append}
 use Rattle.rx_front.specs.States.{Lane}
 use Rattle.rx_front.specs.Lanes.{AllStand, IsColumn, LaneStands, fed_lane, finished_lane}
-use Rattle.rx_front.specs.Calls.{IsReportOf, count_at, fed_more, finished_at, is_open, lanes_fed, lanes_finished, room_at}
+use Rattle.rx_front.specs.Calls.{AtLane, count_at, fed_more, finished_at, is_open, lanes_fed, lanes_finished, room_at}
 
 -- ---- what is asked of a lane, at its place in the list
 
@@ -41,13 +40,13 @@ finished_is i [] d w lt e = absurd (omega (arith, lt))
 finished_is zero (v ∷ lanes) d w lt e = ap (λ (x : Lane). x ∷ lanes) e
 finished_is (suc i) (v ∷ lanes) d w lt e = ap (λ (r : List Lane). v ∷ r) (finished_is i lanes d w (omega (arith, lt)) e)
 
-pub report_is : (i : ℕ) (lanes : List Lane) (d : Lane) (report : LaneReport) → i < length lanes →
-    ((s : Settings) (rounds : ℕ) (fed : Fed) (column : List LaneStep) → LaneStands (get_or lanes i d) s rounds fed column → lock.IsReport s (first_bits (8 * rounds) fed) report) →
-    (s : Settings) (rounds : ℕ) (fed : List Fed) (columns : List (List LaneStep)) → AllStand lanes s rounds fed columns → IsReportOf s rounds i fed report
-report_is i lanes d report lt h s rounds [] columns st = tt
-report_is zero (v ∷ lanes) d report lt h s rounds (lane ∷ fed) (column ∷ columns) st = h s rounds lane column st.0
-report_is (suc i) (v ∷ lanes) d report lt h s rounds (lane ∷ fed) (column ∷ columns) st = report_is i lanes d report (omega (arith, lt)) h s rounds fed columns st.1
-report_is i lanes d report lt h s rounds fed columns st = absurd (first_of (assumption, omega arith))
+pub holds_at : (i : ℕ) (lanes : List Lane) (d : Lane) (holds : Settings → ℕ → Fed → Type 0) → i < length lanes →
+    ((s : Settings) (rounds : ℕ) (fed : Fed) (column : List LaneStep) → LaneStands (get_or lanes i d) s rounds fed column → holds s rounds fed) →
+    (s : Settings) (rounds : ℕ) (fed : List Fed) (columns : List (List LaneStep)) → AllStand lanes s rounds fed columns → AtLane i fed (holds s rounds)
+holds_at i lanes d holds lt h s rounds [] columns st = tt
+holds_at zero (v ∷ lanes) d holds lt h s rounds (lane ∷ fed) (column ∷ columns) st = h s rounds lane column st.0
+holds_at (suc i) (v ∷ lanes) d holds lt h s rounds (lane ∷ fed) (column ∷ columns) st = holds_at i lanes d holds (omega (arith, lt)) h s rounds fed columns st.1
+holds_at i lanes d holds lt h s rounds fed columns st = absurd (first_of (assumption, omega arith))
 
 -- ---- the relation of a lane that is not finished, with more bytes or none
 

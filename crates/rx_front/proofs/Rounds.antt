@@ -13,7 +13,7 @@ use Rattle.lock_model.specs.declared.types.LaneStep.{LaneStep}
 use Rattle.lock_model.specs.declared.types.LaneStep.TheVariants as steps
 use Rattle.lock_model.specs.Steps.{AreSteps}
 use Rattle.lane_lock.specs.Bytes.{Brings}
-use Rattle.lane_lock.specs.Lane.{LaneState}
+use Rattle.lane_lock.specs.Lane.{LaneView}
 use Rattle.lane_lock.specs.Standing.{Stands}
 use Rattle.epoch_model.proofs.Leasts.{clash}
 use Rattle.event_model.specs.Fed.{Fed, first_bits}
@@ -57,7 +57,7 @@ pub column_length : (s : Settings) (rounds : ℕ) (fed : Fed) (column : List Lan
 column_length s rounds fed column is = grind (arith, common_steps)
 
 -- a lane that took a byte and these steps
-pub took : (v : Lane) (ring : List ℕ) (lock : LaneState) (given : List LaneStep) (byte : ℕ) (s : Settings) (rounds : ℕ) (fed : Fed) (column : List LaneStep) →
+pub took : (v : Lane) (ring : List ℕ) (lock : LaneView) (given : List LaneStep) (byte : ℕ) (s : Settings) (rounds : ℕ) (fed : Fed) (column : List LaneStep) →
     slice_get v.ring 0 ≡ Some byte → ring ≡ drop 1 v.ring → length given ≡ 8 →
     ((s : Settings) (bits : List Bool) (own : List LaneStep) → Stands v.lock s bits → AreSteps s bits own → Stands lock s (bits ++ bits_of 8 byte) × AreSteps s (bits ++ bits_of 8 byte) (own ++ given)) →
     LaneStands v s rounds fed column →
@@ -130,7 +130,7 @@ bits_more r n bytes =
     ∙ ap (λ b. b ++ bits_of_bytes (take n (drop r bytes))) (sym (bits_taken r bytes))
 
 -- a lane that took this many bytes and these steps, and kept these of them
-pub took_steps : (v : Lane) (ring : List ℕ) (later : LaneState) (given kept : List LaneStep) (n : ℕ) (s : Settings) (rounds : ℕ) (fed : Fed) (column : List LaneStep) → length given ≡ 8 * n → 1 ≤ n → n ≤ length v.ring → ring ≡ drop n v.ring →
+pub took_steps : (v : Lane) (ring : List ℕ) (later : LaneView) (given kept : List LaneStep) (n : ℕ) (s : Settings) (rounds : ℕ) (fed : Fed) (column : List LaneStep) → length given ≡ 8 * n → 1 ≤ n → n ≤ length v.ring → ring ≡ drop n v.ring →
     Brings v.lock later (bits_of_bytes (take n v.ring)) given → kept ≡ drop (8 * (rounds + n) - length kept) (column ++ given) → LaneStands v s rounds fed column →
     LaneStands (record { ring = ring; finished = v.finished; fed = v.fed; lock = later; steps = kept }) s (rounds + n) fed (column ++ given)
 took_steps v ring later given kept n s rounds fed column count some has rest goes last st =
@@ -162,7 +162,7 @@ took_steps v ring later given kept n s rounds fed column count some has rest goe
     }
 
 -- and kept all of them
-took_bytes : (v : Lane) (ring : List ℕ) (later : LaneState) (given : List LaneStep) (n bits : ℕ) (s : Settings) (rounds : ℕ) (fed : Fed) (column : List LaneStep) → length given ≡ 8 * n → 1 ≤ n → n ≤ length v.ring → ring ≡ drop n v.ring →
+took_bytes : (v : Lane) (ring : List ℕ) (later : LaneView) (given : List LaneStep) (n bits : ℕ) (s : Settings) (rounds : ℕ) (fed : Fed) (column : List LaneStep) → length given ≡ 8 * n → 1 ≤ n → n ≤ length v.ring → ring ≡ drop n v.ring →
     bits_of (8 * n) bits ≡ bits_of_bytes (take n v.ring) → Brings v.lock later (bits_of (8 * n) bits) given → LaneStands v s rounds fed column →
     LaneStands (record { ring = ring; finished = v.finished; fed = v.fed; lock = later; steps = given }) s (rounds + n) fed (column ++ given)
 took_bytes v ring later given n bits s rounds fed column count some has rest are goes st =
@@ -173,7 +173,7 @@ took_bytes v ring later given n bits s rounds fed column count some has rest are
     (sym (ap (λ m. drop m (column ++ given)) e ∙ drop-append_seam column given)) st
 
 -- the same of the lane as a call sees it
-pub is_taken : (u v : Lane) (ring : List ℕ) (later : LaneState) (given : List LaneStep) (n bits : ℕ) → v ≡ u → length given ≡ 8 * n → 1 ≤ n → n ≤ length v.ring → ring ≡ drop n v.ring →
+pub is_taken : (u v : Lane) (ring : List ℕ) (later : LaneView) (given : List LaneStep) (n bits : ℕ) → v ≡ u → length given ≡ 8 * n → 1 ≤ n → n ≤ length v.ring → ring ≡ drop n v.ring →
     bits_of (8 * n) bits ≡ bits_of_bytes (take n v.ring) → Brings v.lock later (bits_of (8 * n) bits) given →
     IsTaken n u (record { ring = ring; finished = v.finished; fed = v.fed; lock = later; steps = given })
 is_taken u v ring later given n bits e count some has rest are goes =

@@ -8,7 +8,7 @@ use Rattle.lock_model.specs.declared.types.LaneStep.{LaneStep}
 use Rattle.lock_model.specs.Low.{all_low}
 use Rattle.lock_model.specs.Shows.{shown_in, shows}
 use Rattle.lane_lock.specs.Bytes.{BringsBatch}
-use Rattle.lane_lock.specs.Lane.{LaneState}
+use Rattle.lane_lock.specs.Lane.{LaneView}
 use Rattle.lock_model.specs.PayloadSteps.{payload_steps}
 use Rattle.lk_base.specs.declared.word.RxWord.{RxWord}
 use Rattle.deskew.specs.Lanes.{fresh_lane}
@@ -60,7 +60,7 @@ taken_in_three i a b c d first second third lt one two three =
 
 -- ---- of a piece
 
-pub found_most : (v w : LaneState) (bits : List Bool) (before after : List LaneStep) → before ≡ [] → BringsBatch v w bits before after → length after ≤ length bits
+pub found_most : (v w : LaneView) (bits : List Bool) (before after : List LaneStep) → before ≡ [] → BringsBatch v w bits before after → length after ≤ length bits
 found_most v w bits before after none b =
     let n = ap (λ (xs : List LaneStep). length (xs ++ shown_in b.column)) none in
     let e = ap length b.appended in
@@ -68,7 +68,7 @@ found_most v w bits before after none b =
     let l = b.long in
     omega (arith, n, e, m, l)
 
-pub found_low : (v w : LaneState) (bits : List Bool) (before after : List LaneStep) → before ≡ [] → BringsBatch v w bits before after → all_low after
+pub found_low : (v w : LaneView) (bits : List Bool) (before after : List LaneStep) → before ≡ [] → BringsBatch v w bits before after → all_low after
 found_low v w bits before after none b =
     subst (λ (xs : List LaneStep). all_low xs) (sym (b.appended ∙ ap (λ (xs : List LaneStep). xs ++ shown_in b.column) none)) (low_shown b.column b.low)
 

@@ -2,7 +2,8 @@
 use Rattle.std.specs.Prelude.{ℕ, zero, suc, ◌-◌, ◌*◌, Bool, true, false, not, List, [], ◌∷◌, ◌++◌, length, replicate}
 use Rattle.lk_base.specs.Link.{Settings}
 use Rattle.lock_model.specs.declared.types.LaneReport.{LaneReport}
-use Rattle.lane_lock.specs.Standing.{IsReport}
+use Rattle.lock_model.specs.declared.types.LaneState.{LaneState}
+use Rattle.lane_lock.specs.Standing.{IsReport, IsState}
 use Rattle.event_model.specs.Fed.{Fed, first_bits}
 use Rattle.rx_front.specs.Lanes.{fed_lane, finished_lane}
 use Rattle.rx_front.specs.States.{Lane}
@@ -53,11 +54,19 @@ bytes_at i [] = 0
 bytes_at zero (lane ∷ fed) = length lane.bytes
 bytes_at (suc i) (lane ∷ fed) = bytes_at i fed
 
+-- this holds of lane number i, if there is one
+abbrev pub AtLane : ℕ → List Fed → (Fed → Type 0) → Type 0
+AtLane i [] holds = Unit {0}
+AtLane zero (lane ∷ fed) holds = holds lane
+AtLane (suc i) (lane ∷ fed) holds = AtLane i fed holds
+
 -- this is the report over the bytes that this many rounds took of lane number i
 abbrev pub IsReportOf : Settings → ℕ → ℕ → List Fed → LaneReport → Type 0
-IsReportOf s rounds i [] report = Unit {0}
-IsReportOf s rounds zero (lane ∷ fed) report = IsReport s (first_bits (8 * rounds) lane) report
-IsReportOf s rounds (suc i) (lane ∷ fed) report = IsReportOf s rounds i fed report
+IsReportOf s rounds i fed report = AtLane i fed (λ lane. IsReport s (first_bits (8 * rounds) lane) report)
+
+-- this is how far the search for its locks is after them
+abbrev pub IsStateOf : Settings → ℕ → ℕ → List Fed → LaneState → Type 0
+IsStateOf s rounds i fed state = AtLane i fed (λ lane. IsState s (first_bits (8 * rounds) lane) state)
 
 -- lane number i took these bytes
 abbrev pub lanes_fed : ℕ → List ℕ → List Lane → List Lane

@@ -14,7 +14,7 @@ pub record Lane : Type 0 where
   -- how many bytes were fed
   pub fed : ℕ
   -- the locks of the bytes that rounds took
-  pub lock : lock.LaneState
+  pub lock : lock.LaneView
   -- the steps of the last rounds, one for each bit of their bytes
   pub steps : List LaneStep
 

@@ -5,7 +5,7 @@ ghost use Rattle.lane_lock.specs.Bytes.{BringsBatch};
 
 use circular_buffer::HeapCircularBuffer;
 use deskew::Deskew;
-use lane_lock::Found;
+use lane_lock::StepList;
 use lane_steps::LaneSteps;
 use lk_base::OutOfMemory;
 use std::alloc::Global;
@@ -20,7 +20,7 @@ const ROOM: usize = 8 * 536 + 1;
 /// The steps that one lane shows in many bytes.
 #[derive(Drop)]
 pub struct Batch {
-    found: Found,
+    found: StepList,
 }
 
 impl Model for Batch {
@@ -39,7 +39,7 @@ impl Model for Batch {
 impl Batch {
     /// No steps. It takes memory here, and no later call does.
     pub fn new(alloc: Global) -> Result<Batch, OutOfMemory> {
-        let found = Found::new(alloc, ROOM)?;
+        let found = StepList::new(alloc, ROOM)?;
         Ok(Batch { found })
     }
 
@@ -53,16 +53,16 @@ impl Batch {
         ensures stands { BringsBatch steps.old.lock steps.new.lock (bits_of_bytes (take count ring.now.items)) [] self.new }
     {
         self.found.clear();
-        let (front, behind) = ring.as_slices();
+        let (front, rest) = ring.as_slices();
         if count <= front.len() {
             steps.take_batch(&front[..count], &mut self.found);
         } else {
             steps.take_batch(front, &mut self.found);
-            steps.take_batch(&behind[..count - front.len()], &mut self.found);
+            steps.take_batch(&rest[..count - front.len()], &mut self.found);
         }
     }
 
-    /// The deskew takes the steps, in order, as those of this lane.
+    /// Gives the deskew the steps, in order, as the next ones of this lane, which is below the link's lanes. They are kept here, too.
     pub fn give(&self, lane: u32, deskew: &mut Deskew)
         requires { lane < deskew.old.settings.lanes }
         ensures { deskew.new ≡ steps_taken lane self.now deskew.old }

@@ -5,7 +5,7 @@ ghost use Rattle.lk_base.specs.Link.{Settings};
 ghost use Rattle.lock_model.specs.declared.types.LaneStep.{LaneStep as Step};
 ghost use Rattle.lock_model.specs.Low.{is_low};
 ghost use Rattle.lane_lock.specs.Search.{IsFar};
-ghost use Rattle.lane_lock.specs.Standing.{IsReport};
+ghost use Rattle.lane_lock.specs.Standing.{IsReport, IsState};
 ghost use Rattle.event_model.specs.Fed.{Fed, first_bits};
 ghost use Rattle.rx_front.specs.Batches.{IsBatchOf};
 ghost use Rattle.rx_front.specs.Locks.{lock_of};
@@ -16,7 +16,7 @@ use circular_buffer::HeapCircularBuffer;
 use deskew::Deskew;
 use lane_steps::LaneSteps;
 use lk_base::{Link, OutOfMemory, eight_at};
-use lock_model::{LaneReport, LaneStep};
+use lock_model::{LaneReport, LaneState, LaneStep};
 use std::alloc::Global;
 use std::marker::Model;
 
@@ -66,7 +66,7 @@ fn bits_ahead(ring: &HeapCircularBuffer<u8>, count: u32) -> Option<u64>
     ensures bits { IfSome result (λ bits. bits_of (8 * count) bits ≡ bits_of_bytes (take count ring.now.items)) }
     ensures below { IfSome result (λ bits. bits < 2 ^ (8 * count)) }
 {
-    let (front, _behind) = ring.as_slices();
+    let (front, _rest) = ring.as_slices();
     if front.len() < 8 {
         return None;
     }
@@ -247,5 +247,13 @@ impl FedLane {
             IsReport s (first_bits (8 * rounds) fed) result }
     {
         self.steps.report()
+    }
+
+    /// How far the search for locks is after the bytes that rounds took.
+    pub fn state(&self) -> LaneState
+        ensures { (s : Settings) (rounds : ℕ) (fed : Fed) (column : List Step) → LaneStands self.now s rounds fed column →
+            IsState s (first_bits (8 * rounds) fed) result }
+    {
+        self.steps.state()
     }
 }

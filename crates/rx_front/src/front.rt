@@ -7,7 +7,7 @@ ghost use Rattle.event_model.specs.Fed.{Fed};
 ghost use Rattle.deskew.specs.Blocks.{has_row};
 ghost use Rattle.deskew.specs.Steps.{start_at};
 ghost use Rattle.rx_front.specs.Batches.{MayTake};
-ghost use Rattle.rx_front.specs.Calls.{IsReportOf, count_at, fed_more, finished_at, is_open, lanes_fed, lanes_finished, nothing_fed, room_at};
+ghost use Rattle.rx_front.specs.Calls.{IsReportOf, IsStateOf, count_at, fed_more, finished_at, is_open, lanes_fed, lanes_finished, nothing_fed, room_at};
 ghost use Rattle.rx_front.specs.Lanes.{HasBytes, are_ready as can_be_taken};
 ghost use Rattle.rx_front.specs.Locks.{declared_at};
 ghost use Rattle.rx_front.specs.Standing.{GivesItem, MovesOn, MovesQuietly, Progress, Stands, begun, is_over, items_left, weight};
@@ -19,11 +19,11 @@ use crate::block::Block;
 use crate::fed_lane::{FedLane, lock_of};
 use crate::lanes::{
     are_empty, are_ready, feed_at, finish_at, fresh_lanes, keep_locks, report_at, show_steps,
-    take_all, take_batches, take_rounds, whole_rounds, zeros_from,
+    state_at, take_all, take_batches, take_rounds, whole_rounds, zeros_from,
 };
 use deskew::Deskew;
 use lk_base::{Aligned, Link, OutOfMemory, Pos, RxWord};
-use lock_model::LaneReport;
+use lock_model::{LaneReport, LaneState};
 use std::alloc::Global;
 use std::marker::Model;
 
@@ -74,6 +74,7 @@ impl Front {
         let deskew = Deskew::new(alloc, link)?;
         let batch = Batch::new(alloc)?;
         let block = Block::new(alloc)?;
+        // proof: the settings of a link are within their limits
         link.keeps_limits();
         Ok(Front {
             lanes,
@@ -119,6 +120,16 @@ impl Front {
             IsReportOf s t.rounds lane fed result }
     {
         report_at(&self.lanes, lane)
+    }
+
+    /// How far the search for locks of a lane is after the bytes that the rounds took from its ring. The lane is below the link's
+    /// lanes.
+    pub fn lane_state(&self, lane: u32) -> LaneState
+        requires { lane < length self.now.lanes }
+        ensures { (s : Settings) (fed : List Fed) (items : List Item) (t : Progress) → Stands self.now s fed items t →
+            IsStateOf s t.rounds lane fed result }
+    {
+        state_at(&self.lanes, lane)
     }
 
     /// Whether the last round found all lanes at their end, and the clock has passed all its bits.

@@ -5,7 +5,7 @@ ghost use Rattle.lock_model.specs.declared.types.LaneStep.{LaneStep as Step};
 ghost use Rattle.lane_lock.specs.Search.{IsFar};
 ghost use Rattle.std.specs.Int.{bit_at};
 ghost use Rattle.event_model.specs.Fed.{Fed};
-ghost use Rattle.rx_front.specs.Calls.{IsReportOf, count_at, is_open, lanes_fed, lanes_finished, room_at};
+ghost use Rattle.rx_front.specs.Calls.{IsReportOf, IsStateOf, count_at, is_open, lanes_fed, lanes_finished, room_at};
 ghost use Rattle.rx_front.specs.Lanes.{AllStand, AreCovered, AreTaken, AreWide, HasBytes, IsFresh, are_empty as have_no_byte, are_ready as can_be_taken, step_at};
 ghost use Rattle.rx_front.specs.Batches.{KeepLocks, TookBatch};
 ghost use Rattle.deskew.specs.Steps.{ticked};
@@ -14,7 +14,7 @@ use crate::batch::Batch;
 use crate::fed_lane::FedLane;
 use deskew::Deskew;
 use lk_base::{Link, OutOfMemory};
-use lock_model::LaneReport;
+use lock_model::{LaneReport, LaneState};
 use std::alloc::Global;
 
 /// The lanes of a link, of which no byte came.
@@ -179,4 +179,12 @@ pub fn report_at(lanes: &[FedLane], lane: u32) -> LaneReport
     ensures { (s : Settings) (rounds : ℕ) (fed : List Fed) (columns : List (List Step)) → AllStand lanes.now s rounds fed columns → IsReportOf s rounds lane fed result }
 {
     lanes[lane as usize].report()
+}
+
+/// How far the search for locks of a lane is after the bytes that the rounds took of it.
+pub fn state_at(lanes: &[FedLane], lane: u32) -> LaneState
+    requires { lane < length lanes.now }
+    ensures { (s : Settings) (rounds : ℕ) (fed : List Fed) (columns : List (List Step)) → AllStand lanes.now s rounds fed columns → IsStateOf s rounds lane fed result }
+{
+    lanes[lane as usize].state()
 }

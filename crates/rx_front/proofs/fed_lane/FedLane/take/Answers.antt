@@ -1,7 +1,7 @@
 -- A byte, or the end.
 use Rattle.std.proofs.Common.{ℕ, ◌≡◌, sym, ap, ◌∙◌, subst, ◌+◌, length, drop, true, ◌++◌}
 use Rattle.circular_buffer.specs.Buffer.{Buffer}
-use Rattle.lane_lock.specs.Lane.{LaneState}
+use Rattle.lane_lock.specs.Lane.{LaneView}
 use Rattle.rx_front.specs.States.{Lane}
 use Rattle.rx_front.specs.Lanes.{LaneStands, is_ready}
 use Rattle.rx_front.proofs.Rounds.{found_at_end, took}
@@ -24,7 +24,7 @@ returns-in-None c = record {
       let v = c.self.inside in
       let ring = c.pop_front.new.self.items in
       let shown = c.end.new.self.shown in
-      subst (λ (l : LaneState). LaneStands (record { ring = ring; finished = v.finished; fed = v.fed; lock = l; steps = shown }) s (rounds + 1) fed (column ++ shown)) (sym c.end.ensures.lock)
+      subst (λ (l : LaneView). LaneStands (record { ring = ring; finished = v.finished; fed = v.fed; lock = l; steps = shown }) s (rounds + 1) fed (column ++ shown)) (sym c.end.ensures.lock)
       (found_at_end _ ring shown s rounds fed column (sym c.in-None.ensures.value) (ap (λ (b : Buffer ℕ). b.items) c.pop_front.ensures.items) c.end.ensures.shown
       (subst (λ (w : Lane). is_ready w ≡ true) (sym c.self.view_is) c.requires)
       (subst (λ (w : Lane). LaneStands w s rounds fed column) (sym c.self.view_is) st));
