@@ -21,9 +21,9 @@ include=$folder/library/include
 strict=(-Wall -Wextra -Werror -pedantic -O1 "-I$include")
 
 holds 'calls of the header and of the archive' "$(grep -o '^uint32_t interlaken_[a-z_]*' "$include/interlaken.h" | cut -d ' ' -f 2 | sort)" \
-  "$(nm -g --defined-only "$archive" 2>/dev/null | grep -o '\binterlaken_receiver_[a-z]*$' | sort -u)"
+  "$(nm -g --defined-only "$archive" 2>/dev/null | grep -o '\binterlaken_receiver_[a-z_]*$' | sort -u)"
 holds 'calls of the shared library' "$(nm -D --defined-only library/lib/libinterlaken.so | awk '$2 == "T" { sub(/@.*/, "", $3); print $3 }' | sort)" \
-  "$(nm -g --defined-only "$archive" 2>/dev/null | grep -o '\binterlaken_receiver_[a-z]*$' | sort -u)"
+  "$(nm -g --defined-only "$archive" 2>/dev/null | grep -o '\binterlaken_receiver_[a-z_]*$' | sort -u)"
 
 # The keys after `out` are of other files, and no plan of lanes lacks one.
 numbers=$(grep -oE '\bINTERLAKEN_[A-Z_]+ = [0-9]+' "$include/interlaken.h" | sed 's/^INTERLAKEN_//; s/ = / /' | LC_ALL=C sort)
@@ -111,7 +111,7 @@ if ! lacks python3 python3 'examples/python'; then
 import sys
 sys.path.insert(0, sys.argv[1])
 import interlaken as i
-for kind, prefix in (i.Result, ""), (i.Cause, ""), (i.Key, "KEY_"), (i.Kind, ""), (i.Drop, "DROP_"), (i.Fault, "FAULT_"):
+for kind, prefix in (i.Result, ""), (i.Cause, ""), (i.Key, "KEY_"), (i.Kind, ""), (i.Drop, "DROP_"), (i.Fault, "FAULT_"), (i.LaneState, "LANE_"):
     for one in kind:
         print(one.name if one.name == "NO_KEY" else prefix + one.name, one.value)
 ' "$top/examples/python" | LC_ALL=C sort)" "$numbers"

@@ -24,7 +24,7 @@ extern "C" {
 #endif
 
 /* The version of these calls. The shared library has the first number in its name. */
-#define INTERLAKEN_VERSION "1.0.0"
+#define INTERLAKEN_VERSION "1.1.0"
 
 /* The results of calls. */
 enum interlaken_result {
@@ -105,6 +105,13 @@ enum interlaken_fault {
   INTERLAKEN_FAULT_END = 5       /* a lane's bits, or the words, were over */
 };
 
+/* How far the search for the locks of a lane is. */
+enum interlaken_lane_state {
+  INTERLAKEN_LANE_SEARCHING = 0, /* there is no word lock: none was found yet, or the last one was lost or given up */
+  INTERLAKEN_LANE_WORD_LOCK = 1, /* a word lock goes on, of whose words none has declared a lock */
+  INTERLAKEN_LANE_DECLARED = 2   /* a declared lock goes on */
+};
+
 /* The place of a payload word. */
 typedef struct interlaken_place {
   uint32_t known; /* 1 where there is a place; else 0, as are index and group */
@@ -171,6 +178,11 @@ uint32_t interlaken_receiver_read(interlaken_receiver *receiver, uint32_t offset
 /* Writes the report of a lane, counted from 0.
  * Results: DONE, NO_LANE, NO_RECEIVER; the report is all 0 where it is not DONE. */
 uint32_t interlaken_receiver_report(interlaken_receiver *receiver, uint32_t lane, interlaken_report *report);
+
+/* Writes how far the search for the locks of a lane, counted from 0, is after the bytes that were taken from the lane's ring so far:
+ * of enum interlaken_lane_state. The lane is in a declared lock where its report has more locks than lost ones.
+ * Results: DONE, NO_LANE, NO_RECEIVER; the state is INTERLAKEN_LANE_SEARCHING where it is not DONE. */
+uint32_t interlaken_receiver_lane_state(interlaken_receiver *receiver, uint32_t lane, uint32_t *state);
 
 #ifdef __cplusplus
 }

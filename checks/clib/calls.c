@@ -172,6 +172,16 @@ static void try_report(struct known *k) {
   want("report", result == (uint32_t)(!k->has ? INTERLAKEN_NO_RECEIVER : lane < 2 ? INTERLAKEN_DONE : INTERLAKEN_NO_LANE));
 }
 
+/* A lane is in a declared lock where it has more locks than lost ones. */
+static void try_state(struct known *k) {
+  interlaken_report report;
+  uint32_t lane = some_lane(), found = 99, result = interlaken_receiver_lane_state(&k->receiver, lane, &found);
+  want("state", result == (uint32_t)(!k->has ? INTERLAKEN_NO_RECEIVER : lane < 2 ? INTERLAKEN_DONE : INTERLAKEN_NO_LANE));
+  want("a state", found <= (uint32_t)(result == INTERLAKEN_DONE ? INTERLAKEN_LANE_DECLARED : INTERLAKEN_LANE_SEARCHING));
+  want("report of it", interlaken_receiver_report(&k->receiver, lane, &report) == result);
+  want("a declared lock", (found == INTERLAKEN_LANE_DECLARED) == (report.locks > report.lost));
+}
+
 static void sequence(void) {
   struct known two[2] = {absent, absent};
   uint32_t calls = 20 + below(200);
@@ -184,6 +194,7 @@ static void sequence(void) {
       case 3: if (below(3) == 0) try_finish(k); break;
       case 4: case 5: case 6: try_read(k); break;
       case 7: case 8: try_report(k); break;
+      case 9: case 10: try_state(k); break;
       default: if (below(2)) try_feed(k); else try_next(k); break;
     }
     want("no allocation after new", allocations == before);

@@ -92,6 +92,14 @@ class Fault(enum.IntEnum):
     END = 5
 
 
+class LaneState(enum.IntEnum):
+    """How far the search for the locks of a lane is."""
+
+    SEARCHING = 0
+    WORD_LOCK = 1
+    DECLARED = 2
+
+
 class Misuse(Exception):
     """A call was asked what it does not do; `result` says what."""
 
@@ -216,6 +224,7 @@ _CALLS = {
     "next": (_handle, ctypes.POINTER(_Event)),
     "read": (_handle, _u32, ctypes.c_char_p, _size, ctypes.POINTER(_size)),
     "report": (_handle, _u32, ctypes.POINTER(_Report)),
+    "lane_state": (_handle, _u32, ctypes.POINTER(_u32)),
 }
 
 
@@ -321,3 +330,9 @@ class Receiver:
         self._call("report", _lane(lane), report)
         first = report.first if report.has_first else None
         return Report(report.locks, first, report.lost, report.unframed, report.bad, report.sync, report.state, report.diag)
+
+    def lane_state(self, lane: int) -> LaneState:
+        """How far the search for the locks of a lane is after the bytes that were taken from its ring so far."""
+        state = _u32()
+        self._call("lane_state", _lane(lane), state)
+        return LaneState(state.value)

@@ -2,9 +2,10 @@
 use Rattle.std.specs.Prelude.{ℕ, ◌≡◌, ◌-◌, ◌<◌, ◌≤◌, ◌++◌, true, false, List, Option, Some, None, Result, Ok, Err, length, min, take, drop}
 use Rattle.lk_base.specs.Link.{Settings}
 use Rattle.lock_model.specs.declared.types.LaneReport.{LaneReport}
+use Rattle.lock_model.specs.declared.types.LaneState.{LaneState}
 use Rattle.receive_model.specs.Events.{Event, Setting}
 use Rattle.event_model.specs.Fed.{Fed}
-use Rattle.rx_front.specs.Calls.{IsReportOf, fed_more, finished_at, room_at}
+use Rattle.rx_front.specs.Calls.{IsReportOf, IsStateOf, fed_more, finished_at, room_at}
 use Rattle.rx_end.specs.declared.event.RxEvent.{RxEvent}
 use Rattle.rx_end.specs.Nexts.{IsNext}
 use Rattle.rx_end.specs.States.{State}
@@ -51,3 +52,10 @@ IsReport s lane (Ok report) = (lane < length s.receiver.front.lanes) ×
     ((settings : Settings) (setting : Setting) (fed : List Fed) (given : List Event) (stands : Stands s.receiver settings setting fed given) →
     IsReportOf settings stands.progress.rounds lane fed report)
 IsReport s lane (Err why) = (why ≡ misuses.NoLane) × (length s.receiver.front.lanes ≤ lane)
+
+-- a state is that after the bytes that were taken of the lane's ring
+abbrev pub IsLaneState : Session → ℕ → Result LaneState Misuse → Type 0
+IsLaneState s lane (Ok state) = (lane < length s.receiver.front.lanes) ×
+    ((settings : Settings) (setting : Setting) (fed : List Fed) (given : List Event) (stands : Stands s.receiver settings setting fed given) →
+    IsStateOf settings stands.progress.rounds lane fed state)
+IsLaneState s lane (Err why) = (why ≡ misuses.NoLane) × (length s.receiver.front.lanes ≤ lane)

@@ -2,6 +2,8 @@
 use Rattle.std.specs.Prelude.{ℕ}
 use Rattle.interlaken_c.specs.declared.misuse.Misuse.{Misuse}
 use Rattle.interlaken_c.specs.declared.misuse.Misuse.TheVariants as misuses
+use Rattle.lock_model.specs.declared.types.LaneState.{LaneState}
+use Rattle.lock_model.specs.declared.types.LaneState.TheVariants as states
 
 abbrev pub done : ℕ
 done = 0
@@ -17,6 +19,13 @@ no_receiver = 7
 
 abbrev pub in_use : ℕ
 in_use = 8
+
+-- ---- the states of a lane
+
+abbrev pub state_code : LaneState → ℕ
+state_code states.Searching = 0
+state_code states.WordLock = 1
+state_code states.Declared = 2
 
 abbrev pub code_of : Misuse → ℕ
 code_of misuses.NoLane = 3

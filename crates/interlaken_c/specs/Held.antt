@@ -1,11 +1,12 @@
 -- What a call does by a handle.
 use Rattle.std.specs.Prelude.{ℕ, ◌≡◌, List, Option, Some, None, Result, Ok, Err}
 use Rattle.lock_model.specs.declared.types.LaneReport.{LaneReport}
+use Rattle.lock_model.specs.declared.types.LaneState.{LaneState}
 use Rattle.rx_end.specs.declared.event.RxEvent.{RxEvent}
-use Rattle.interlaken_c.specs.Calls.{IsFeed, IsFinish, IsNextOf, IsRead, IsReport}
+use Rattle.interlaken_c.specs.Calls.{IsFeed, IsFinish, IsLaneState, IsNextOf, IsRead, IsReport}
 use Rattle.plan_errors.specs.declared.error.PlanError.{PlanError}
 use Rattle.plan_errors.specs.declared.error.PlanError.TheVariants as errors
-use Rattle.interlaken_c.specs.Codes.{bad_plan, code_of, done, in_use, no_receiver, out_of_memory}
+use Rattle.interlaken_c.specs.Codes.{bad_plan, code_of, done, in_use, no_receiver, out_of_memory, state_code}
 use Rattle.interlaken_c.specs.Opens.{IsOfPlan, IsRefused}
 use Rattle.interlaken_c.specs.Refusals.{of_row, refusal_of}
 use Rattle.interlaken_c.specs.declared.refusal.Refusal.{Refusal}
@@ -35,6 +36,11 @@ GivesCode (Err why) code = code ≡ code_of why
 abbrev pub GivesReport : Result LaneReport Misuse → ℕ → Report → Type 0
 GivesReport (Ok found) code report = (code ≡ done) × (report ≡ as_report found)
 GivesReport (Err why) code report = (code ≡ code_of why) × (report ≡ no_report)
+
+-- a lane's state is given where the call did what it was asked, else 0
+abbrev pub GivesState : Result LaneState Misuse → ℕ → ℕ → Type 0
+GivesState (Ok found) code state = (code ≡ done) × (state ≡ state_code found)
+GivesState (Err why) code state = (code ≡ code_of why) × (state ≡ 0)
 
 -- the result of a refusal
 abbrev pub refused_code : PlanError → ℕ
@@ -76,3 +82,7 @@ Reads old new offset before after code count =
 abbrev pub Reports : Option Session → Option Session → ℕ → ℕ → Report → Type 0
 Reports old new lane code report =
     OnSession ((code ≡ no_receiver) × (report ≡ no_report)) (λ s t. (result : Result LaneReport Misuse) × IsReport s lane result × GivesReport result code report × (t ≡ s)) old new
+
+abbrev pub TellsState : Option Session → Option Session → ℕ → ℕ → ℕ → Type 0
+TellsState old new lane code state =
+    OnSession ((code ≡ no_receiver) × (state ≡ 0)) (λ s t. (result : Result LaneState Misuse) × IsLaneState s lane result × GivesState result code state × (t ≡ s)) old new

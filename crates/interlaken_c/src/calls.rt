@@ -1,10 +1,12 @@
 //! The calls on a receiver.
 ghost use Rattle.std.specs.Prelude.{◌≡◌, IfOk, IfErr};
-ghost use Rattle.interlaken_c.specs.Held.{Feeds, Finishes, Frees, GivesCode, GivesCount, GivesEvent, GivesReport, Makes, Reads, Reports, refused_code};
+ghost use Rattle.interlaken_c.specs.Held.{Feeds, Finishes, Frees, GivesCode, GivesCount, GivesEvent, GivesReport, GivesState, Makes, Reads, Reports, TellsState, refused_code};
 ghost use Rattle.interlaken_c.specs.Reports.{no_report};
 ghost use Rattle.interlaken_c.specs.Opens.{IsOfPlan, IsRefused};
 
-use crate::codes::{BAD_PLAN, DONE, IN_USE, NO_RECEIVER, OUT_OF_MEMORY, code_of};
+use crate::codes::{
+    BAD_PLAN, DONE, IN_USE, LANE_SEARCHING, NO_RECEIVER, OUT_OF_MEMORY, code_of, state_code,
+};
 use crate::event::{CEvent, shown};
 use crate::misuse::Misuse;
 use crate::receiver::ReceiverHandle;
@@ -12,7 +14,7 @@ use crate::refusal::{Refusal, no_refusal, refusal_of};
 use crate::report::{Report, as_report, no_report};
 use crate::session::Session;
 use link_plan::{PlanError, read_plan};
-use lock_model::LaneReport;
+use lock_model::{LaneReport, LaneState};
 use std::alloc::Global;
 
 // A receiver of the plan of these bytes.
@@ -219,4 +221,38 @@ pub extern "C" fn interlaken_receiver_report(
     let answer = session.report(lane);
     receiver.put(session);
     reported(answer, report)
+}
+
+// The result of a call that gives a lane's state; it is 0 so far.
+fn told(answer: Result<LaneState, Misuse>, state: &mut u32) -> u32
+    requires { state.old ≡ 0 }
+    ensures { GivesState answer result state.new }
+{
+    match answer {
+        Ok(found) => {
+            *state = state_code(found);
+            DONE
+        }
+        Err(why) => code_of(why),
+    }
+}
+
+/// Writes how far the search for the locks of a lane is after the bytes that were taken from its ring: one of the states in
+/// `codes`, `LANE_SEARCHING` to `LANE_DECLARED`. It is `DONE`, `NO_LANE` or `NO_RECEIVER`.
+#[unsafe(no_mangle)]
+pub extern "C" fn interlaken_receiver_lane_state(
+    alloc: Global,
+    receiver: &mut ReceiverHandle,
+    lane: u32,
+    state: &mut u32,
+) -> u32
+    ensures { TellsState receiver.old.at.session receiver.new.at.session lane result state.new }
+{
+    *state = LANE_SEARCHING;
+    let Some(session) = receiver.take(alloc) else {
+        return NO_RECEIVER;
+    };
+    let answer = session.lane_state(lane);
+    receiver.put(session);
+    told(answer, state)
 }

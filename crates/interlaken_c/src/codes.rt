@@ -1,9 +1,10 @@
-//! The numbers that C sees, by the names of the header without its prefix: results, kinds of events, causes and keys of refusals, drops
-//! and faults.
+//! The numbers that C sees, by the names of the header without its prefix: results, kinds of events, causes and keys of refusals, drops,
+//! faults and states of lanes.
 ghost use Rattle.std.specs.Prelude.{◌≡◌};
-ghost use Rattle.interlaken_c.specs.Codes.{code_of};
+ghost use Rattle.interlaken_c.specs.Codes.{code_of, state_code};
 
 use crate::misuse::Misuse;
+use lock_model::LaneState;
 
 // ---- results
 
@@ -163,6 +164,28 @@ pub const FAULT_LOST: u32 = 4;
 
 /// A lane's bits, or the words, were over.
 pub const FAULT_END: u32 = 5;
+
+// ---- states of lanes
+
+/// The lane has no word lock.
+pub const LANE_SEARCHING: u32 = 0;
+
+/// A word lock of the lane goes on, without a declared lock.
+pub const LANE_WORD_LOCK: u32 = 1;
+
+/// A declared lock of the lane goes on.
+pub const LANE_DECLARED: u32 = 2;
+
+/// The number of a lane's state.
+pub fn state_code(state: LaneState) -> u32
+    ensures { result ≡ state_code state }
+{
+    match state {
+        LaneState::Searching => LANE_SEARCHING,
+        LaneState::WordLock => LANE_WORD_LOCK,
+        LaneState::Declared => LANE_DECLARED,
+    }
+}
 
 /// The result of a misuse.
 pub fn code_of(why: Misuse) -> u32

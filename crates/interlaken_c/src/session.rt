@@ -7,7 +7,7 @@ ghost use Rattle.rx_end.specs.Standing.{IsUnfed};
 use crate::misuse::{self, Misuse};
 use link_plan::Plan;
 use lk_base::OutOfMemory;
-use rx_end::{LaneReport, Receiver, RxEvent};
+use rx_end::{LaneReport, LaneState, Receiver, RxEvent};
 use std::alloc::Global;
 
 /// A receiver, which lanes of it are finished, how many bytes each was fed, and whether the last event was a packet.
@@ -38,7 +38,7 @@ fn none_fed(alloc: Global, lanes: usize) -> Result<Vec<usize>, OutOfMemory>
 }
 
 impl Session {
-    ghost use Rattle.interlaken_c.specs.Calls.{IsFeed, IsFinish, IsNextOf, IsRead, IsReport};
+    ghost use Rattle.interlaken_c.specs.Calls.{IsFeed, IsFinish, IsLaneState, IsNextOf, IsRead, IsReport};
 
     /// A receiver of a plan's lanes to which nothing was fed.
     pub fn new(alloc: Global, plan: &Plan) -> Result<Session, OutOfMemory>
@@ -142,6 +142,16 @@ impl Session {
             return Err(Misuse::NoLane);
         }
         Ok(self.receiver.lane_report(lane))
+    }
+
+    /// How far the search for the locks of a lane is.
+    pub fn lane_state(&self, lane: u32) -> Result<LaneState, Misuse>
+        ensures { IsLaneState self.now lane result }
+    {
+        if lane as usize >= self.finished.len() {
+            return Err(Misuse::NoLane);
+        }
+        Ok(self.receiver.lane_state(lane))
     }
 }
 
