@@ -18,6 +18,7 @@ use Rattle.rx_front.specs.Standing.{AtRound, Progress, locks_at}
 use Rattle.rx_front.specs.States.{State}
 use Rattle.rx_front.specs.Waiting.{words_in}
 use Rattle.rx_front.proofs.Clocked.{lane_count}
+use Rattle.rx_front.proofs.Waiting.{words_first}
 use Rattle.rx_end.specs.Observing.{AreLater, Knows, Learns}
 use Rattle.link_replay.specs.Counting.{Counter, Counts, HasCounted}
 use Rattle.link_replay.specs.Groups.{starts_of}
@@ -92,11 +93,6 @@ module _ (c : Counter) (f : State) (s : Settings) (fed : List Fed) (taken : List
       omega (arith, g, long, n)
 
 -- ---- words
-
-words_first : (n group index : ℕ) (ws : List RxWord) → take n (words_from group index ws) ≡ words_from group index (take n ws)
-words_first zero group index ws = refl
-words_first (suc n) group index [] = refl
-words_first (suc n) group index (w ∷ ws) = ap (λ (xs : List Aligned). Word (record { group = group; index = index }) w ∷ xs) (words_first n group (index + 1) ws)
 
 -- the first words that wait, from this place on
 pub first_words : (f : State) (at : Pos) (ws first : List RxWord) (count : ℕ) → f.waiting ≡ words_from at.group at.index (words_in f.waiting) → ws ≡ words_in f.waiting → first ≡ take count ws →

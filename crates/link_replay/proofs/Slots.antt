@@ -4,18 +4,16 @@ use Rattle.std.proofs.Math.Nat.{div-add-mod, mul_comm}
 use Rattle.delivery_laws.specs.GroupPlaces.{group_place}
 use Rattle.lk_base.specs.declared.position.Pos.{Pos}
 use Rattle.lk_base.specs.Link.{Settings, IsLink, group_of}
+use Rattle.link_laws.proofs.Follow.{some_words}
 use Rattle.link_replay.specs.Places.{AreOwn, IsGroupSlot, IsSlot, place_of}
-use Rattle.link_replay.proofs.Numbers.{metaframe-few, places-own, slot-at, slot-below, slot-place, step-times, whole-below}
-
-group-some : (s : Settings) → IsLink s → 0 < group_of s
-group-some s link = (let few = metaframe-few s link in let long = link.metaframe.0 in omega (arith, few, long))
+use Rattle.link_replay.proofs.Numbers.{places-own, slot-at, slot-below, slot-place, step-times, whole-below}
 
 pub places_own : (s : Settings) (skew : ℕ) → IsLink s → AreOwn (place_of s skew)
-places_own s skew link = (let long = link.metaframe.0 in places-own skew (67 * s.metaframe) (group_of s) (omega (arith, long)) (group-some s link))
+places_own s skew link = (let long = link.metaframe.0 in places-own skew (67 * s.metaframe) (group_of s) (omega (arith, long)) (some_words s link))
 
 pub slot_none : (s : Settings) (skew count : ℕ) (at : Pos) → IsLink s → count % group_of s ≡ 0 → IsGroupSlot s count skew at.group None → IsSlot (place_of s skew) count at None
 slot_none s skew count at link whole none = λ n below e. (
-    let w = whole-below (group_of s) count n (group-some s link) whole below in
+    let w = whole-below (group_of s) count n (some_words s link) whole below in
     let g : at.group ≡ skew + 67 * s.metaframe * (n / group_of s) = ap (λ (p : Pos). p.group) e in
     none (n / group_of s) w.0 (g ∙ step-times skew (n / group_of s) s.metaframe))
 
@@ -34,7 +32,7 @@ slot_further s skew count n k at link whole inside is =
     let size = group_of s in
     let step = 67 * s.metaframe in
     let q = n / size in
-    let w = whole-below size count n (group-some s link) whole is.0 in
+    let w = whole-below size count n (some_words s link) whole is.0 in
     let d = div-add-mod n size in
     let c = mul_comm size q in
     let group : at.group ≡ skew + step * q = ap (λ (p : Pos). p.group) is.1 in

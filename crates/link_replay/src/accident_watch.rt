@@ -13,8 +13,8 @@ use crate::counts::Accidents;
 use crate::group::is_sent_group;
 use crate::lanes::{fresh_lanes, note_locks, strange_locks};
 use crate::places::{group_slot, made, slot_in};
-use crate::stretch::Stretch;
 use crate::watched_lane::WatchedLane;
+use crate::watched_stretch::WatchedStretch;
 use lk_base::{Aligned, Link, OutOfMemory, Pos, RxWord, head, tail};
 use rx_front::Front;
 use std::alloc::Global;
@@ -23,17 +23,17 @@ use word_list::WordList;
 
 /// What is counted of the front of a receiver that is not the sender's.
 #[derive(Drop)]
-pub struct Watch {
+pub struct AccidentWatch {
     link: Link,
     /// Lane 0's skew.
     skew: u32,
     lanes: Vec<WatchedLane>,
-    stretch: Stretch,
+    stretch: WatchedStretch,
     groups: u64,
     stretches: u64,
 }
 
-impl Model for Watch {
+impl Model for AccidentWatch {
     ghost use Rattle.link_replay.specs.Standing.{Watch as WatchModel};
 
     ghost Value = { WatchModel };
@@ -41,9 +41,9 @@ impl Model for Watch {
     ghost view = { λ a. record { settings = a.link; skew = a.skew; lanes = a.lanes.items; stretch = a.stretch; groups = a.groups; stretches = a.stretches } };
 }
 
-impl Watch {
+impl AccidentWatch {
     /// Nothing came. There are as many skews as lanes.
-    pub fn new(alloc: Global, link: &Link, skews: &[u32]) -> Result<Watch, OutOfMemory>
+    pub fn new(alloc: Global, link: &Link, skews: &[u32]) -> Result<AccidentWatch, OutOfMemory>
         requires { length skews.now ≡ link.now.lanes }
         ensures same { IfOk result (λ v. (v.settings ≡ link.now) × (skews_of v.lanes ≡ skews.now)) }
         ensures watches { IfOk result (λ v. (words : List SentWord) (lanes : List LaneSoFar) (locks : ℕ → List ℕ) →
@@ -52,11 +52,11 @@ impl Watch {
         // proof: the settings of a link are within their limits
         link.keeps_limits();
         let lanes = fresh_lanes(alloc, skews)?;
-        Ok(Watch {
+        Ok(AccidentWatch {
             link: *link,
             skew: skews[0],
             lanes,
-            stretch: Stretch::new(),
+            stretch: WatchedStretch::new(),
             groups: 0,
             stretches: 0,
         })

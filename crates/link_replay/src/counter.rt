@@ -6,8 +6,8 @@ ghost use Rattle.rx_front.specs.States.{State as FrontState};
 ghost use Rattle.link_replay.specs.Counting.{Counts, HasCounted, HasCountedAll, HasCountedSome, given_to};
 ghost use Rattle.link_replay.specs.Counts.{counts_value};
 
+use crate::accident_watch::AccidentWatch;
 use crate::counts::Accidents;
-use crate::watch::Watch;
 use lk_base::{Aligned, Link, OutOfMemory, head};
 use rx_end::Observer;
 use rx_front::Front;
@@ -18,7 +18,7 @@ use word_list::WordList;
 /// Counts the accidents on the lanes of a link while they are received, where these words were sent: it observes the receiver.
 #[derive(Drop)]
 pub struct Counter<'w> {
-    watch: Watch,
+    watch: AccidentWatch,
     sent: &'w WordList,
 }
 
@@ -45,7 +45,7 @@ impl<'w> Counter<'w> {
         ensures counts { IfOk result (λ c. Counts c link.now (λ i. []) []) }
         ensures counted { IfOk result (λ c. (lanes : List (List ℕ)) → HasCounted c link.now lanes (λ i. []) []) }
     {
-        let watch = Watch::new(alloc, link, skews)?;
+        let watch = AccidentWatch::new(alloc, link, skews)?;
         Ok(Counter { watch, sent })
     }
 

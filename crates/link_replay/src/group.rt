@@ -7,6 +7,7 @@ ghost use Rattle.link_replay.specs.Standing.{are_numbered as have_number, are_se
 
 use crate::places::{made, number_at};
 use crate::watched_lane::WatchedLane;
+use lane_model::CODE_BITS;
 use lk_base::Link;
 use rx_front::Front;
 use word_list::WordList;
@@ -22,7 +23,7 @@ fn are_numbered(lanes: &[WatchedLane], link: &Link, front: &Front, number: u64) 
 {
     // proof: the settings of a link are within their limits
     link.keeps_limits();
-    let sent = 67 * (number * link.metaframe() as u64);
+    let sent = CODE_BITS as u64 * (number * link.metaframe() as u64);
     for i in 0..lanes.len() {
         if front.start(i as u32) != lanes[i].skew() as u64 + sent {
             return false;

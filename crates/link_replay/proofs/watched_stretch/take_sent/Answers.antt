@@ -6,7 +6,7 @@ use Rattle.lk_base.specs.Words.{payload, word_at}
 use Rattle.reassembly.specs.Folds.{with_all_data}
 use Rattle.reassembly.specs.Steps.{with_data}
 use Rattle.link_replay.proofs.CaughtUp.{left-on, least-length}
-use Rattle.link_replay.proofs.stretch.take_sent.Goals as goal
+use Rattle.link_replay.proofs.watched_stretch.take_sent.Goals as goal
 
 pub loop-slot-preserved : goal.loop-slot-preserved
 loop-slot-preserved c =

@@ -6,7 +6,7 @@ use Rattle.link_replay.specs.Groups.{starts_of}
 use Rattle.link_replay.specs.Standing.{Holds, ShowsItem, Watch, Watches}
 use Rattle.link_replay.specs.Stretches.{Running}
 use Rattle.link_replay.proofs.Items.{break_held, break_watched, group_held, group_watched}
-use Rattle.link_replay.proofs.watch.Watch.item.Goals as goal
+use Rattle.link_replay.proofs.accident_watch.AccidentWatch.item.Goals as goal
 
 pub returns-in-Group-clause-holds : goal.returns-in-Group-clause-holds
 returns-in-Group-clause-holds c = λ locks items h. (

@@ -7,7 +7,7 @@ use Rattle.link_replay.specs.Lanes.{AreNoted, WatchedLane}
 use Rattle.link_replay.specs.Standing.{Holds, IsSame, Watch, Watches, skews_of, with_lanes}
 use Rattle.link_replay.proofs.Items.{lanes_held, lanes_watched}
 use Rattle.link_replay.proofs.Locks.{noted_skews}
-use Rattle.link_replay.proofs.watch.Watch.locks.Goals as goal
+use Rattle.link_replay.proofs.accident_watch.AccidentWatch.locks.Goals as goal
 
 pub returns-clause-same : goal.returns-clause-same
 returns-clause-same c =

@@ -2,7 +2,7 @@
 use Rattle.std.proofs.Common.{refl, ap, ◌∙◌}
 use Rattle.link_replay.specs.Standing.{skews_of}
 use Rattle.link_replay.proofs.Made.{fresh_skews, made_watches}
-use Rattle.link_replay.proofs.watch.Watch.new.Goals as goal
+use Rattle.link_replay.proofs.accident_watch.AccidentWatch.new.Goals as goal
 
 pub returns-clause-same : goal.returns-clause-same
 returns-clause-same c = (refl, ap skews_of c.in_ok-lanes.ensures ∙ fresh_skews c.args.skews.now)

@@ -3,7 +3,7 @@ use Rattle.std.proofs.Common.{◌≡◌, ap, ◌+◌, arith, subst}
 use Rattle.lk_base.specs.Checksum.{digit}
 use Rattle.link_replay.specs.Standing.{TakesWord, Watch}
 use Rattle.link_replay.proofs.Items.{takes_word}
-use Rattle.link_replay.proofs.watch.Watch.word.Goals as goal
+use Rattle.link_replay.proofs.accident_watch.AccidentWatch.word.Goals as goal
 
 pub returns-then-word : goal.returns-then-word
 returns-then-word c =

@@ -7,7 +7,7 @@ use Rattle.lk_base.specs.Positions.{words_from}
 use Rattle.link_replay.specs.Places.{IsGroupSlot}
 use Rattle.link_replay.specs.Standing.{Holds, TakesNext, Watch, Watches}
 use Rattle.link_replay.proofs.Ran.{next-on}
-use Rattle.link_replay.proofs.watch.Watch.words.Goals as goal
+use Rattle.link_replay.proofs.accident_watch.AccidentWatch.words.Goals as goal
 
 pub loop-done-preserved : goal.loop-done-preserved
 loop-done-preserved c =

@@ -4,7 +4,7 @@ use Rattle.lk_base.specs.declared.word.Aligned.{Aligned}
 use Rattle.lk_base.specs.Positions.{words_from}
 use Rattle.epoch_model.specs.SoFar.{LaneSoFar}
 use Rattle.link_replay.specs.Standing.{Holds, IsSame, Watches}
-use Rattle.link_replay.proofs.watch.Watch.words.Given as goal
+use Rattle.link_replay.proofs.accident_watch.AccidentWatch.words.Given as goal
 
 abbrev pub invariant-loop-done : goal.invariant-loop-done
 invariant-loop-done l = record {
