@@ -11,7 +11,7 @@ use Rattle.std.proofs.lemmas.List.Kept.{AllPairs-filter}
 use Rattle.std.proofs.lemmas.List.Quantifiers.{all_pairs_push}
 use Rattle.std.proofs.Math.Seq.{take-suc-set}
 use Rattle.duplex.specs.Queues.{empty_queue, queue_at, drained_by, AreFilled}
-use Rattle.duplex.specs.declared.queue.Queue.{Queue}
+use Rattle.duplex.specs.declared.queue.ArrivalQueue.{ArrivalQueue}
 use Rattle.burst_scheduler.proofs.Rings.{filter_in, filter_out}
 use Rattle.burst_scheduler.proofs.Lines.{at_most}
 
@@ -26,14 +26,14 @@ at_most_below xs n distinct below =
 
 -- ---- a queue that is not empty has a number
 
-some_within : (queues : List Queue) (c : ℕ) → 1 ≤ (queue_at queues c).words → c < length queues
+some_within : (queues : List ArrivalQueue) (c : ℕ) → 1 ≤ (queue_at queues c).words → c < length queues
 some_within queues c some = elim (cases_lt c (length queues)) [
   | inl below ↦ below
-  | inr past ↦ (let none : (queue_at queues c).words ≡ 0 = ap (λ (q : Queue). q.words) (get_or_past queues c empty_queue past) in absurd (omega (arith, some, none)))
+  | inr past ↦ (let none : (queue_at queues c).words ≡ 0 = ap (λ (q : ArrivalQueue). q.words) (get_or_past queues c empty_queue past) in absurd (omega (arith, some, none)))
 ]
 
 -- there is room for one that was empty
-pub room_for : (queues : List Queue) (filled : List ℕ) (count channel : ℕ) → AreFilled queues filled count → length filled ≡ length queues → channel < length queues → (queue_at queues channel).words ≡ 0 → count < length filled
+pub room_for : (queues : List ArrivalQueue) (filled : List ℕ) (count channel : ℕ) → AreFilled queues filled count → length filled ≡ length queues → channel < length queues → (queue_at queues channel).words ≡ 0 → count < length filled
 room_for queues filled count channel f same within empty =
     let line : List ℕ = take count filled in
     let long : length line ≡ count = length-take-le count filled f.within in
@@ -51,8 +51,8 @@ room_for queues filled count channel f same within empty =
 
 -- ---- a word joins a queue
 
-module _ (queues : List Queue) (filled : List ℕ) (count channel : ℕ) (queue : Queue) (f : AreFilled queues filled count) (within : channel < length queues) (some : 1 ≤ queue.words) where
-  abbrev changed : List Queue
+module _ (queues : List ArrivalQueue) (filled : List ℕ) (count channel : ℕ) (queue : ArrivalQueue) (f : AreFilled queues filled count) (within : channel < length queues) (some : 1 ≤ queue.words) where
+  abbrev changed : List ArrivalQueue
   changed = set queues channel queue
 
   here : queue_at changed channel ≡ queue
@@ -66,12 +66,12 @@ module _ (queues : List Queue) (filled : List ℕ) (count channel : ℕ) (queue 
   filled_still was = record {
     within = f.within;
     only = λ c i. elim (cases_eq c channel) [
-      | inl e ↦ subst (λ k. 1 ≤ (queue_at changed k).words) (sym e) (subst (λ (q : Queue). 1 ≤ q.words) (sym here) some)
-      | inr ne ↦ subst (λ (q : Queue). 1 ≤ q.words) (sym (other c ne)) (f.only c i)
+      | inl e ↦ subst (λ k. 1 ≤ (queue_at changed k).words) (sym e) (subst (λ (q : ArrivalQueue). 1 ≤ q.words) (sym here) some)
+      | inr ne ↦ subst (λ (q : ArrivalQueue). 1 ≤ q.words) (sym (other c ne)) (f.only c i)
     ];
     all = λ c h. elim (cases_eq c channel) [
       | inl e ↦ subst (λ k. Contains (take count filled) k) (sym e) (f.all channel was)
-      | inr ne ↦ f.all c (subst (λ (q : Queue). 1 ≤ q.words) (other c ne) h)
+      | inr ne ↦ f.all c (subst (λ (q : ArrivalQueue). 1 ≤ q.words) (other c ne) h)
     ];
     distinct = f.distinct;
   }
@@ -88,15 +88,15 @@ module _ (queues : List Queue) (filled : List ℕ) (count channel : ℕ) (queue 
       record {
         within = (let n = length-set filled count channel in omega (arith, n, room));
         only = λ c i. elim (cases_eq c channel) [
-          | inl e ↦ subst (λ k. 1 ≤ (queue_at changed k).words) (sym e) (subst (λ (q : Queue). 1 ≤ q.words) (sym here) some)
+          | inl e ↦ subst (λ k. 1 ≤ (queue_at changed k).words) (sym e) (subst (λ (q : ArrivalQueue). 1 ≤ q.words) (sym here) some)
           | inr ne ↦ elim (Contains-push_cases line channel c (subst (λ (xs : List ℕ). Contains xs c) more i)) [
-            | inl in_line ↦ subst (λ (q : Queue). 1 ≤ q.words) (sym (other c ne)) (f.only c in_line)
+            | inl in_line ↦ subst (λ (q : ArrivalQueue). 1 ≤ q.words) (sym (other c ne)) (f.only c in_line)
             | inr e ↦ absurd (ne (sym e))
           ]
         ];
         all = λ c h. subst (λ (xs : List ℕ). Contains xs c) (sym more) (elim (cases_eq c channel) [
           | inl e ↦ subst (λ k. Contains (line ++ channel ∷ []) k) (sym e) (Contains-push line channel)
-          | inr ne ↦ Contains-append_left line (channel ∷ []) c (f.all c (subst (λ (q : Queue). 1 ≤ q.words) (other c ne) h))
+          | inr ne ↦ Contains-append_left line (channel ∷ []) c (f.all c (subst (λ (q : ArrivalQueue). 1 ≤ q.words) (other c ne) h))
         ]);
         distinct = subst (AllPairs (λ (x y : ℕ). x ≢ y)) (sym more) (all_pairs_push (λ (x y : ℕ). x ≢ y) line channel f.distinct outside);
       }
@@ -104,16 +104,16 @@ module _ (queues : List Queue) (filled : List ℕ) (count channel : ℕ) (queue 
 -- ---- the queues that are not empty lose a word, in the order of their list
 
 -- those of the first i of the list did, and no other queue changed
-pub record HasDrained (old now : List Queue) (filled : List ℕ) (i : ℕ) : Type 0 where
+pub record HasDrained (old now : List ArrivalQueue) (filled : List ℕ) (i : ℕ) : Type 0 where
   pub long : length now ≡ length old
   pub done : (c : ℕ) → Contains (take i filled) c → queue_at now c ≡ drained_by true (queue_at old c)
   pub left : (c : ℕ) → (Contains (take i filled) c → ⊥) → queue_at now c ≡ queue_at old c
 
 -- a queue keeps a word
-abbrev pub keeps_one : List Queue → ℕ → Bool
+abbrev pub keeps_one : List ArrivalQueue → ℕ → Bool
 keeps_one queues channel = nat_lt 1 (queue_at queues channel).words
 
-module _ (old now : List Queue) (filled : List ℕ) (count i : ℕ) (f : AreFilled old filled count) (below : i < count) (h : HasDrained old now filled i) where
+module _ (old now : List ArrivalQueue) (filled : List ℕ) (count i : ℕ) (f : AreFilled old filled count) (below : i < count) (h : HasDrained old now filled i) where
   inside : i < length filled
   inside = let w = f.within in omega (arith, w, below)
 
@@ -141,11 +141,11 @@ module _ (old now : List Queue) (filled : List ℕ) (count i : ℕ) (f : AreFill
   next_some =
       let second : get_or (take count filled) i channel ≡ channel = get_or-take count filled i channel below ∙ get_or_default filled i channel 0 inside in
       let long_line : length (take count filled) ≡ count = length-take-le count filled f.within in
-      subst (λ (q : Queue). 1 ≤ q.words) (sym next_is) (f.only channel (i, omega (arith, below, long_line), second))
+      subst (λ (q : ArrivalQueue). 1 ≤ q.words) (sym next_is) (f.only channel (i, omega (arith, below, long_line), second))
 
   pub drained_one : HasDrained old (set now channel (drained_by true (queue_at now channel))) filled (i + 1)
   drained_one =
-      let q : Queue = drained_by true (queue_at now channel) in
+      let q : ArrivalQueue = drained_by true (queue_at now channel) in
       let within : channel < length now = some_within now channel next_some in
       let same : queue_at (set now channel q) channel ≡ drained_by true (queue_at old channel) = get_or-set_same now channel q empty_queue within ∙ ap (drained_by true) next_is in
       let rest = λ (c : ℕ) (ne : c ≢ channel). get_or-set_other now channel c q empty_queue ne in
@@ -171,10 +171,10 @@ next_channel filled line kept i channel p h below is =
     is ∙ ap (λ (xs : List ℕ). get_or xs 0 channel) (sym (drop_more line i channel (omega (arith, long, below))) ∙ h.rest ∙ drop_more filled i channel below) ∙ get_or_default filled i channel 0 below
 
 -- an empty queue loses nothing
-nothing_lost : (queue : Queue) → queue.words ≡ 0 → queue ≡ drained_by true queue
-nothing_lost queue none = let e : queue.words ≡ queue.words - 1 = omega (arith, none) in ap (λ n. let q : Queue = record { words = n; peak = queue.peak } in q) e
+nothing_lost : (queue : ArrivalQueue) → queue.words ≡ 0 → queue ≡ drained_by true queue
+nothing_lost queue none = let e : queue.words ≡ queue.words - 1 = omega (arith, none) in ap (λ n. let q : ArrivalQueue = record { words = n; peak = queue.peak } in q) e
 
-module _ (old now : List Queue) (filled : List ℕ) (count : ℕ) (f : AreFilled old filled count) (h : HasDrained old now filled count) where
+module _ (old now : List ArrivalQueue) (filled : List ℕ) (count : ℕ) (f : AreFilled old filled count) (h : HasDrained old now filled count) where
   pub all_drained : (c : ℕ) → queue_at now c ≡ drained_by true (queue_at old c)
   all_drained c = elim (cases_lt 0 (queue_at old c).words) [
     | inl some ↦ h.done c (f.all c (omega (arith, some)))
@@ -192,10 +192,10 @@ module _ (old now : List Queue) (filled : List ℕ) (count : ℕ) (f : AreFilled
         only = λ c at.
             let r = filter_out (keeps_one old) (take count filled) c (subst (λ (xs : List ℕ). Contains xs c) is at) in
             let two : 1 < (queue_at old c).words = ltb-true 1 (queue_at old c).words r.1 in
-            let e : (queue_at now c).words ≡ (queue_at old c).words - 1 = ap (λ (q : Queue). q.words) (all_drained c) in
+            let e : (queue_at now c).words ≡ (queue_at old c).words - 1 = ap (λ (q : ArrivalQueue). q.words) (all_drained c) in
             omega (arith, two, e);
         all = λ c some.
-            let e : (queue_at now c).words ≡ (queue_at old c).words - 1 = ap (λ (q : Queue). q.words) (all_drained c) in
+            let e : (queue_at now c).words ≡ (queue_at old c).words - 1 = ap (λ (q : ArrivalQueue). q.words) (all_drained c) in
             let two : 1 < (queue_at old c).words = omega (arith, some, e) in
             subst (λ (xs : List ℕ). Contains xs c) (sym is) (filter_in (keeps_one old) (take count filled) c (f.all c (omega (arith, two))) (lt-ltb 1 (queue_at old c).words two));
         distinct = subst (AllPairs (λ (x y : ℕ). x ≢ y)) (sym is) (AllPairs-filter (λ (x y : ℕ). x ≢ y) (keeps_one old) (take count filled) f.distinct);
@@ -208,13 +208,13 @@ all_empty_at zero c = refl
 all_empty_at (suc n) zero = refl
 all_empty_at (suc n) (suc c) = all_empty_at n c
 
-pub all_empty : (n : ℕ) (queues : List Queue) (c : ℕ) → queues ≡ replicate n empty_queue → queue_at queues c ≡ empty_queue
-all_empty n queues c e = ap (λ (qs : List Queue). queue_at qs c) e ∙ all_empty_at n c
+pub all_empty : (n : ℕ) (queues : List ArrivalQueue) (c : ℕ) → queues ≡ replicate n empty_queue → queue_at queues c ≡ empty_queue
+all_empty n queues c e = ap (λ (qs : List ArrivalQueue). queue_at qs c) e ∙ all_empty_at n c
 
-pub none_filled : (queues : List Queue) (filled : List ℕ) → ((c : ℕ) → queue_at queues c ≡ empty_queue) → AreFilled queues filled 0
+pub none_filled : (queues : List ArrivalQueue) (filled : List ℕ) → ((c : ℕ) → queue_at queues c ≡ empty_queue) → AreFilled queues filled 0
 none_filled queues filled empty = record {
   within = omega arith;
   only = λ c h. absurd (omega (arith, h.1));
-  all = λ c some. let none : (queue_at queues c).words ≡ 0 = ap (λ (q : Queue). q.words) (empty c) in absurd (omega (arith, some, none));
+  all = λ c some. let none : (queue_at queues c).words ≡ 0 = ap (λ (q : ArrivalQueue). q.words) (empty c) in absurd (omega (arith, some, none));
   distinct = λ i j d low high. absurd (omega (arith, high));
 }

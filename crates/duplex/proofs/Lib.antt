@@ -11,3 +11,4 @@ mod Starts
 mod Runs
 mod Listed
 mod Packets
+mod TwoEndsHold

@@ -10,7 +10,7 @@ use Rattle.burst_scheduler.specs.Gives.{HasWords}
 use Rattle.duplex.specs.Queues.{names, queue_at, IsQueueOf, AreQueues}
 use Rattle.duplex.specs.Ways.{IsOnWay}
 use Rattle.duplex.specs.Sides.{IsSideAt, Hears}
-use Rattle.duplex.specs.declared.queue.Queue.{Queue}
+use Rattle.duplex.specs.declared.queue.ArrivalQueue.{ArrivalQueue}
 use Rattle.duplex.specs.declared.queue.Queues.{Queues}
 use Rattle.duplex.specs.declared.side.Side.{Side}
 use Rattle.duplex.specs.declared.duplex.Duplex.{Duplex}
@@ -35,7 +35,7 @@ word_sent old new settings ends packets own sent word keeps side way scheduler q
     let near : suc k ≤ k + settings.delay = omega (arith, d) in
     let source : source_of settings ends packets sent (suc k) ≡ source_of settings ends packets all (suc k) = ap (λ s. source_of settings ends packets s (suc k)) (sym front) ∙ same_source settings ends packets all k (suc k) near in
     let arrived : take (suc k - settings.delay) sent ≡ take (suc k - settings.delay) all = sym (take-append-le (suc k - settings.delay) sent (word ∷ []) (omega (arith, d))) in
-    let same = λ (c : ℕ) (q : Queue) (h : IsQueueOf settings sent (suc k) c q). (let r : IsQueueOf settings all (suc k) c q = record {
+    let same = λ (c : ℕ) (q : ArrivalQueue) (h : IsQueueOf settings sent (suc k) c q). (let r : IsQueueOf settings all (suc k) c q = record {
       words = h.words ∙ ap (λ s. queue_before settings s c (suc k)) (sym front) ∙ same_queue settings all c k (suc k) near;
       most = h.most ∙ ap (λ s. peak settings s c (suc k)) (sym front) ∙ same_peak settings all c k (suc k) near;
     } in r) in

@@ -12,7 +12,7 @@ use Rattle.duplex_model.proofs.Peaks.{queue_low}
 use Rattle.duplex.specs.Queues.{names, queue_at, joined_by, drained_by, turned_in, locals_added, IsQueueOf, AreQueues, Tells}
 use Rattle.duplex.specs.Ways.{IsOnWay}
 use Rattle.duplex.specs.Sides.{IsSideAt, HasTaken, AreListed}
-use Rattle.duplex.specs.declared.queue.Queue.{Queue}
+use Rattle.duplex.specs.declared.queue.ArrivalQueue.{ArrivalQueue}
 use Rattle.duplex.specs.declared.side.Side.{Side}
 use Rattle.duplex.proofs.Told.{told_before, told_after, rows_told, rows_here}
 
@@ -27,7 +27,7 @@ queue_within_peak settings sent c (suc t) = by (t % settings.drain == 0) (queue_
     by true n m = omega arith
     by false n m = omega arith
 
-turned_queue : (settings : Settings) (sent : List Word) (t c : ℕ) (queue : Queue) (joined : Option ℕ) (drains : Bool) → IsQueueOf settings sent t c queue → arrival settings sent c t ≡ (if names joined c then 1 else 0) → drains ≡ (t % settings.drain == 0)
+turned_queue : (settings : Settings) (sent : List Word) (t c : ℕ) (queue : ArrivalQueue) (joined : Option ℕ) (drains : Bool) → IsQueueOf settings sent t c queue → arrival settings sent c t ≡ (if names joined c then 1 else 0) → drains ≡ (t % settings.drain == 0)
     → IsQueueOf settings sent (suc t) c (turned_in joined drains c queue)
 unfolding queue_before peak
 turned_queue settings sent t c queue joined drains is come drain =
@@ -46,15 +46,15 @@ turned_queue settings sent t c queue joined drains is come drain =
     most true low e = ap₂ (λ p n. max p n) is.most (let w = is.words in let n : queue.words + 1 ≡ queue_before settings sent c t + arrival settings sent c t = omega (arith, e, w) in n)
     most false low e = let m = is.most in omega (arith, low, e, m)
 
-    drained : (b : Bool) (q : Queue) → (drained_by b q).words ≡ (if b then q.words - 1 else q.words)
+    drained : (b : Bool) (q : ArrivalQueue) → (drained_by b q).words ≡ (if b then q.words - 1 else q.words)
     drained true q = refl
     drained false q = refl
 
-    same_peak : (b : Bool) (q : Queue) → (drained_by b q).peak ≡ q.peak
+    same_peak : (b : Bool) (q : ArrivalQueue) → (drained_by b q).peak ≡ q.peak
     same_peak true q = refl
     same_peak false q = refl
 
-pub low_queues : (settings : Settings) (sent : List Word) (t c : ℕ) (queue : Queue) → t < 2 ^ 24 → IsQueueOf settings sent t c queue → queue.words < 2 ^ 31
+pub low_queues : (settings : Settings) (sent : List Word) (t c : ℕ) (queue : ArrivalQueue) → t < 2 ^ 24 → IsQueueOf settings sent t c queue → queue.words < 2 ^ 31
 low_queues settings sent t c queue h q =
     let is = q.words in
     let low : queue_before settings sent c t ≤ t = queue_low settings sent c t in

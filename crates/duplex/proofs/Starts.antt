@@ -12,7 +12,7 @@ use Rattle.duplex_model.specs.DuplexRun.{Settings, AreSettings, Ends, alone, row
 use Rattle.duplex.specs.Queues.{names, empty_queue, queue_at, IsQueueOf, AreQueues}
 use Rattle.duplex.specs.Ways.{IsOnWay}
 use Rattle.duplex.specs.Sides.{IsFresh, IsSideAt, Hears}
-use Rattle.duplex.specs.declared.queue.Queue.{Queue}
+use Rattle.duplex.specs.declared.queue.ArrivalQueue.{ArrivalQueue}
 use Rattle.duplex.specs.declared.queue.Queues.{Queues}
 use Rattle.duplex.specs.declared.side.Side.{Side}
 
@@ -99,9 +99,9 @@ no_rows : (settings : Settings) → flow_rows settings [] 0 ≡ []
 unfolding rows_from
 no_rows settings = ap (λ w. drop 1 (rows_from settings.delay w)) (nothing_sent (0 - settings.delay))
 
-empty_is : (settings : Settings) (c : ℕ) (queue : Queue) → queue ≡ empty_queue → IsQueueOf settings [] 0 c queue
+empty_is : (settings : Settings) (c : ℕ) (queue : ArrivalQueue) → queue ≡ empty_queue → IsQueueOf settings [] 0 c queue
 unfolding queue_before peak
-empty_is settings c queue e = record { words = ap (λ (q : Queue). q.words) e; most = ap (λ (q : Queue). q.peak) e }
+empty_is settings c queue e = record { words = ap (λ (q : ArrivalQueue). q.words) e; most = ap (λ (q : ArrivalQueue). q.peak) e }
 
 pub begins : (s : Side) (settings : Settings) (ends : Ends) (packets : List (ℕ × List ℕ)) → IsFresh s settings ends packets → IsSideAt s settings ends packets [] [] 0
 unfolding local_rows last_control

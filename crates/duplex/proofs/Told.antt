@@ -13,12 +13,12 @@ use Rattle.burst_scheduler.specs.declared.scheduler.Scheduler.{Scheduler}
 use Rattle.duplex_model.specs.DuplexRun.{Settings, is_data_on, arrival, queue_before, local_row, local_rows}
 use Rattle.duplex.specs.Queues.{empty_queue, queue_at, locals_added, Tells}
 use Rattle.duplex.specs.Sides.{AreListed}
-use Rattle.duplex.specs.declared.queue.Queue.{Queue}
+use Rattle.duplex.specs.declared.queue.ArrivalQueue.{ArrivalQueue}
 use Rattle.duplex.proofs.OwnRows.{last_push, AreHere, same_words}
 
 -- ---- the queue of a channel changes
 
-module _ (s : Scheduler) (a : Asked) (mark : ℕ) (queues : List Queue) (channel : ℕ) (queue : Queue) (within : channel < length queues) (t : Tells s a mark queues) where
+module _ (s : Scheduler) (a : Asked) (mark : ℕ) (queues : List ArrivalQueue) (channel : ℕ) (queue : ArrivalQueue) (within : channel < length queues) (t : Tells s a mark queues) where
   here : queue_at (set queues channel queue) channel ≡ queue
   here = get_or-set_same queues channel queue empty_queue within
 
@@ -32,8 +32,8 @@ module _ (s : Scheduler) (a : Asked) (mark : ℕ) (queues : List Queue) (channel
     here = t.here;
     words = t.words;
     last = λ c h. elim (cases_eq c channel) [
-      | inl e ↦ (t.last c h ∙ ap (λ k. nat_lt (queue_at queues k).words mark) e ∙ sym same ∙ ap (λ (q : Queue). nat_lt q.words mark) (sym here) ∙ ap (λ k. nat_lt (queue_at (set queues channel queue) k).words mark) (sym e))
-      | inr ne ↦ (t.last c h ∙ ap (λ (q : Queue). nat_lt q.words mark) (sym (other c ne)))
+      | inl e ↦ (t.last c h ∙ ap (λ k. nat_lt (queue_at queues k).words mark) e ∙ sym same ∙ ap (λ (q : ArrivalQueue). nat_lt q.words mark) (sym here) ∙ ap (λ k. nat_lt (queue_at (set queues channel queue) k).words mark) (sym e))
+      | inr ne ↦ (t.last c h ∙ ap (λ (q : ArrivalQueue). nat_lt q.words mark) (sym (other c ne)))
     ];
   }
 
@@ -47,8 +47,8 @@ module _ (s : Scheduler) (a : Asked) (mark : ℕ) (queues : List Queue) (channel
         here = All-push (λ (r : LocalRow). r.slot ≡ length a.words) t.rows row t.here refl;
         words = subst (λ (rs : List LocalRow). HasWords new (having_local a rs)) more (adds (locals_added a t.rows) t.words);
         last = λ c h. ap (λ (rs : List LocalRow). last_local rs c) (sym more) ∙ last_push (a.source.local ++ t.rows) row c ∙ elim (cases_eq c channel) [
-          | inl e ↦ (rw (eq-eqb channel c (sym e)) (is ∙ ap (λ (q : Queue). nat_lt q.words mark) (sym here) ∙ ap (λ k. nat_lt (queue_at (set queues channel queue) k).words mark) (sym e)))
-          | inr ne ↦ (rw (ne_eqb channel c (λ e. ne (sym e))) (t.last c h ∙ ap (λ (q : Queue). nat_lt q.words mark) (sym (other c ne))))
+          | inl e ↦ (rw (eq-eqb channel c (sym e)) (is ∙ ap (λ (q : ArrivalQueue). nat_lt q.words mark) (sym here) ∙ ap (λ k. nat_lt (queue_at (set queues channel queue) k).words mark) (sym e)))
+          | inr ne ↦ (rw (ne_eqb channel c (λ e. ne (sym e))) (t.last c h ∙ ap (λ (q : ArrivalQueue). nat_lt q.words mark) (sym (other c ne))))
         ];
       }
 
@@ -125,7 +125,7 @@ rows_told settings channels sent (suc t) c listed low =
 -- ---- at the ends of a slot
 
 -- before its rows
-pub told_before : (s : Scheduler) (a : Asked) (mark : ℕ) (queues : List Queue) → HasWords s a → ((c : ℕ) → c < 65536 → last_local a.source.local c ≡ nat_lt (queue_at queues c).words mark) → Tells s a mark queues
+pub told_before : (s : Scheduler) (a : Asked) (mark : ℕ) (queues : List ArrivalQueue) → HasWords s a → ((c : ℕ) → c < 65536 → last_local a.source.local c ≡ nat_lt (queue_at queues c).words mark) → Tells s a mark queues
 told_before s a mark queues words last = record {
   rows = [];
   here = λ k d h. absurd (omega (arith, h));
@@ -134,7 +134,7 @@ told_before s a mark queues words last = record {
 }
 
 -- after them, all rows of the slot count as told
-pub told_after : (s : Scheduler) (a : Asked) (mark : ℕ) (queues : List Queue) (rows : List LocalRow) → Tells s a mark queues → AreHere (length a.words) rows
+pub told_after : (s : Scheduler) (a : Asked) (mark : ℕ) (queues : List ArrivalQueue) (rows : List LocalRow) → Tells s a mark queues → AreHere (length a.words) rows
     → ((c : ℕ) → c < 65536 → last_local (a.source.local ++ rows) c ≡ nat_lt (queue_at queues c).words mark) → HasWords s (locals_added a rows)
 told_after s a mark queues rows t here last = same_words s a t.rows rows t.here here (λ c h. t.last c h ∙ sym (last c h)) t.words
 

@@ -8,7 +8,7 @@ use Rattle.burst_scheduler.specs.Asked.{Asked, having_local}
 use Rattle.burst_scheduler.specs.Gives.{HasWords}
 use Rattle.burst_scheduler.specs.declared.scheduler.Scheduler.{Scheduler}
 use Rattle.duplex_model.specs.DuplexRun.{Settings, queue_before, peak}
-use Rattle.duplex.specs.declared.queue.Queue.{Queue}
+use Rattle.duplex.specs.declared.queue.ArrivalQueue.{ArrivalQueue}
 use Rattle.duplex.specs.declared.queue.Queues.{Queues}
 
 -- the channel is the one that is named
@@ -16,32 +16,32 @@ abbrev pub names : Option ℕ → ℕ → Bool
 names None channel = false
 names (Some named) channel = named == channel
 
-abbrev pub empty_queue : Queue
+abbrev pub empty_queue : ArrivalQueue
 empty_queue = record { words = 0; peak = 0 }
 
 -- the queue of a channel
-abbrev pub queue_at : List Queue → ℕ → Queue
+abbrev pub queue_at : List ArrivalQueue → ℕ → ArrivalQueue
 queue_at queues channel = slice_index_or queues channel empty_queue
 
 -- a queue once a word may have joined it
-abbrev pub joined_by : Bool → Queue → Queue
+abbrev pub joined_by : Bool → ArrivalQueue → ArrivalQueue
 joined_by joins queue = if joins then record { words = queue.words + 1; peak = max queue.peak (queue.words + 1) } else queue
 
 -- a queue once it may have lost a word
-abbrev pub drained_by : Bool → Queue → Queue
+abbrev pub drained_by : Bool → ArrivalQueue → ArrivalQueue
 drained_by drains queue = if drains then record { words = queue.words - 1; peak = queue.peak } else queue
 
 -- the queue of a channel after a slot in which a word joined the queue of a channel, if of one
-abbrev pub turned_in : Option ℕ → Bool → ℕ → Queue → Queue
+abbrev pub turned_in : Option ℕ → Bool → ℕ → ArrivalQueue → ArrivalQueue
 turned_in joined drains channel queue = drained_by drains (joined_by (names joined channel) queue)
 
 -- it is the queue of a channel before slot t, by what the other end sent
-pub record IsQueueOf (settings : Settings) (sent : List Word) (t channel : ℕ) (queue : Queue) : Type 0 where
+pub record IsQueueOf (settings : Settings) (sent : List Word) (t channel : ℕ) (queue : ArrivalQueue) : Type 0 where
   pub words : queue.words ≡ queue_before settings sent channel t
   pub most : queue.peak ≡ peak settings sent channel t
 
 -- the first places hold the channels whose queues are not empty, each once
-pub record AreFilled (queues : List Queue) (filled : List ℕ) (count : ℕ) : Type 0 where
+pub record AreFilled (queues : List ArrivalQueue) (filled : List ℕ) (count : ℕ) : Type 0 where
   pub within : count ≤ length filled
   pub only : (channel : ℕ) → Contains (take count filled) channel → 1 ≤ (queue_at queues channel).words
   pub all : (channel : ℕ) → 1 ≤ (queue_at queues channel).words → Contains (take count filled) channel
@@ -59,7 +59,7 @@ locals_added a rows = having_local a (a.source.local ++ rows)
 
 -- With some rows of the present slot as well, the last row of each channel says what its queue says: on exactly where it is
 -- below the mark. Of a channel that has no row nothing else was told.
-pub record Tells (scheduler : Scheduler) (a : Asked) (mark : ℕ) (queues : List Queue) : Type 0 where
+pub record Tells (scheduler : Scheduler) (a : Asked) (mark : ℕ) (queues : List ArrivalQueue) : Type 0 where
   pub rows : List LocalRow
   pub here : All (λ (row : LocalRow). row.slot ≡ length a.words) rows
   pub words : HasWords scheduler (locals_added a rows)

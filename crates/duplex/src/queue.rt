@@ -5,9 +5,9 @@ ghost use Rattle.duplex.specs.Queues.{queue_at, drained_by, AreFilled, Tells};
 use burst_scheduler::Scheduler;
 use std::alloc::{AllocError, Global};
 
-/// The queue of a channel at an end: how many words are queued, and the most that were.
+/// The queue of what arrives on a channel at an end: how many words are queued, and the most that were.
 #[derive(Clone, Copy, Debug)]
-pub struct Queue {
+pub struct ArrivalQueue {
     pub words: u32,
     pub peak: u32,
 }
@@ -16,14 +16,20 @@ pub struct Queue {
 #[derive(Drop)]
 pub struct Queues {
     // The queue of each channel by its number.
-    pub by_channel: Vec<Queue>,
+    pub by_channel: Vec<ArrivalQueue>,
     // The channels whose queues are not empty are the first of `filled`.
     pub filled: Vec<u16>,
     pub count: usize,
 }
 
 // A channel has this queue from now on. It is told to be on or off where that changes.
-fn put(queues: &mut Vec<Queue>, scheduler: &mut Scheduler, mark: u32, channel: u16, queue: Queue)
+fn put(
+    queues: &mut Vec<ArrivalQueue>,
+    scheduler: &mut Scheduler,
+    mark: u32,
+    channel: u16,
+    queue: ArrivalQueue,
+)
     requires wide { length queues.old.items ≡ 65536 }
     requires tells { (a : Asked) × Tells scheduler.old a mark queues.old.items }
     ensures queues { queues.new.items ≡ slice_set queues.old.items channel queue }
@@ -38,7 +44,7 @@ fn put(queues: &mut Vec<Queue>, scheduler: &mut Scheduler, mark: u32, channel: u
 }
 
 // A queue that is not empty loses a word. Returns whether it still is not.
-fn lose(queues: &mut Vec<Queue>, scheduler: &mut Scheduler, mark: u32, channel: u16) -> bool
+fn lose(queues: &mut Vec<ArrivalQueue>, scheduler: &mut Scheduler, mark: u32, channel: u16) -> bool
     requires wide { length queues.old.items ≡ 65536 }
     requires some { 1 ≤ (queue_at queues.old.items channel).words }
     requires tells { (a : Asked) × Tells scheduler.old a mark queues.old.items }
@@ -49,13 +55,19 @@ fn lose(queues: &mut Vec<Queue>, scheduler: &mut Scheduler, mark: u32, channel: 
     let queue = queues[channel as usize];
     let words = queue.words - 1;
     let peak = queue.peak;
-    put(queues, scheduler, mark, channel, Queue { words, peak });
+    put(
+        queues,
+        scheduler,
+        mark,
+        channel,
+        ArrivalQueue { words, peak },
+    );
     words > 0
 }
 
 // Each queue that is not empty loses a word. Returns how many still are not, whose channels are then the first of `filled`.
 fn drain(
-    queues: &mut Vec<Queue>,
+    queues: &mut Vec<ArrivalQueue>,
     filled: &mut Vec<u16>,
     count: usize,
     scheduler: &mut Scheduler,
@@ -91,7 +103,7 @@ impl Queues {
         ensures queues { IfOk result (λ q. AreQueues q) }
         ensures empty { IfOk result (λ q. (channel : ℕ) → queue_at q.by_channel.items channel ≡ empty_queue) }
     {
-        let by_channel = vec![in alloc; Queue { words: 0, peak: 0 }; 65536]?;
+        let by_channel = vec![in alloc; ArrivalQueue { words: 0, peak: 0 }; 65536]?;
         let filled = vec![in alloc; 0; 65536]?;
         Ok(Queues {
             by_channel,
@@ -101,7 +113,7 @@ impl Queues {
     }
 
     /// The queue of a channel.
-    pub fn of(&self, channel: u16) -> Queue
+    pub fn of(&self, channel: u16) -> ArrivalQueue
         requires { AreQueues self.now }
         ensures { result ≡ queue_at self.now.by_channel.items channel }
     {
@@ -125,7 +137,7 @@ impl Queues {
             scheduler,
             mark,
             channel,
-            Queue { words, peak },
+            ArrivalQueue { words, peak },
         );
         if queue.words == 0 {
             self.filled[self.count] = channel;

@@ -2,7 +2,7 @@ use Rattle.std.proofs.Common.{◌≡◌, ℕ, ◌+◌, ◌<◌, ◌≤◌, List,
 use Rattle.std.proofs.Math.ListN.{set}
 use Rattle.std.proofs.lemmas.List.Filters.{FiltersInPlace, FiltersInPlace-more_set, FiltersInPlace-more_no}
 use Rattle.duplex.specs.Queues.{queue_at, drained_by}
-use Rattle.duplex.specs.declared.queue.Queue.{Queue}
+use Rattle.duplex.specs.declared.queue.ArrivalQueue.{ArrivalQueue}
 use Rattle.duplex.proofs.Filled.{HasDrained, keeps_one, next_channel, next_is, next_some, drained_one, all_drained, filled_after}
 use Rattle.duplex.proofs.queue.drain.Goals as goal
 use Rattle.duplex.proofs.queue.drain.Goals.{then-lose, else-lose}
@@ -20,9 +20,9 @@ lose-requires-clause-tells c = (c.requires.tells.0, c.loop-i.invariant.tells c.r
 
 pub loop-i-preserved : goal.loop-i-preserved
 loop-i-preserved c =
-    let old : List Queue = c.args.queues.now.items in
+    let old : List ArrivalQueue = c.args.queues.now.items in
     let filled : List ℕ = c.args.filled.now.items in
-    let here : List Queue = c.loop-i.queues.items in
+    let here : List ArrivalQueue = c.loop-i.queues.items in
     let channel : ℕ = c.index-channel.result.now in
     let i : ℕ = c.loop-i.i in
     let f = c.requires.filled in
@@ -33,13 +33,13 @@ loop-i-preserved c =
     let inside : i < length c.loop-i.filled.items = omega (arith, wide, below, long) in
     let at = next_channel filled c.loop-i.filled.items c.loop-i.kept i channel (keeps_one old) line (omega (arith, wide, below)) c.index-channel.ensures in
     let same : queue_at here channel ≡ queue_at old channel = subst (λ (k : ℕ). queue_at here k ≡ queue_at old k) (sym at) (next_is old here filled c.args.count i f below c.loop-i.invariant.drained) in
-    let keeps : c.lose.result ≡ keeps_one old channel = c.lose.ensures.some ∙ ap (λ (q : Queue). nat_lt 1 q.words) same in
+    let keeps : c.lose.result ≡ keeps_one old channel = c.lose.ensures.some ∙ ap (λ (q : ArrivalQueue). nat_lt 1 q.words) same in
     record {
       line = elim c.if-lose.branch [
         | then-lose w ↦ rw (w.filled-is, w.kept-is) (FiltersInPlace-more_set line inside (sym keeps ∙ w.if-lose.true) c.index-channel.ensures)
         | else-lose w ↦ rw (w.filled-is, w.kept-is) (FiltersInPlace-more_no line inside (sym keeps ∙ w.if-lose.false) c.index-channel.ensures)
       ];
-      drained = subst (λ (qs : List Queue). HasDrained old qs filled (i + 1)) (sym (c.lose.ensures.queues ∙ ap (λ (k : ℕ). set here k (drained_by true (queue_at here k))) at))
+      drained = subst (λ (qs : List ArrivalQueue). HasDrained old qs filled (i + 1)) (sym (c.lose.ensures.queues ∙ ap (λ (k : ℕ). set here k (drained_by true (queue_at here k))) at))
           (drained_one old here filled c.args.count i f below c.loop-i.invariant.drained);
       tells = λ a t. c.lose.ensures.tells a (c.loop-i.invariant.tells a t);
     }
