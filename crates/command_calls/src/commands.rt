@@ -4,7 +4,7 @@ ghost use Rattle.std.specs.Prelude.{◌<◌, ◌^◌};
 use lk_base::OutOfMemory;
 use lk_outside::MemStore;
 use run_shell::FileCommand;
-use run_stops::fault_line;
+use run_stops::stop_line;
 use std::alloc::Global;
 
 /// The text of a command of the file of this name, or the line of what stopped it.
@@ -19,7 +19,7 @@ pub fn obeyed<C: FileCommand>(
         Ok(finished) => Ok(finished.text),
         Err(stop) => {
             let mut line = Vec::new(alloc);
-            fault_line(alloc, &mut line, &stop)?;
+            stop_line(alloc, &mut line, &stop)?;
             Ok(line)
         }
     }

@@ -7,7 +7,7 @@ use Rattle.lk_outside.specs.Files.{Files}
 use Rattle.words_files.specs.WordsOfFile.{cut_file, first_offset, is_short, number_in, refusal_by, tag_in}
 use Rattle.words_files.specs.declared.error.WordsError.{WordsError}
 use Rattle.words_files.specs.declared.error.WordsError.TheVariants.{Tag, Short}
-use Rattle.run_stops.specs.declared.faults.InputError.TheVariants as refused
+use Rattle.run_stops.specs.declared.input_error.InputError.TheVariants as refused
 use Rattle.run_stops.specs.Reading.{Refusal, of_input, behind, bytes_in}
 
 -- ---- a words file with any set of tags

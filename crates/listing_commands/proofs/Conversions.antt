@@ -13,8 +13,8 @@ use Rattle.word_text.proofs.UniqueLanes.{lane-once, lane-listing-cut, lane-one-t
 use Rattle.word_text.proofs.Causes.{one-bytes, refused-never, one-cause}
 use Rattle.word_text.proofs.HasListing.{words-listing, lane-has-listing, never-both}
 use Rattle.word_text.proofs.Verdict.{verdict}
-use Rattle.run_stops.specs.declared.faults.InputError.{InputError}
-use Rattle.run_stops.specs.declared.faults.InputError.TheVariants.{Words, Text}
+use Rattle.run_stops.specs.declared.input_error.InputError.{InputError}
+use Rattle.run_stops.specs.declared.input_error.InputError.TheVariants.{Words, Text}
 use Rattle.run_shell.specs.Meaning.{IsMeaning}
 use Rattle.listing_commands.specs.Conversion.{IsConversion}
 use Rattle.listing_commands.specs.Listing.{is_words_name, IsTextOfWords, IsTextOfLane, RefusesWords, IsTextOf, RefusesListed, listing_of, list_meaning}

@@ -2,8 +2,8 @@
 use Rattle.std.proofs.Common.{◌≡◌, ◌⊎◌, ℕ, zero, suc, Bool, true, false, List, [], ◌∷◌, refl, sym, ◌∙◌, ap, subst, Option, Some, None, IfSome, Result, Ok, Err, MatchResult, inl, inr, Contains, nat_lt, length, if◌then◌else◌, string_bytes, arith}
 use Rattle.run_stops.proofs.Readings.{bytes_by_ok}
 use Rattle.lk_outside.specs.Files.{Files, file, AreBytes, Told}
-use Rattle.run_stops.specs.declared.faults.InputError.{InputError}
-use Rattle.run_stops.specs.declared.faults.InputError.TheVariants as refused
+use Rattle.run_stops.specs.declared.input_error.InputError.{InputError}
+use Rattle.run_stops.specs.declared.input_error.InputError.TheVariants as refused
 use Rattle.run_shell.specs.declared.status.Status.{Status}
 use Rattle.run_stops.specs.declared.stop.Stop.{Stop}
 use Rattle.run_stops.specs.declared.stop.Stop.TheVariants as stop

@@ -5,7 +5,7 @@ use Rattle.words_files.specs.declared.error.WordsError.{WordsError}
 use Rattle.words_files.specs.declared.text_error.TextError.{TextError}
 use Rattle.word_text.specs.Refusals.{IsRefusedFor}
 use Rattle.word_text.specs.Answers.{ListsWords, AnswersWords, ListsLane, Assembles}
-use Rattle.run_stops.specs.declared.faults.InputError.TheVariants.{Words}
+use Rattle.run_stops.specs.declared.input_error.InputError.TheVariants.{Words}
 use Rattle.listing_commands.specs.Listing.{IsTextOfWords, IsTextOfLane, RefusesWords}
 
 behind-none : (old new text : List ℕ) → old ≡ [] → new ≡ old ++ text → new ≡ text

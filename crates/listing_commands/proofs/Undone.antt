@@ -6,8 +6,8 @@ use Rattle.word_text.specs.CodeLines.{rest_lines}
 use Rattle.word_text.specs.Listings.{IsWordsListing, IsLaneListing, IsListing}
 use Rattle.word_text.proofs.Causes.{one-bytes, words-kind, lane-kind}
 use Rattle.word_text.proofs.Lengths.{words-length, lane-length}
-use Rattle.run_stops.specs.declared.faults.InputError.{InputError}
-use Rattle.run_stops.specs.declared.faults.InputError.TheVariants.{TooLarge}
+use Rattle.run_stops.specs.declared.input_error.InputError.{InputError}
+use Rattle.run_stops.specs.declared.input_error.InputError.TheVariants.{TooLarge}
 use Rattle.run_shell.specs.Outcome.{Output, Outcome}
 use Rattle.run_stops.specs.Reading.{of_input, bytes_by}
 use Rattle.run_shell.specs.Work.{refused_outcome}

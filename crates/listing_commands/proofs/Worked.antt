@@ -6,7 +6,7 @@ use Rattle.lk_outside.specs.Files.{file}
 use Rattle.words_files.specs.declared.text_error.TextError.TheVariants.{Line}
 use Rattle.word_text.specs.CodeLines.{rest_lines}
 use Rattle.word_text.proofs.WorkedTexts.{one-byte, second-spelling}
-use Rattle.run_stops.specs.declared.faults.InputError.TheVariants.{Text}
+use Rattle.run_stops.specs.declared.input_error.InputError.TheVariants.{Text}
 use Rattle.listing_commands.specs.Listing.{listing_of}
 use Rattle.listing_commands.specs.Assembling.{assembling_of}
 use Rattle.listing_commands.specs.Worked.{lane_text, second_text, OneByteListed, OneByteAssembled, SecondSpellingRefused}

@@ -4,8 +4,8 @@ use lib.Chars.{codes}
 use Rattle.word_text.specs.Listings.{IsListing}
 use Rattle.word_text.specs.Refusals.{IsRefusedFor}
 use Rattle.words_files.specs.declared.text_error.TextError.{TextError}
-use Rattle.run_stops.specs.declared.faults.InputError.{InputError}
-use Rattle.run_stops.specs.declared.faults.InputError.TheVariants.{Text}
+use Rattle.run_stops.specs.declared.input_error.InputError.{InputError}
+use Rattle.run_stops.specs.declared.input_error.InputError.TheVariants.{Text}
 use Rattle.run_shell.specs.Meaning.{Meaning}
 use Rattle.listing_commands.specs.Limits.{text_limit}
 use Rattle.listing_commands.specs.Conversion.{Conversion, conversion_meaning}

@@ -1,7 +1,7 @@
 -- A command that makes one file of another: it reads a file whole, and creates one file of its bytes or refuses them. What is
 -- made and what is refused are relations.
 use Rattle.std.specs.Prelude.{◌≡◌, ◌<◌, ◌^◌, ◌⊎◌, ℕ, All, List, [], ◌∷◌, MatchResult, Result, Ok, Err}
-use Rattle.run_stops.specs.declared.faults.InputError.{InputError}
+use Rattle.run_stops.specs.declared.input_error.InputError.{InputError}
 use Rattle.link_reports.specs.Lines.{count_line}
 use Rattle.run_shell.specs.declared.status.Status.TheVariants.{Done}
 use Rattle.run_stops.specs.declared.stop.Stop.{Stop}

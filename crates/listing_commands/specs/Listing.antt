@@ -6,8 +6,8 @@ use Rattle.words_files.specs.WordsOfFile.{words_of_file}
 use Rattle.words_files.specs.declared.error.WordsError.{WordsError}
 use Rattle.word_text.specs.CodeLines.{rest_lines}
 use Rattle.word_text.specs.Listings.{IsWordsListing, IsLaneListing}
-use Rattle.run_stops.specs.declared.faults.InputError.{InputError}
-use Rattle.run_stops.specs.declared.faults.InputError.TheVariants.{Words}
+use Rattle.run_stops.specs.declared.input_error.InputError.{InputError}
+use Rattle.run_stops.specs.declared.input_error.InputError.TheVariants.{Words}
 use Rattle.run_shell.specs.Meaning.{Meaning}
 use Rattle.listing_commands.specs.Limits.{listed_limit}
 use Rattle.listing_commands.specs.Conversion.{Conversion, conversion_meaning}

@@ -5,7 +5,7 @@ use Rattle.lk_base.specs.Limits.{rows_limit}
 use Rattle.lk_outside.specs.Files.{Files, file}
 use Rattle.link_plan.specs.Plan.{PlanValue}
 use Rattle.link_plan.specs.Timed.{flow_of}
-use Rattle.run_stops.specs.declared.faults.InputError.TheVariants.{TooLarge}
+use Rattle.run_stops.specs.declared.input_error.InputError.TheVariants.{TooLarge}
 use Rattle.run_shell.specs.Outcome.{Outcome, Output}
 use Rattle.run_stops.specs.Reading.{Refusal, of_input, behind, bytes_by}
 use Rattle.run_shell.specs.Work.{refused_outcome}

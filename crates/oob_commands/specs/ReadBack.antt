@@ -8,7 +8,7 @@ use Rattle.stream_model.specs.declared.rows.FlowRow.{FlowRow}
 use Rattle.link_plan.specs.Plan.{PlanValue}
 use Rattle.link_plan.specs.Timed.{flow_of}
 use Rattle.link_reports.specs.Lines.{count_line}
-use Rattle.run_stops.specs.declared.faults.InputError.TheVariants.{TooLarge}
+use Rattle.run_stops.specs.declared.input_error.InputError.TheVariants.{TooLarge}
 use Rattle.run_shell.specs.declared.status.Status.TheVariants.{Done}
 use Rattle.run_shell.specs.Outcome.{Outcome}
 use Rattle.run_stops.specs.Reading.{of_input}

@@ -6,7 +6,7 @@ use Rattle.link_plan.specs.Plan.{PlanValue}
 use Rattle.plan_errors.specs.declared.error.Key.TheVariants as key
 use Rattle.plan_errors.specs.declared.error.PlanError.TheVariants as refusal
 use Rattle.link_reports.specs.Lines.{count_line}
-use Rattle.run_stops.specs.declared.faults.InputError.TheVariants.{Samples}
+use Rattle.run_stops.specs.declared.input_error.InputError.TheVariants.{Samples}
 use Rattle.run_shell.specs.declared.status.Status.TheVariants.{Done}
 use Rattle.run_shell.specs.Outcome.{Outcome}
 use Rattle.run_shell.specs.Meaning.{Meaning}

@@ -1,6 +1,6 @@
 -- What the work came to, as an ending.
 use Rattle.std.proofs.Common.{◌≡◌, ◌⊎◌, ℕ, false, List, refl, sym, subst, ◌∙◌, [], Option, Some, None, IfSome, Err, inl, inr}
-use Rattle.run_stops.specs.Faults.{usage_line, memory_line}
+use Rattle.run_stops.specs.Lines.{usage_line, memory_line}
 use Rattle.run_shell.specs.declared.status.Status.{Status}
 use Rattle.run_shell.specs.declared.status.Status.TheVariants.{Usage, OutOfMemory}
 use Rattle.run_stops.specs.declared.stop.Stop.{Stop}

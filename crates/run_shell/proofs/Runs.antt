@@ -5,7 +5,7 @@ use Rattle.std.specs.Str.{bytes_eq}
 use Rattle.run_shell.specs.declared.status.Status.{Status}
 use Rattle.run_shell.specs.declared.status.Status.TheVariants.{Done, StoreFault, Usage, Held, PlanRefused, InputRefused, OutOfMemory, SinkFault}
 use Rattle.lk_outside.specs.Files.{Files, file, Told}
-use Rattle.run_stops.specs.Faults.{store_line}
+use Rattle.run_stops.specs.Lines.{store_line}
 use Rattle.run_shell.specs.Outcome.{Output, Outcome, IsFault, IsAnswer, Holds, HoldsPart, content_of, cut}
 use Rattle.run_shell.specs.Meaning.{Meaning}
 use Rattle.run_stops.specs.Stops.{StoreCount}

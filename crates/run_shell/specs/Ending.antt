@@ -1,6 +1,6 @@
 -- How the work of a command ends, and all that stands after a run.
 use Rattle.std.specs.Prelude.{false, ◌≡◌, ◌⊎◌, ℕ, ◌<◌, ◌+◌, ◌≤◌, List, [], Option, IfSome}
-use Rattle.run_stops.specs.Faults.{usage_line, memory_line}
+use Rattle.run_stops.specs.Lines.{usage_line, memory_line}
 use Rattle.lk_outside.specs.Files.{Files, Told}
 use Rattle.run_shell.specs.declared.status.Status.{Status}
 use Rattle.run_shell.specs.declared.status.Status.TheVariants.{Done, StoreFault, Usage, Held, PlanRefused, InputRefused, OutOfMemory, SinkFault}

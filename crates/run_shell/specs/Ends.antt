@@ -1,7 +1,7 @@
 -- What the work of a command came to.
 use Rattle.std.specs.Prelude.{Bool, true, false, ◌≡◌, List, ℕ, Result, Ok, Err, Option}
 use Rattle.lk_outside.specs.Files.{Files, Told}
-use Rattle.run_stops.specs.Faults.{store_line, memory_line}
+use Rattle.run_stops.specs.Lines.{store_line, memory_line}
 use Rattle.run_stops.specs.Stops.{stop_text}
 use Rattle.run_stops.specs.declared.stop.Stop.{Stop}
 use Rattle.run_stops.specs.declared.stop.Stop.TheVariants as stop

@@ -3,7 +3,7 @@ use Rattle.std.specs.Prelude.{Bool, true, false, ◌≡◌, ◌⊎◌, ℕ, ◌<
 use Rattle.run_shell.specs.declared.status.Status.{Status}
 use Rattle.run_shell.specs.declared.status.Status.TheVariants.{Done, StoreFault, Usage, Held, PlanRefused, InputRefused, OutOfMemory, SinkFault}
 use Rattle.lk_outside.specs.Files.{Files, Told}
-use Rattle.run_stops.specs.Faults.{store_line, memory_line}
+use Rattle.run_stops.specs.Lines.{store_line, memory_line}
 use Rattle.run_shell.specs.Outcome.{Outcome, IsFault, IsAnswer, Holds, HoldsPart}
 
 -- the store failed where that is the status, and did not at an answer; out of memory may hide it

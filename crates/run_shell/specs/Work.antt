@@ -1,7 +1,7 @@
 -- A command by what it reads.
 use Rattle.std.specs.Prelude.{◌≡◌, ◌⊎◌, ℕ, List, [], Result, Ok, MatchResult}
 use Rattle.lk_outside.specs.Files.{Files, AreBytes}
-use Rattle.run_stops.specs.Faults.{plan_line, input_line}
+use Rattle.run_stops.specs.Lines.{plan_line, input_line}
 use Rattle.run_stops.specs.Reading.{Refusal, of_plan, of_input}
 use Rattle.run_shell.specs.declared.status.Status.TheVariants.{Done, Held, PlanRefused, InputRefused}
 use Rattle.run_shell.specs.Outcome.{Outcome}

@@ -4,13 +4,13 @@ ghost use Rattle.run_stops.specs.Stops.{stop_text, is_of_store};
 ghost use Rattle.run_shell.specs.Ends.{stop_status, held_status};
 ghost use Rattle.run_shell.specs.Run.{Says, sink_failed};
 ghost use Rattle.run_shell.specs.Ending.{IsEndingOf, IsEnding, IsMisused, IsNoMemory};
-ghost use Rattle.run_stops.specs.Faults.{usage_line};
+ghost use Rattle.run_stops.specs.Lines.{usage_line};
 
 use crate::command::Command;
 use crate::status::Status;
 use lk_base::OutOfMemory;
 use lk_outside::{Sink, Store, WriteError};
-use run_stops::{Stop, fault_line, memory_line, usage_line};
+use run_stops::{Stop, memory_line, stop_line, usage_line};
 use std::alloc::Global;
 use std::marker::Model;
 
@@ -75,11 +75,11 @@ fn is_of_store(stop: &Stop) -> bool
 }
 
 // The one line of a stop.
-fn stop_line(alloc: Global, stop: &Stop) -> Result<Vec<u8>, OutOfMemory>
+fn line_of(alloc: Global, stop: &Stop) -> Result<Vec<u8>, OutOfMemory>
     ensures { IfOk result (λ line. line.items ≡ stop_text stop.now) }
 {
     let mut line = Vec::new(alloc);
-    fault_line(alloc, &mut line, stop)?;
+    stop_line(alloc, &mut line, stop)?;
     Ok(line)
 }
 
@@ -96,7 +96,7 @@ fn ending_of(alloc: Global, stop: &Stop) -> Ending
     ensures { IsEndingOf stop.now result }
 {
     let store_failed = is_of_store(stop);
-    match stop_line(alloc, stop) {
+    match line_of(alloc, stop) {
         Ok(text) => Ending {
             status: status_of(stop),
             text: EndingText::Made(text),

@@ -3,4 +3,4 @@ pub mod Moves
 pub mod Readings
 -- What this crate alone cites.
 mod Pieces
-mod Lines
+mod StopLine

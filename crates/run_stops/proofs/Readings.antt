@@ -1,6 +1,6 @@
 -- Readings one after another, where the files are told.
 use Rattle.std.proofs.Common.{◌≡◌, ℕ, List, ap, refl, sym, subst, Option, Some, None, IfSome, Result, Ok, Err, string_bytes, Bool, true, false, nat_lt, cond, length}
-use Rattle.run_stops.specs.declared.faults.InputError.TheVariants.{TooLarge}
+use Rattle.run_stops.specs.declared.input_error.InputError.TheVariants.{TooLarge}
 use Rattle.run_stops.specs.declared.stop.Stop.{Stop}
 use Rattle.run_stops.specs.declared.stop.Stop.TheVariants as stop
 use Rattle.lk_outside.specs.Files.{Files}

@@ -5,9 +5,9 @@ use Rattle.plan_errors.specs.declared.error.PlanError.TheVariants as refusal
 use Rattle.plan_errors.specs.declared.error.Key.TheVariants as key
 use Rattle.pcap_files.specs.declared.error.PcapError.TheVariants as capture
 use Rattle.words_files.specs.declared.text_error.TextError.TheVariants as listing
-use Rattle.run_stops.specs.declared.faults.InputError.TheVariants as cause
+use Rattle.run_stops.specs.declared.input_error.InputError.TheVariants as cause
 use Rattle.run_stops.specs.declared.stop.Stop.TheVariants as stop
-use Rattle.run_stops.specs.Faults.{usage_line, input_line, store_line}
+use Rattle.run_stops.specs.Lines.{usage_line, input_line, store_line}
 use Rattle.run_stops.specs.Stops.{stop_text}
 
 abbrev pub line : List ℕ → List ℕ

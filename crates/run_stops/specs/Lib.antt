@@ -1,4 +1,4 @@
-pub mod Faults
+pub mod Lines
 pub mod Stops
 pub mod Reading
 pub mod Examples

@@ -2,7 +2,7 @@
 use Rattle.std.specs.Prelude.{Bool, true, false, ◌≡◌, ℕ, ◌+◌, List, ◌++◌, Result, Ok, Err, string_bytes}
 use lib.Chars.{codes}
 use Rattle.plan_errors.specs.Texts.{refusal_text as rows_text}
-use Rattle.run_stops.specs.Faults.{why_text, plan_line, input_line, store_line, memory_line}
+use Rattle.run_stops.specs.Lines.{why_text, plan_line, input_line, store_line, memory_line}
 use Rattle.run_stops.specs.declared.stop.Stop.{Stop}
 use Rattle.run_stops.specs.declared.stop.Stop.TheVariants as stop
 

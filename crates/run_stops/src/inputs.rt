@@ -3,7 +3,7 @@ ghost use Rattle.std.specs.Prelude.{◌≡◌, ◌<◌, ◌≤◌, ◌^◌, leng
 ghost use Rattle.run_stops.specs.Stops.{StopCount};
 ghost use Rattle.run_stops.specs.Reading.{Probes, Reads, ReadsPiece, bytes_in, plan_bytes, vec_items};
 
-use crate::faults::InputError;
+use crate::input_error::InputError;
 use crate::stop::{Stop, input_stop, store_stop};
 use lk_outside::{ReadError, Store, WholeError, read_whole};
 use plan_errors::PlanError;

@@ -1,11 +1,13 @@
 //! Why the work of a command stops, each cause with its line, and inputs read whole or in pieces.
 #![tactic(auto)]
 
-mod faults;
+mod input_error;
 mod inputs;
 pub mod laws;
+mod lines;
 mod stop;
 
-pub use faults::{InputError, fault_line, memory_line, usage_line};
+pub use input_error::InputError;
 pub use inputs::{probe_input, read_input, read_piece, read_plan};
+pub use lines::{memory_line, stop_line, usage_line};
 pub use stop::{Stop, input_stop, store_stop};

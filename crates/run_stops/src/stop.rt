@@ -3,7 +3,7 @@ ghost use Rattle.std.specs.Prelude.{◌≡◌, true};
 ghost use Rattle.run_stops.specs.Stops.{IsOfStore, is_of_store};
 ghost use Rattle.run_stops.specs.Reading.{IsOfInput};
 
-use crate::faults::InputError;
+use crate::input_error::InputError;
 use lk_base::OutOfMemory;
 use plan_errors::PlanError;
 use std::alloc::{AllocError, AllocFailed, Global};

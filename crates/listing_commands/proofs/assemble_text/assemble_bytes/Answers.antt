@@ -1,5 +1,5 @@
 use Rattle.std.proofs.Common.{inl, refl}
-use Rattle.run_stops.specs.declared.faults.InputError.TheVariants.{Text}
+use Rattle.run_stops.specs.declared.input_error.InputError.TheVariants.{Text}
 use Rattle.listing_commands.proofs.Given.{text-refused}
 use Rattle.listing_commands.proofs.assemble_text.assemble_bytes.Goals as goal
 

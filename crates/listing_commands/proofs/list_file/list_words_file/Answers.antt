@@ -1,5 +1,5 @@
 use Rattle.std.proofs.Common.{inl}
-use Rattle.run_stops.specs.declared.faults.InputError.TheVariants.{Words}
+use Rattle.run_stops.specs.declared.input_error.InputError.TheVariants.{Words}
 use Rattle.listing_commands.proofs.Given.{words-text, words-refused}
 use Rattle.listing_commands.proofs.list_file.list_words_file.Goals as goal
 

@@ -2,7 +2,7 @@
 use Rattle.std.proofs.Common.{◌≡◌, ◌++◌, ◌∙◌, ℕ, List, refl, ap, append_assoc, string_bytes}
 use lib.Chars.{codes}
 use Rattle.plan_errors.specs.Texts.{refusal_text as rows_text}
-use Rattle.run_stops.specs.Faults.{why_text}
+use Rattle.run_stops.specs.Lines.{why_text}
 use Rattle.run_stops.specs.Stops.{stop_words, stop_text}
 use Rattle.run_stops.specs.declared.stop.Stop.{Stop}
 use Rattle.run_stops.specs.declared.stop.Stop.TheVariants as stop

@@ -6,8 +6,8 @@ use Rattle.pcap_files.specs.Texts.{refusal_text}
 use Rattle.words_files.specs.Texts.{words_refusal_text, text_refusal_text}
 use Rattle.plan_errors.specs.Texts.{refusal_text as rows_text}
 use Rattle.plan_errors.specs.declared.error.PlanError.{PlanError}
-use Rattle.run_stops.specs.declared.faults.InputError.{InputError}
-use Rattle.run_stops.specs.declared.faults.InputError.TheVariants.{NoFile, TooLarge, Pcap, Words, Rows, Text, Samples}
+use Rattle.run_stops.specs.declared.input_error.InputError.{InputError}
+use Rattle.run_stops.specs.declared.input_error.InputError.TheVariants.{NoFile, TooLarge, Pcap, Words, Rows, Text, Samples}
 
 -- the name of the cause
 abbrev pub why_text : InputError → List ℕ
