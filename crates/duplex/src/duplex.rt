@@ -29,6 +29,21 @@ pub struct Settings {
     pub ghost drain_low: { 1 ≤ drain },
 }
 
+/// What both ends of a run have.
+#[derive(Clone, Copy, Debug)]
+pub struct BothEnds<'c> {
+    /// The shape of their streams.
+    pub shape: Shape,
+    /// The channels, each once.
+    pub channels: &'c [u16],
+    /// The calendar: a channel in each entry.
+    pub entries: &'c [u16],
+    /// The most bytes of a packet that comes.
+    pub max_packet: u32,
+    /// Whether channel numbers are read as wide ones.
+    pub wide: bool,
+}
+
 /// A packet that arrived.
 #[derive(Clone, Copy, Debug)]
 pub struct Got {
@@ -66,32 +81,40 @@ impl<'a> Duplex<'a> {
     ghost use Rattle.duplex_model.specs.DuplexRun.{Ends, queue_before, peak};
     ghost use Rattle.duplex.specs.Duplexes.{settings_of, empty_ends, packet_added, packets_of, side_of, sent_to, Waits, Runs, HasGot, HasGotAll, GivesGot, IsGiven, Lends, lent_bytes, KeepsInboxes, KeepsSides, waiting_of};
 
-    /// A run before its first slot, without packets. Packets of 1 to `max_packet` bytes come, and whoever receives reads channel
-    /// numbers as wide ones where `wide` says so. It answers `OutOfMemory` where memory ran out, and nowhere else.
+    /// A run before its first slot, without packets, between two ends that have these. It answers `OutOfMemory` where memory ran out, and
+    /// nowhere else.
     pub fn new(
         alloc: Global,
-        shape: Shape,
-        channels: &[u16],
-        entries: &[u16],
-        max_packet: u32,
-        wide: bool,
+        ends: &BothEnds,
         settings: Settings,
     ) -> Result<Duplex<'a>, OutOfMemory>
-        requires channels_low { 1 ≤ length channels.now }
-        requires channels_high { length channels.now ≤ 1024 }
-        requires entries_low { 1 ≤ length entries.now }
-        requires entries_high { length entries.now ≤ 1024 }
-        requires distinct { AllPairs (λ x y. x ≡ y → ⊥) channels.now }
-        requires among { All (Contains channels.now) entries.now }
-        requires longest { max_packet ≤ longest_packet }
-        ensures waits { IfOk result (λ d. Waits d (settings_of settings) (empty_ends shape channels.now entries.now)) }
+        requires channels_low { 1 ≤ length ends.now.channels.now }
+        requires channels_high { length ends.now.channels.now ≤ 1024 }
+        requires entries_low { 1 ≤ length ends.now.entries.now }
+        requires entries_high { length ends.now.entries.now ≤ 1024 }
+        requires distinct { AllPairs (λ x y. x ≡ y → ⊥) ends.now.channels.now }
+        requires among { All (Contains ends.now.channels.now) ends.now.entries.now }
+        requires longest { ends.now.max_packet ≤ longest_packet }
+        ensures waits { IfOk result (λ d. Waits d (settings_of settings) (empty_ends ends.now.shape ends.now.channels.now ends.now.entries.now)) }
         ensures given { IfOk result (λ d. IsGiven d) }
-        ensures got { IfOk result (λ d. (setting : Setting) → IsSettingOf setting channels.now max_packet wide → HasGot d setting (settings_of settings) 0 [] [] [] []) }
+        ensures got { IfOk result (λ d. (setting : Setting) → IsSettingOf setting ends.now.channels.now ends.now.max_packet ends.now.wide → HasGot d setting (settings_of settings) 0 [] [] [] []) }
     {
-        let a = Side::new(alloc, shape, channels, entries, settings.delay as usize)?;
-        let b = Side::new(alloc, shape, channels, entries, settings.delay as usize)?;
-        let inbox_a = Inbox::new(alloc, channels, max_packet, wide)?;
-        let inbox_b = Inbox::new(alloc, channels, max_packet, wide)?;
+        let a = Side::new(
+            alloc,
+            ends.shape,
+            ends.channels,
+            ends.entries,
+            settings.delay as usize,
+        )?;
+        let b = Side::new(
+            alloc,
+            ends.shape,
+            ends.channels,
+            ends.entries,
+            settings.delay as usize,
+        )?;
+        let inbox_a = Inbox::new(alloc, ends.channels, ends.max_packet, ends.wide)?;
+        let inbox_b = Inbox::new(alloc, ends.channels, ends.max_packet, ends.wide)?;
         Ok(Duplex {
             a,
             b,

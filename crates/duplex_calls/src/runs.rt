@@ -2,7 +2,7 @@ ghost use Rattle.std.specs.Prelude.{◌≡◌, ℕ, ◌+◌, ◌^◌, ◌≤◌,
 ghost use Rattle.duplex.specs.Duplexes.{IsGiven};
 ghost use Rattle.duplex_calls.specs.Calls.{IsReady, IsRunning};
 
-use duplex::{Duplex, End, Settings};
+use duplex::{BothEnds, Duplex, End, Settings};
 use lk_base::{OutOfMemory, Shape};
 use std::alloc::Global;
 use std::io;
@@ -32,7 +32,14 @@ fn two_ends<'a>(alloc: Global, settings: Settings) -> Result<Duplex<'a>, OutOfMe
         group: 28,
         warmup: 4,
     };
-    Duplex::new(alloc, shape, &[1], &[1], 262_144, false, settings)
+    let ends = BothEnds {
+        shape,
+        channels: &[1],
+        entries: &[1],
+        max_packet: 262_144,
+        wide: false,
+    };
+    Duplex::new(alloc, &ends, settings)
 }
 
 // A packet that end a sends.

@@ -16,6 +16,6 @@ held_back files name r o is (a, b, run, (setting, of, e)) = record {
   setting = setting;
   is_setting = of;
   outcome = e;
-  captures = λ bytes channel listed. captures_are_sent files name r setting a b channel run bytes is of listed;
+  captures = λ channel listed. captures_are_sent files name r setting a b channel run is of listed;
   peaks = λ channel among. peaks_are_bounded files name r a b channel run is among;
 }

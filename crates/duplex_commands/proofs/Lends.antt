@@ -1,9 +1,10 @@
 -- Packets that are lent to a run, one after the other.
-use Rattle.std.proofs.Common.{◌≡◌, ℕ, ◌+◌, ◌<◌, ◌≤◌, ◌^◌, List, [], ◌∷◌, ◌++◌, length, take, drop, get_or, refl, sym, ap, ◌∙◌, subst, append_assoc, append-nil, arith, Contains}
+use Rattle.std.proofs.Common.{◌≡◌, ℕ, ◌+◌, ◌<◌, ◌≤◌, ◌^◌, List, [], ◌∷◌, ◌++◌, length, take, drop, get_or, refl, sym, ap, ◌∙◌, subst, append_assoc, append-nil, arith, All, Contains}
 use Rattle.std.specs.List.{sum_by}
 use Rattle.std.proofs.lemmas.Grind.{flat_map-append}
 use Rattle.std.proofs.lemmas.List.{length-map, get_or-map, take_more, take_all, take-append-drop}
 use Rattle.std.proofs.lemmas.List.Concat.{get_or-flat_map}
+use Rattle.std.proofs.lemmas.List.Elements.{All-append, All-cons, All-nil}
 use Rattle.std.proofs.lemmas.List.Folds.{length-flat_map-take}
 use Rattle.std.proofs.lemmas.List.Sums.{sum_by-append, sum_by-take-le}
 use Rattle.duplex_model.specs.DuplexRun.{Settings, Ends}
@@ -16,9 +17,13 @@ use Rattle.plan_inputs.specs.Values.{packet_values, size_of, AreOn}
 use Rattle.plan_inputs.specs.Values as values
 use Rattle.plan_inputs.specs.declared.channel_packets.CapturePackets.{CapturePackets}
 use Rattle.duplex_commands.specs.Loaded.{all_added}
+use Rattle.duplex_commands.specs.Run.{AreOfBytes}
 
 abbrev pub Packets : Type 0
 Packets = List (ℕ × List ℕ)
+
+abbrev IsOfBytes : ℕ × List ℕ → Type 0
+IsOfBytes p = All (λ byte. byte < 256) p.1
 
 -- ---- packets of an end
 
@@ -91,13 +96,13 @@ all_lent d settings ends end channel packets k le w =
 abbrev pub capture_values : CapturePackets → Packets
 capture_values c = on_channel c.channel (values.packets_of c)
 
-module _ (ends : Ends) (end : End) (captures : List CapturePackets) (i : ℕ) (capture : CapturePackets) (lt : i < length captures) (is : capture ≡ get_or captures i capture) where
-  next_values : packet_values (take i captures) ++ capture_values capture ≡ packet_values (take (i + 1) captures)
-  next_values =
-      ap (λ (c : CapturePackets). packet_values (take i captures) ++ capture_values c) is
-      ∙ sym (ap packet_values (take_more captures i capture lt) ∙ flat_map-append capture_values (take i captures) (get_or captures i capture ∷ [])
-      ∙ ap (λ (ps : Packets). packet_values (take i captures) ++ ps) (append-nil (capture_values (get_or captures i capture))))
+next_values : (captures : List CapturePackets) (i : ℕ) (capture : CapturePackets) → i < length captures → capture ≡ get_or captures i capture → packet_values (take i captures) ++ capture_values capture ≡ packet_values (take (i + 1) captures)
+next_values captures i capture lt is =
+    ap (λ (c : CapturePackets). packet_values (take i captures) ++ capture_values c) is
+    ∙ sym (ap packet_values (take_more captures i capture lt) ∙ flat_map-append capture_values (take i captures) (get_or captures i capture ∷ [])
+    ∙ ap (λ (ps : Packets). packet_values (take i captures) ++ ps) (append-nil (capture_values (get_or captures i capture))))
 
+module _ (ends : Ends) (end : End) (captures : List CapturePackets) (i : ℕ) (capture : CapturePackets) (lt : i < length captures) (is : capture ≡ get_or captures i capture) where
   pub these_on : AreOn ends.channels (packet_values captures) → AreOn (all_added ends end (packet_values (take i captures))).channels (capture_values capture)
   these_on on j d below =
       let here : j < length (capture_values (get_or captures i capture)) = subst (λ (c : CapturePackets). j < length (capture_values c)) is below in
@@ -112,7 +117,7 @@ module _ (ends : Ends) (end : End) (captures : List CapturePackets) (i : ℕ) (c
   these_fit h =
       let front = added_size ends end (packet_values (take i captures)) in
       let both = sum_by-append (λ (p : ℕ × List ℕ). length p.1) (packet_values (take i captures)) (capture_values capture) in
-      let same : size_of (packet_values (take i captures) ++ capture_values capture) ≡ size_of (packet_values (take (i + 1) captures)) = ap size_of next_values in
+      let same : size_of (packet_values (take i captures) ++ capture_values capture) ≡ size_of (packet_values (take (i + 1) captures)) = ap size_of (next_values captures i capture lt is) in
       let less = take_less (i + 1) captures in
       low _ _ _ _ _ _ front (sym both ∙ same) less h
     where
@@ -127,8 +132,32 @@ module _ (ends : Ends) (end : End) (captures : List CapturePackets) (i : ℕ) (c
       low x a t c u n e f l h = omega arith
 
   pub these_added : (d : Duplex) (settings : Settings) → Waits d settings (all_added (all_added ends end (packet_values (take i captures))) end (capture_values capture)) → Waits d settings (all_added ends end (packet_values (take (i + 1) captures)))
-  these_added d settings w = subst (λ (e : Ends). Waits d settings e) (both_added ends end (packet_values (take i captures)) (capture_values capture) ∙ ap (all_added ends end) next_values) w
+  these_added d settings w = subst (λ (e : Ends). Waits d settings e) (both_added ends end (packet_values (take i captures)) (capture_values capture) ∙ ap (all_added ends end) (next_values captures i capture lt is)) w
 
 -- the loop over them is done
 pub all_captures : (d : Duplex) (settings : Settings) (ends : Ends) (end : End) (captures : List CapturePackets) (i : ℕ) → length captures ≤ i → Waits d settings (all_added ends end (packet_values (take i captures))) → Waits d settings (all_added ends end (packet_values captures))
 all_captures d settings ends end captures i le w = subst (λ (cs : List CapturePackets). Waits d settings (all_added ends end (packet_values cs))) (take_all i captures le) w
+
+-- ---- what is lent is bytes
+
+pub next_of_bytes : (channel : ℕ) (packets : List (List ℕ)) (k : ℕ) → k < length packets → (bytes : List ℕ) → bytes ≡ get_or packets k [] → All (λ byte. byte < 256) bytes → AreOfBytes (take k (on_channel channel packets)) → AreOfBytes (take (k + 1) (on_channel channel packets))
+next_of_bytes channel packets k lt bytes is small before =
+    let every : Packets = on_channel channel packets in
+    let many : length every ≡ length packets = length-map packets (λ (packet : List ℕ). (channel, packet)) in
+    let within : k < length every = omega (arith, lt, many) in
+    let at : get_or every k (channel, []) ≡ (channel, get_or packets k []) = get_or-map (λ (packet : List ℕ). (channel, packet)) packets k [] (channel, []) lt in
+    let last : take k every ++ (channel, bytes) ∷ [] ≡ take (k + 1) every =
+    ap (λ (p : ℕ × List ℕ). take k every ++ p ∷ []) (ap (λ (b : List ℕ). (channel, b)) is ∙ sym at) ∙ sym (take_more every k (channel, []) within) in
+    subst AreOfBytes last (All-append IsOfBytes (take k every) ((channel, bytes) ∷ []) before (All-cons IsOfBytes (channel, bytes) [] small (All-nil IsOfBytes)))
+
+pub all_of_bytes : (channel : ℕ) (packets : List (List ℕ)) (k : ℕ) → length packets ≤ k → AreOfBytes (take k (on_channel channel packets)) → AreOfBytes (on_channel channel packets)
+all_of_bytes channel packets k le h =
+    let e : length (on_channel channel packets) ≡ length packets = length-map packets (λ (packet : List ℕ). (channel, packet)) in
+    subst AreOfBytes (take_all k (on_channel channel packets) (omega (arith, le, e))) h
+
+pub these_of_bytes : (captures : List CapturePackets) (i : ℕ) (capture : CapturePackets) → i < length captures → capture ≡ get_or captures i capture → AreOfBytes (packet_values (take i captures)) → AreOfBytes (capture_values capture) → AreOfBytes (packet_values (take (i + 1) captures))
+these_of_bytes captures i capture lt is before these =
+    subst AreOfBytes (next_values captures i capture lt is) (All-append IsOfBytes (packet_values (take i captures)) (capture_values capture) before these)
+
+pub captures_of_bytes : (captures : List CapturePackets) (i : ℕ) → length captures ≤ i → AreOfBytes (packet_values (take i captures)) → AreOfBytes (packet_values captures)
+captures_of_bytes captures i le h = subst (λ (cs : List CapturePackets). AreOfBytes (packet_values cs)) (take_all i captures le) h

@@ -2,6 +2,7 @@
 pub mod Works
 pub mod HeldBack
 -- What this crate alone cites.
+mod Sized
 mod Parts
 mod CapturesSent
 mod PeaksWithin

@@ -19,7 +19,7 @@ use Rattle.plan_inputs.specs.Sources.{IsShapeOf}
 use Rattle.reassembly.specs.Settings as reassembly
 use Rattle.receipts.proofs.Settings.{lists_channels}
 use Rattle.duplex_commands.specs.Reading.{DuplexReading}
-use Rattle.duplex_commands.specs.Run.{run_settings}
+use Rattle.duplex_commands.specs.Run.{run_settings, AreOfBytes}
 use Rattle.duplex_commands.specs.Loaded.{IsLoaded, all_added}
 
 -- the same settings, but for the slots of the whole run
@@ -62,8 +62,8 @@ has_room n h = omega arith
 
 pub is_loaded : (r : DuplexReading) (s : Settings) (shape : Shape) (channels entries : List ℕ) (longest : ℕ) (wide : Bool) (old new : Duplex) (of_a of_b : List (ℕ × List ℕ)) → s.delay ≡ r.settings.delay → s.mark ≡ r.settings.mark → s.drain ≡ r.settings.drain
     → IsShapeOf r.plan shape → channels ≡ channels_in_order (numbers_in r.plan) → entries ≡ r.plan.entries → longest ≡ r.plan.settings.max_packet → wide ≡ r.plan.wide → longest ≤ longest_packet → of_a ≡ r.packets_of_a → of_b ≡ r.packets_of_b
-    → Waits new s (all_added (all_added (empty_ends shape channels entries) A of_a) B of_b) → KeepsInboxes old new → IsGiven old → ((setting : Setting) → reassembly.IsSettingOf setting channels longest wide → HasGot old setting s 0 [] [] [] []) → IsLoaded r new
-is_loaded r s shape channels entries longest wide old new of_a of_b delay mark drain shaped order calendar most width within same_a same_b waits keeps given got = record {
+    → Waits new s (all_added (all_added (empty_ends shape channels entries) A of_a) B of_b) → KeepsInboxes old new → IsGiven old → ((setting : Setting) → reassembly.IsSettingOf setting channels longest wide → HasGot old setting s 0 [] [] [] []) → AreOfBytes of_a → AreOfBytes of_b → IsLoaded r new
+is_loaded r s shape channels entries longest wide old new of_a of_b delay mark drain shaped order calendar most width within same_a same_b waits keeps given got bytes_a bytes_b = record {
   ends = all_added (all_added (empty_ends shape channels entries) A of_a) B of_b;
   are = record {
     a = record { shape = shaped; channels = order; entries = calendar; packets = same_a; flow = refl; local = refl };
@@ -75,4 +75,6 @@ is_loaded r s shape channels entries longest wide old new of_a of_b delay mark d
       got_so s r.settings delay mark drain new setting
       (still_got old new setting s keeps (got setting (lists_channels setting channels longest wide (record { listed = is.channels ∙ sym order; longest = is.max_packet ∙ sym most; width = is.wide ∙ sym width }))));
   fits = subst (λ n. n ≤ longest_packet) most within;
+  bytes_of_a = subst AreOfBytes same_a bytes_a;
+  bytes_of_b = subst AreOfBytes same_b bytes_b;
 }

@@ -13,7 +13,8 @@ use Rattle.run_stops.proofs.Readings.{behind_ok}
 use Rattle.plan_inputs.specs.Inputs.{rows_by, packets_in}
 use Rattle.plan_inputs.proofs.SomeSource.{Keeps, rows_keep}
 use Rattle.plan_inputs.proofs.PlanStream.{AreFit, channels_fit}
-use Rattle.duplex_commands.specs.Reading.{DuplexReading, settings_by, settings_in, shared_plan_in, back_channels, room_behind, with_captures, with_plan, with_settings, duplex_in}
+use Rattle.duplex_commands.specs.Reading.{DuplexReading, settings_by, settings_in, shared_plan_in, back_channels, room_after, with_captures, with_plan, with_settings, duplex_in}
+use Rattle.duplex_commands.proofs.Sized.{AreSized, packets_sized}
 
 settings_by_ok : (r : Result DuplexValue PlanError) (settings : DuplexValue) → settings_by r ≡ Ok settings → r ≡ Ok settings
 settings_by_ok (Ok s) settings e = let same : s ≡ settings = cc e in ap Ok same
@@ -41,7 +42,7 @@ record AreRead (files : Files) (name : List ℕ) (r : DuplexReading) : Type 0 wh
   plan : shared_plan_in files r.settings.plan ≡ Ok r.plan
   back : List Listed
   a : packets_in files r.plan.settings.max_packet capture_limit r.plan.channels ≡ Ok r.packets_of_a
-  b : packets_in files r.plan.settings.max_packet (room_behind files r.plan.channels) back ≡ Ok r.packets_of_b
+  b : packets_in files r.plan.settings.max_packet (room_after files r.plan.channels) back ≡ Ok r.packets_of_b
 
 are_read : (files : Files) (name : List ℕ) (r : DuplexReading) → duplex_in files name ≡ Ok r → AreRead files name r
 unfolding duplex_in
@@ -49,14 +50,21 @@ are_read files name r e =
     let (settings, had, next) = behind_ok (settings_in files name) (with_settings files) r e in
     let (plan, planned, then) = behind_ok (shared_plan_in files settings.plan) (with_plan files settings) r next in
     let (back, listed, last) = behind_ok (back_channels plan settings.back) (with_captures files settings plan) r then in
-    let (a, first, behind_a) = behind_ok (packets_in files plan.settings.max_packet capture_limit plan.channels) (λ x. behind (packets_in files plan.settings.max_packet (room_behind files plan.channels) back) (λ y. Ok (record { settings = settings; plan = plan; packets_of_a = x; packets_of_b = y }))) r last in
-    let (b, second, all) = behind_ok (packets_in files plan.settings.max_packet (room_behind files plan.channels) back) (λ y. Ok (record { settings = settings; plan = plan; packets_of_a = a; packets_of_b = y })) r behind_a in
+    let (a, first, behind_a) = behind_ok (packets_in files plan.settings.max_packet capture_limit plan.channels) (λ x. behind (packets_in files plan.settings.max_packet (room_after files plan.channels) back) (λ y. Ok (record { settings = settings; plan = plan; packets_of_a = x; packets_of_b = y }))) r last in
+    let (b, second, all) = behind_ok (packets_in files plan.settings.max_packet (room_after files plan.channels) back) (λ y. Ok (record { settings = settings; plan = plan; packets_of_a = a; packets_of_b = y })) r behind_a in
     let same : record { settings = settings; plan = plan; packets_of_a = a; packets_of_b = b } ≡ r = cc all in
     subst (AreRead files name) same (record { settings = had; plan = planned; back = back; a = first; b = second })
 
 -- the plan that was read keeps what plans keep, whatever the files hold
 pub plan_part : (files : Files) (name : List ℕ) (r : DuplexReading) → duplex_in files name ≡ Ok r → Keeps r.plan
 plan_part files name r e = let read = are_read files name r e in plan_keeps files r.settings.plan r.plan read.plan
+
+-- the packets that were read have the lengths of packets, whatever the files hold
+pub sized_part : (files : Files) (name : List ℕ) (r : DuplexReading) → duplex_in files name ≡ Ok r → AreSized r.plan.settings.max_packet r.packets_of_a × AreSized r.plan.settings.max_packet r.packets_of_b
+sized_part files name r e = let read = are_read files name r e in (
+  packets_sized files r.plan.settings.max_packet capture_limit r.plan.channels r.packets_of_a read.a,
+  packets_sized files r.plan.settings.max_packet (room_after files r.plan.channels) read.back r.packets_of_b read.b,
+)
 
 -- what is known of what was read, where the files hold bytes
 pub record AreParts (r : DuplexReading) : Type 0 where
@@ -70,5 +78,5 @@ parts_of files name r are e = let read = are_read files name r e in record {
   settings = settings_fit files name r.settings read.settings;
   plan = plan_keeps files r.settings.plan r.plan read.plan;
   a = channels_fit files are r.plan.settings.max_packet capture_limit r.plan.channels r.packets_of_a read.a;
-  b = channels_fit files are r.plan.settings.max_packet (room_behind files r.plan.channels) read.back r.packets_of_b read.b;
+  b = channels_fit files are r.plan.settings.max_packet (room_after files r.plan.channels) read.back r.packets_of_b read.b;
 }

@@ -27,7 +27,7 @@ use Rattle.run_stops.specs.Reading as reading
 use Rattle.plan_inputs.specs.Inputs.{packets_in, rows_by}
 use Rattle.plan_inputs.proofs.ListedFiles.{HaveBytes, bytes_at, file_at, files_of_bytes, packets_read, then_at}
 use Rattle.duplex_commands.specs.PremisesMet.{TwoEndsMeet, one_capture, one_to_eight, plan_text, settings_name, settings_text, two_ends_entries, two_ends_files, two_ends_plan, two_ends_reading, two_ends_settings}
-use Rattle.duplex_commands.specs.Reading.{back_channels, duplex_in, first_unlisted, room_behind, settings_by, settings_in, shared_plan_in, with_captures, with_plan, with_settings}
+use Rattle.duplex_commands.specs.Reading.{back_channels, duplex_in, first_unlisted, room_after, settings_by, settings_in, shared_plan_in, with_captures, with_plan, with_settings}
 use Rattle.duplex_commands.proofs.HeldBack.{held_back}
 use Rattle.duplex_commands.proofs.Works.{duplex_is_work}
 
@@ -67,7 +67,7 @@ captures_read : with_captures two_ends_files two_ends_settings two_ends_plan [] 
 unfolding packets_in
 captures_read =
     then_at (packets_in two_ends_files 262144 capture_limit two_ends_plan.channels) ((1, one_to_eight) ∷ [])
-    (λ a. behind (packets_in two_ends_files 262144 (room_behind two_ends_files two_ends_plan.channels) []) (λ b. Ok (record { settings = two_ends_settings; plan = two_ends_plan; packets_of_a = a; packets_of_b = b })))
+    (λ a. behind (packets_in two_ends_files 262144 (room_after two_ends_files two_ends_plan.channels) []) (λ b. Ok (record { settings = two_ends_settings; plan = two_ends_plan; packets_of_a = a; packets_of_b = b })))
     packets_of_a
 
 all_read : duplex_in two_ends_files settings_name ≡ Ok two_ends_reading

@@ -20,7 +20,7 @@ use Rattle.plan_inputs.specs.Inputs.{packets_in, capture_sizes, IsCapture}
 use Rattle.plan_inputs.specs.Values.{packet_values}
 use Rattle.plan_inputs.specs.declared.captures.ReadCaptures.{ReadCaptures}
 use Rattle.plan_inputs.proofs.InputsRead.{same_numbers}
-use Rattle.duplex_commands.specs.Reading.{DuplexReading, settings_in, shared_plan_in, first_unlisted, backs, unless_unlisted, back_channels, room_behind, with_captures, with_plan, with_settings, duplex_in, IsReadBehind, IsReadBy, IsReadFor}
+use Rattle.duplex_commands.specs.Reading.{DuplexReading, settings_in, shared_plan_in, first_unlisted, backs, unless_unlisted, back_channels, room_after, with_captures, with_plan, with_settings, duplex_in, IsReadAfter, IsReadBy, IsReadFor}
 use Rattle.duplex_commands.specs.Values.{duplex_reading}
 use Rattle.duplex_commands.specs.declared.reading.DuplexInputs.{DuplexInputs}
 
@@ -34,7 +34,7 @@ module _ (settings : DuplexValue) (plan : PlanValue) where
   most = plan.settings.max_packet
 
   abbrev Behind : List ℕ → Type 0
-  Behind q = IsReadBehind settings plan q
+  Behind q = IsReadAfter settings plan q
 
   abbrev End : List (ℕ × List ℕ) → List (ℕ × List ℕ) → Result DuplexReading Refusal
   End a b = Ok (record { settings = settings; plan = plan; packets_of_a = a; packets_of_b = b })
@@ -43,7 +43,7 @@ module _ (settings : DuplexValue) (plan : PlanValue) where
   OfA files = packets_in files most capture_limit plan.channels
 
   abbrev OfB : List Listed → Files → Result (List (ℕ × List ℕ)) Refusal
-  OfB back files = packets_in files most (room_behind files plan.channels) back
+  OfB back files = packets_in files most (room_after files plan.channels) back
 
   abbrev BehindA : List Listed → Files → List (ℕ × List ℕ) → Result DuplexReading Refusal
   BehindA back files a = behind (OfB back files) (λ b. End a b)
@@ -79,11 +79,11 @@ module _ (settings : DuplexValue) (plan : PlanValue) where
           with_back r x
           (second_reads (List (ℕ × List ℕ)) DuplexReading ReadCaptures DuplexInputs OfA (BehindA back) duplex_reading (λ files q. Behind q) (λ files q. Behind q) a r x y same (λ u q e n. n) had h)
 
-      module _ (room : ℕ) (left : IfSome x (λ files. room ≡ room_behind files plan.channels)) where
+      module _ (room : ℕ) (left : IfSome x (λ files. room ≡ room_after files plan.channels)) where
         in_room : (r : Result ReadCaptures Stop) → IfSome y (λ files. Reads (λ (v : ReadCaptures). packet_values v.packets.items) (IsCapture back) r (packets_in files most room back)) → IfSome y (λ files. Reads (λ (v : ReadCaptures). packet_values v.packets.items) (IsCapture back) r (OfB back files))
-        in_room r h = by y (subst (λ (z : Option Files). IfSome z (λ files. room ≡ room_behind files plan.channels)) (sym same) left) h
+        in_room r h = by y (subst (λ (z : Option Files). IfSome z (λ files. room ≡ room_after files plan.channels)) (sym same) left) h
           where
-            by : (z : Option Files) → IfSome z (λ files. room ≡ room_behind files plan.channels) → IfSome z (λ files. Reads (λ (v : ReadCaptures). packet_values v.packets.items) (IsCapture back) r (packets_in files most room back)) → IfSome z (λ files. Reads (λ (v : ReadCaptures). packet_values v.packets.items) (IsCapture back) r (OfB back files))
+            by : (z : Option Files) → IfSome z (λ files. room ≡ room_after files plan.channels) → IfSome z (λ files. Reads (λ (v : ReadCaptures). packet_values v.packets.items) (IsCapture back) r (packets_in files most room back)) → IfSome z (λ files. Reads (λ (v : ReadCaptures). packet_values v.packets.items) (IsCapture back) r (OfB back files))
             by None l k = tt
             by (Some u) l k = subst (λ (n : ℕ). Reads (λ (v : ReadCaptures). packet_values v.packets.items) (IsCapture back) r (packets_in u most n back)) l k
 
@@ -134,15 +134,15 @@ module _ (name : List ℕ) where
         (first_stops PlanValue DuplexReading Plan DuplexInputs (λ files. shared_plan_in files settings.plan) (λ files. with_plan files settings) plan_value duplex_reading (λ files n. n ≡ settings.plan) (IsReadBy settings) s y (λ u q n. inl n)
         (subst (λ (f : List ℕ). IfSome y (λ files. Reads plan_value (λ n. n ≡ f) (Err s) (shared_plan_in files f))) is h))
 
-    named_behind : (plan : PlanValue) (u : Files) (q : List ℕ) → shared_plan_in u settings.plan ≡ Ok plan → IsReadBehind settings plan q → IsReadBy settings u q
-    named_behind plan u q e n = inr (subst (λ r. MatchResult r (λ p. IsReadBehind settings p q) (λ f. ⊥)) (sym e) n)
+    named_behind : (plan : PlanValue) (u : Files) (q : List ℕ) → shared_plan_in u settings.plan ≡ Ok plan → IsReadAfter settings plan q → IsReadBy settings u q
+    named_behind plan u q e n = inr (subst (λ r. MatchResult r (λ p. IsReadAfter settings p q) (λ f. ⊥)) (sym e) n)
 
     -- the plan was had, and what stands after it came to this
     pub behind_plan : (z : Option Files) → z ≡ y → (plan : PlanValue) (file : List ℕ) → file ≡ settings.plan → IfSome y (λ files. shared_plan_in files file ≡ Ok plan) → (r : Result DuplexInputs Stop)
-        → IfSome z (λ files. Came (IsReadBehind settings plan) r (with_plan files settings plan)) → Whole r x
+        → IfSome z (λ files. Came (IsReadAfter settings plan) r (with_plan files settings plan)) → Whole r x
     behind_plan z again plan file is planned r h =
         behind_settings r
-        (second_reads PlanValue DuplexReading Plan DuplexInputs (λ files. shared_plan_in files settings.plan) (λ files. with_plan files settings) duplex_reading (λ files q. IsReadBehind settings plan q) (IsReadBy settings) plan r y z again
+        (second_reads PlanValue DuplexReading Plan DuplexInputs (λ files. shared_plan_in files settings.plan) (λ files. with_plan files settings) duplex_reading (λ files q. IsReadAfter settings plan q) (IsReadBy settings) plan r y z again
         (λ u q e n. named_behind plan u q e n) (subst (λ (f : List ℕ). IfSome y (λ files. shared_plan_in files f ≡ Ok plan)) is planned) h)
 
 -- ---- as the calls report it
@@ -163,7 +163,7 @@ of_most plan longest room back r x is h = subst (λ m. IfSome x (λ files. Reads
 
 -- what is left after the captures of end a
 pub of_room : (plan : Plan) (rows : List ChannelRow) (room limit : ℕ) (x : Option Files) → rows ≡ plan.channels.items → limit ≡ capture_limit
-    → IfSome x (λ files. room ≡ limit - capture_sizes files (map listed_of rows)) → IfSome x (λ files. room ≡ room_behind files (plan_value plan).channels)
+    → IfSome x (λ files. room ≡ limit - capture_sizes files (map listed_of rows)) → IfSome x (λ files. room ≡ room_after files (plan_value plan).channels)
 of_room plan rows room limit x are is h =
     subst (λ (n : ℕ). IfSome x (λ files. room ≡ n - capture_sizes files (plan_value plan).channels)) is
     (subst (λ (cs : List ChannelRow). IfSome x (λ files. room ≡ limit - capture_sizes files (map listed_of cs))) are h)

@@ -74,7 +74,7 @@ pub some_for : (r : DuplexReading) → AreParts r → (a b : List Word) × IsRun
 some_for r parts =
     let keeps : AreSettings (run_settings r.settings) = settings_keep r parts.settings in
     let (a, b, run) = some_run (run_settings r.settings) (the_ends r parts.plan) r.settings.slots keeps (they_run r parts) in
-    (a, b, record { keeps = keeps; ends = the_ends r parts.plan; are = they_are r parts.plan; run = run })
+    (a, b, record { keeps = keeps; ends = the_ends r parts.plan; are = they_are r parts.plan; run = run; bytes_of_a = λ k p below. (parts.a k p below).bytes; bytes_of_b = λ k p below. (parts.b k p below).bytes })
 
 some_outcome : (r : DuplexReading) → AreParts r → (o : Outcome) × IsDuplexed r o
 some_outcome r parts =

@@ -29,7 +29,7 @@ module _ (r : DuplexReading) (d : Duplex) (loaded : IsLoaded r d) (was : Option 
   Plain o = IsEnded (beginning r was) (run_settings r.settings) loaded.ends o
 
   to_duplexed : (o : Outcome) → Plain o → IsDuplexed r o
-  to_duplexed o (a, b, run, e) = (a, b, record { keeps = loaded.waits.keeps; ends = loaded.ends; are = loaded.are; run = run }, (the_setting r.plan, is_the_setting r.plan, e))
+  to_duplexed o (a, b, run, e) = (a, b, record { keeps = loaded.waits.keeps; ends = loaded.ends; are = loaded.are; run = run; bytes_of_a = loaded.bytes_of_a; bytes_of_b = loaded.bytes_of_b }, (the_setting r.plan, is_the_setting r.plan, e))
 
   of_duplexed : (o : Outcome) → IsDuplexed r o → Plain o
   of_duplexed o (a, b, run, (setting, is, e)) = (

@@ -55,7 +55,7 @@ abbrev pub Keeps : {T : Type 0} → Beginning → List (ℕ × Packet) → List 
 Keeps b got_a got_b (Ok _) c now = AreKept b got_a got_b c now
 Keeps b got_a got_b (Err s) c now = IsBroken b got_a got_b s now
 
--- the same of captures that are made
+-- the captures are made and no packet came yet, or something stopped their making
 abbrev pub Opens : Beginning → Result Captures Stop → Option Files → Type 0
 Opens b (Ok c) now = AreKept b [] [] c now
 Opens b (Err s) now = IsBroken b [] [] s now

@@ -10,7 +10,7 @@ use Rattle.duplex.specs.declared.duplex.End.TheVariants.{A, B}
 use Rattle.plan_inputs.specs.Values.{size_of, AreOn}
 use Rattle.receipts.specs.Settings.{IsSettingOf}
 use Rattle.duplex_commands.specs.Reading.{DuplexReading}
-use Rattle.duplex_commands.specs.Run.{run_settings, AreEndsOf}
+use Rattle.duplex_commands.specs.Run.{run_settings, AreEndsOf, AreOfBytes}
 
 -- What the inputs of a run with these listed channels keep: each packet is on one of them, and the packets of an end have
 -- together no more bytes than all captures may have.
@@ -25,7 +25,7 @@ abbrev pub all_added : Ends → End → List (ℕ × List ℕ) → Ends
 all_added ends A packets = record ends { packets_of_a = ends.packets_of_a ++ packets }
 all_added ends B packets = record ends { packets_of_b = ends.packets_of_b ++ packets }
 
--- the run of what was read, before its first slot
+-- the run of what was read, before its first slot; what is lent to it is bytes
 pub record IsLoaded (r : DuplexReading) (d : Duplex) : Type 0 where
   pub ends : Ends
   pub are : AreEndsOf r ends
@@ -33,3 +33,5 @@ pub record IsLoaded (r : DuplexReading) (d : Duplex) : Type 0 where
   pub given : IsGiven d
   pub got : (setting : Setting) → IsSettingOf r.plan setting → HasGot d setting (run_settings r.settings) 0 [] [] [] []
   pub fits : r.plan.settings.max_packet ≤ longest_packet
+  pub bytes_of_a : AreOfBytes r.packets_of_a
+  pub bytes_of_b : AreOfBytes r.packets_of_b

@@ -50,8 +50,8 @@ back_channels plan back = unless_unlisted back (first_unlisted (numbers_in plan)
 -- ---- the captures
 
 -- how many bytes all captures together may have after those of these channels
-abbrev pub room_behind : Files → List Listed → ℕ
-room_behind files channels = capture_limit - capture_sizes files channels
+abbrev pub room_after : Files → List Listed → ℕ
+room_after files channels = capture_limit - capture_sizes files channels
 
 -- ---- all
 
@@ -66,7 +66,7 @@ pub record DuplexReading : Type 0 where
 abbrev pub with_captures : Files → DuplexValue → PlanValue → List Listed → Result DuplexReading Refusal
 with_captures files settings plan back =
     behind (packets_in files plan.settings.max_packet capture_limit plan.channels) (λ a.
-    behind (packets_in files plan.settings.max_packet (room_behind files plan.channels) back) (λ b.
+    behind (packets_in files plan.settings.max_packet (room_after files plan.channels) back) (λ b.
     Ok (record { settings = settings; plan = plan; packets_of_a = a; packets_of_b = b })))
 
 abbrev pub with_plan : Files → DuplexValue → PlanValue → Result DuplexReading Refusal
@@ -80,12 +80,12 @@ unfoldable pub duplex_in : Files → List ℕ → Result DuplexReading Refusal
 duplex_in files name = behind (settings_in files name) (with_settings files)
 
 -- what is read after the plan, where no row of end b clashes: a capture of end a, or one of end b
-abbrev pub IsReadBehind : DuplexValue → PlanValue → List ℕ → Type 0
-IsReadBehind settings plan q = MatchResult (back_channels plan settings.back) (λ back. IsCapture plan.channels q ⊎ IsCapture back q) (λ r. ⊥)
+abbrev pub IsReadAfter : DuplexValue → PlanValue → List ℕ → Type 0
+IsReadAfter settings plan q = MatchResult (back_channels plan settings.back) (λ back. IsCapture plan.channels q ⊎ IsCapture back q) (λ r. ⊥)
 
 -- what is read for settings: the plan, and where it is accepted the captures
 abbrev pub IsReadBy : DuplexValue → Files → List ℕ → Type 0
-IsReadBy settings files q = (q ≡ settings.plan) ⊎ MatchResult (shared_plan_in files settings.plan) (λ plan. IsReadBehind settings plan q) (λ r. ⊥)
+IsReadBy settings files q = (q ≡ settings.plan) ⊎ MatchResult (shared_plan_in files settings.plan) (λ plan. IsReadAfter settings plan q) (λ r. ⊥)
 
 -- what is read for FILE: itself, and where it is accepted what is read for its settings
 abbrev pub IsReadFor : List ℕ → Files → List ℕ → Type 0

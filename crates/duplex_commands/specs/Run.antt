@@ -1,5 +1,5 @@
 -- What `duplex FILE` means: the packets that came at each end of a run become captures.
-use Rattle.std.specs.Prelude.{◌≡◌, ℕ, List, [], ◌++◌, length, map, sum_by, Contains}
+use Rattle.std.specs.Prelude.{◌≡◌, ◌<◌, ℕ, List, [], ◌++◌, length, map, sum_by, All, Contains}
 use Rattle.std.specs.List.{flat_map}
 use Rattle.lk_base.specs.declared.word.Word.{Word}
 use Rattle.receive_model.specs.Events.{Setting}
@@ -23,6 +23,10 @@ use Rattle.duplex_commands.specs.Names.{prefix_of_a, prefix_of_b}
 use Rattle.duplex_commands.specs.Reading.{DuplexReading, duplex_in, IsReadFor}
 
 -- ---- the run
+
+-- each of these packets is of bytes
+abbrev pub AreOfBytes : List (ℕ × List ℕ) → Type 0
+AreOfBytes packets = All (λ (p : ℕ × List ℕ). All (λ byte. byte < 256) p.1) packets
 
 abbrev pub run_settings : DuplexValue → Settings
 run_settings settings = record { delay = settings.delay; mark = settings.mark; drain = settings.drain; slots = settings.slots }
@@ -69,12 +73,14 @@ duplex_outcome r setting a b = record {
   text = end_text r setting 97 b ++ (end_text r setting 98 a ++ slots_line r.settings.slots);
 }
 
--- the ends sent these words in the run of what was read
+-- the ends sent these words in the run of what was read, whose packets are of bytes
 pub record IsRunFor (r : DuplexReading) (a b : List Word) : Type 0 where
   pub keeps : AreSettings (run_settings r.settings)
   pub ends : Ends
   pub are : AreEndsOf r ends
   pub run : IsDuplexRun (run_settings r.settings) ends a b
+  pub bytes_of_a : AreOfBytes r.packets_of_a
+  pub bytes_of_b : AreOfBytes r.packets_of_b
 
 -- what the run comes to
 abbrev pub IsDuplexed : DuplexReading → Outcome → Type 0

@@ -12,7 +12,7 @@ ghost use Rattle.duplex_commands.specs.Captures.{Beginning, AreKept, Keeps, Open
 use crate::names::capture_names;
 use duplex::End;
 use lk_outside::Store;
-use receipts::{ChannelReceipt, create_headed, nothing_yet, place_of, put_record};
+use receipts::{CapturePlace, ChannelReceipt, create_headed, nothing_yet, place_of, put_record};
 use run_shell::Outputs;
 use run_stops::Stop;
 use std::alloc::Global;
@@ -68,15 +68,10 @@ impl Captures {
             Keeps b (more_at_a A channel (record { bytes = packet.now; first = first; last = last }) got_a) got_b result self.new (S.files store.new) }
     {
         match place_of(&self.a, channel) {
-            Some(place) => put_record(
-                alloc,
-                store,
-                &mut self.outputs,
-                &mut self.a,
-                0,
-                place,
-                packet,
-            ),
+            Some(place) => {
+                let at = CapturePlace { ahead: 0, place };
+                put_record(alloc, store, &mut self.outputs, &mut self.a, at, packet)
+            }
             None => Ok(()),
         }
     }
@@ -98,15 +93,10 @@ impl Captures {
     {
         let ahead = self.a.len() as u16;
         match place_of(&self.b, channel) {
-            Some(place) => put_record(
-                alloc,
-                store,
-                &mut self.outputs,
-                &mut self.b,
-                ahead,
-                place,
-                packet,
-            ),
+            Some(place) => {
+                let at = CapturePlace { ahead, place };
+                put_record(alloc, store, &mut self.outputs, &mut self.b, at, packet)
+            }
             None => Ok(()),
         }
     }

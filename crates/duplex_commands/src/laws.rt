@@ -18,8 +18,8 @@ pub fn peaks_are_bounded()
     ensures { PeaksAreBounded }
 {}
 
-/// What is made: where the files hold bytes, the captures have exactly the packets that arrived; and the queues of channels with
-/// a calendar entry were never above the bound, whatever the files hold.
+/// What is made, whatever the files hold: the captures have exactly the packets that arrived, and the queues of channels with a
+/// calendar entry were never above the bound.
 pub fn ends_hold_back()
     ensures { EndsHoldBack }
 {}

@@ -7,9 +7,10 @@ ghost use Rattle.plan_inputs.specs.Inputs.{on_channel};
 ghost use Rattle.plan_inputs.specs.Values.{packets_of, packet_values, size_of, AreOn};
 ghost use Rattle.duplex_commands.specs.Values.{duplex_reading};
 ghost use Rattle.duplex_commands.specs.Loaded.{FitEnds, IsLoaded, all_added};
+ghost use Rattle.duplex_commands.specs.Run.{AreOfBytes};
 
 use crate::reading::DuplexInputs;
-use duplex::{Duplex, End, Settings};
+use duplex::{BothEnds, Duplex, End, Settings};
 use duplex_plan::DuplexPlan;
 use lk_base::OutOfMemory;
 use plan_inputs::CapturePackets;
@@ -24,6 +25,7 @@ fn lend<'a>(
     requires { (settings : RunSettings) × (ends : Ends) × Waits duplex.old settings ends × AreOn ends.channels (on_channel capture.now.channel (packets_of capture.now)) × (size_of (sent_by ends end) + size_of (on_channel capture.now.channel (packets_of capture.now)) < 2 ^ 40) }
     ensures waits { OnOk result ((settings : RunSettings) (ends : Ends) → Waits duplex.old settings ends → Waits duplex.new settings (all_added ends end (on_channel capture.now.channel (packets_of capture.now)))) }
     ensures inboxes { KeepsInboxes duplex.old duplex.new }
+    ensures bytes { OnOk result (AreOfBytes (on_channel capture.now.channel (packets_of capture.now))) }
 {
     for number in 0..capture.count() {
         duplex.packet(end, capture.channel, capture.packet(number))?;
@@ -40,6 +42,7 @@ fn lend_all<'a>(
     requires { (settings : RunSettings) × (ends : Ends) × Waits duplex.old settings ends × AreOn ends.channels (packet_values captures.now) × (size_of (sent_by ends end) + size_of (packet_values captures.now) < 2 ^ 40) }
     ensures waits { OnOk result ((settings : RunSettings) (ends : Ends) → Waits duplex.old settings ends → Waits duplex.new settings (all_added ends end (packet_values captures.now))) }
     ensures inboxes { KeepsInboxes duplex.old duplex.new }
+    ensures bytes { OnOk result (AreOfBytes (packet_values captures.now)) }
 {
     for capture in captures {
         lend(duplex, end, capture)?;
@@ -71,15 +74,14 @@ pub fn loaded<'a>(
     requires fit { FitEnds (numbers_of inputs.now.plan.channels.items) (packet_values inputs.now.packets_of_a.items) (packet_values inputs.now.packets_of_b.items) }
     ensures { IfOk result (IsLoaded (duplex_reading inputs.now)) }
 {
-    let mut duplex = Duplex::new(
-        alloc,
-        inputs.plan.shape(),
+    let ends = BothEnds {
+        shape: inputs.plan.shape(),
         channels,
-        &inputs.plan.entries,
-        inputs.plan.link.max_packet(),
-        inputs.plan.wide,
-        settings_of(&inputs.settings),
-    )?;
+        entries: &inputs.plan.entries,
+        max_packet: inputs.plan.link.max_packet(),
+        wide: inputs.plan.wide,
+    };
+    let mut duplex = Duplex::new(alloc, &ends, settings_of(&inputs.settings))?;
     lend_all(&mut duplex, End::A, &inputs.packets_of_a)?;
     lend_all(&mut duplex, End::B, &inputs.packets_of_b)?;
     Ok(duplex)

@@ -6,7 +6,7 @@ ghost use Rattle.link_plan.specs.Views.{plan_value};
 ghost use Rattle.link_plan.specs.Listing.{numbers_of};
 ghost use Rattle.plan_inputs.specs.Values.{packet_values};
 ghost use Rattle.duplex_plan.specs.Views.{duplex_value};
-ghost use Rattle.duplex_commands.specs.Reading.{duplex_in, with_plan, IsReadFor, IsReadBehind};
+ghost use Rattle.duplex_commands.specs.Reading.{duplex_in, with_plan, IsReadFor, IsReadAfter};
 ghost use Rattle.duplex_commands.specs.Values.{duplex_reading};
 ghost use Rattle.duplex_commands.specs.Loaded.{FitEnds};
 
@@ -35,7 +35,7 @@ pub struct DuplexInputs {
 }
 
 // What stands after the plan: where each channel of end b is listed, the captures of end a, and then those of end b.
-fn read_behind_plan<S: Store>(
+fn read_after_plan<S: Store>(
     alloc: Global,
     store: &mut S,
     settings: DuplexPlan,
@@ -44,7 +44,7 @@ fn read_behind_plan<S: Store>(
     requires { S.faults store.old < 2 ^ 60 }
     ensures cause { StopCount result (S.faults store.old) (S.faults store.new) }
     ensures unchanged { S.files store.new ≡ S.files store.old }
-    ensures reads { IfSome (S.files store.old) (λ files. Reads duplex_reading (IsReadBehind (duplex_value settings) (plan_value plan)) result (with_plan files (duplex_value settings) (plan_value plan))) }
+    ensures reads { IfSome (S.files store.old) (λ files. Reads duplex_reading (IsReadAfter (duplex_value settings) (plan_value plan)) result (with_plan files (duplex_value settings) (plan_value plan))) }
     ensures fit { IfOk result (λ i. FitEnds (numbers_of i.plan.channels.items) (packet_values i.packets_of_a.items) (packet_values i.packets_of_b.items)) }
 {
     if let Some(row) = unlisted_row(&plan.channels, &settings.back) {
@@ -77,5 +77,5 @@ pub fn read_duplex_inputs<S: Store>(
 {
     let settings = read_settings_file(alloc, store, name)?;
     let plan = read_shared_plan(alloc, store, settings.plan.as_str())?;
-    read_behind_plan(alloc, store, settings, plan)
+    read_after_plan(alloc, store, settings, plan)
 }

@@ -12,7 +12,7 @@ ghost use Rattle.duplex_commands.specs.Ended.{counted_line, run_text};
 
 use crate::captures::Captures;
 use duplex::{Duplex, End};
-use link_reports::{end_line, slots_line};
+use link_reports::{EndCounts, end_line, slots_line};
 use lk_base::OutOfMemory;
 use receipts::ChannelReceipt;
 use std::alloc::Global;
@@ -32,15 +32,14 @@ fn end_lines(
 {
     for one in counts {
         let peak = u64::from(duplex.peak(end, one.channel));
-        end_line(
-            alloc,
-            text,
-            letter,
-            one.channel,
-            one.packets,
-            one.bytes,
+        let counts = EndCounts {
+            end: letter,
+            channel: one.channel,
+            packets: one.packets,
+            bytes: one.bytes,
             peak,
-        )?;
+        };
+        end_line(alloc, text, &counts)?;
     }
     Ok(())
 }

@@ -18,6 +18,24 @@ use run_shell::Outputs;
 use run_stops::Stop;
 use std::alloc::Global;
 
+/// Where the record of a packet goes, and where the packet is counted.
+#[derive(Clone, Copy, Debug, PartialEq, Eq)]
+pub struct CapturePlace {
+    /// How many outputs stand ahead of the captures.
+    pub ahead: u16,
+    /// Which of the captures after these, and which of the counts, from 0.
+    pub place: usize,
+}
+
+/// The record of a packet, which is made.
+#[derive(Clone, Copy, Debug)]
+pub struct MadeRecord<'r> {
+    /// The record.
+    pub bytes: &'r [u8],
+    /// How many bytes the packet has.
+    pub size: u64,
+}
+
 // The record of a packet in a capture.
 fn record_of(alloc: Global, packet: &[u8]) -> Result<Vec<u8>, OutOfMemory>
     requires { HasSize longest_packet packet.now }
@@ -28,34 +46,32 @@ fn record_of(alloc: Global, packet: &[u8]) -> Result<Vec<u8>, OutOfMemory>
     Ok(bytes)
 }
 
-/// Puts a record that is made into the capture at this place, after the outputs that stand ahead, and counts its packet, of
-/// this size, at the place. After an error each output has a prefix of what it was given, the record with it.
+/// Puts a record that is made into the capture at this place, after the outputs that stand ahead, and counts its packet at the
+/// place. After an error each output has a prefix of what it was given, the record with it.
 pub fn put_made<S: Store>(
     alloc: Global,
     store: &mut S,
     outputs: &mut Outputs,
     counts: &mut Vec<ChannelReceipt>,
-    ahead: u16,
-    place: usize,
-    size: u64,
-    made: &[u8],
+    at: CapturePlace,
+    made: &MadeRecord,
 ) -> Result<(), Stop>
     requires count { S.faults store.old < 2 ^ 60 }
-    requires place { place < length counts.old.items }
-    requires output { ahead + place < length outputs.old }
+    requires place { at.place < length counts.old.items }
+    requires output { at.ahead + at.place < length outputs.old }
     requires differ { Differ (open_names outputs.old) }
     requires open { (given : List (List ℕ)) × (was : Option Files) × IsOpen outputs.old given was (S.files store.old) }
     ensures names { open_names outputs.new ≡ open_names outputs.old }
     ensures cause { StopCount result (S.faults store.old) (S.faults store.new) }
     ensures stops { StoreStops (Contains (open_names outputs.old)) result }
     ensures grown { (given : List (List ℕ)) (was : Option Files) → IsOpen outputs.old given was (S.files store.old) →
-        Grown outputs.old outputs.new (more given (ahead + place) made.now) result was (S.files store.new) }
-    ensures counted { OnOk result ((d : Count) → counts.new.items ≡ set counts.old.items place (with_packet size (get_or counts.old.items place d))) }
+        Grown outputs.old outputs.new (more given (at.ahead + at.place) made.now.bytes.now) result was (S.files store.new) }
+    ensures counted { OnOk result ((d : Count) → counts.new.items ≡ set counts.old.items at.place (with_packet made.now.size (get_or counts.old.items at.place d))) }
 {
-    let now = one_more(counts[place], size)?;
-    let output = usize::from(ahead) + place;
-    outputs.put(alloc, store, output, made)?;
-    counts[place] = now;
+    let now = one_more(counts[at.place], made.size)?;
+    let output = usize::from(at.ahead) + at.place;
+    outputs.put(alloc, store, output, made.bytes)?;
+    counts[at.place] = now;
     Ok(())
 }
 
@@ -66,32 +82,26 @@ pub fn put_record<S: Store>(
     store: &mut S,
     outputs: &mut Outputs,
     counts: &mut Vec<ChannelReceipt>,
-    ahead: u16,
-    place: usize,
+    at: CapturePlace,
     packet: &[u8],
 ) -> Result<(), Stop>
     requires count { S.faults store.old < 2 ^ 60 }
     requires sized { HasSize longest_packet packet.now }
-    requires place { place < length counts.old.items }
-    requires output { ahead + place < length outputs.old }
+    requires place { at.place < length counts.old.items }
+    requires output { at.ahead + at.place < length outputs.old }
     requires differ { Differ (open_names outputs.old) }
     requires open { (given : List (List ℕ)) × (was : Option Files) × IsOpen outputs.old given was (S.files store.old) }
     ensures names { open_names outputs.new ≡ open_names outputs.old }
     ensures cause { StopCount result (S.faults store.old) (S.faults store.new) }
     ensures stops { StoreStops (Contains (open_names outputs.old)) result }
     ensures grown { (given : List (List ℕ)) (was : Option Files) → IsOpen outputs.old given was (S.files store.old) →
-        Grown outputs.old outputs.new (more given (ahead + place) (record_bytes packet.now)) result was (S.files store.new) }
-    ensures counted { OnOk result ((d : Count) → counts.new.items ≡ set counts.old.items place (with_packet (length packet.now) (get_or counts.old.items place d))) }
+        Grown outputs.old outputs.new (more given (at.ahead + at.place) (record_bytes packet.now)) result was (S.files store.new) }
+    ensures counted { OnOk result ((d : Count) → counts.new.items ≡ set counts.old.items at.place (with_packet (length packet.now) (get_or counts.old.items at.place d))) }
 {
     let record = record_of(alloc, packet)?;
-    put_made(
-        alloc,
-        store,
-        outputs,
-        counts,
-        ahead,
-        place,
-        packet.len() as u64,
-        &record,
-    )
+    let made = MadeRecord {
+        bytes: &record,
+        size: packet.len() as u64,
+    };
+    put_made(alloc, store, outputs, counts, at, &made)
 }

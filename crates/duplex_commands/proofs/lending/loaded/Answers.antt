@@ -82,3 +82,4 @@ returns c =
     (ap packet_values c.deref-2.ensures.value) (ap packet_values c.deref-3.ensures.value)
     (c.in_ok-lend_all-2.ensures.waits settings (all_added ends A (packet_values c.deref-2.result.now)) first)
     (keeps_both _ _ _ c.lend_all.ensures.inboxes c.lend_all-2.ensures.inboxes) c.in_ok-duplex.ensures.given c.in_ok-duplex.ensures.got
+    c.in_ok-lend_all.ensures.bytes c.in_ok-lend_all-2.ensures.bytes

@@ -11,5 +11,5 @@ returns-in_err-record-clause-grown g c given was is =
 
 pub returns-clause-grown : goal.returns-clause-grown
 returns-clause-grown g c given was is =
-    subst (λ made. Grown c.args.outputs.now c.put_made.new.outputs (more given (c.args.ahead + c.args.place) made) c.put_made.result was (g.S.Store.files c.put_made.new.store)) (c.deref.ensures.value ∙ c.in_ok-record.ensures)
+    subst (λ made. Grown c.args.outputs.now c.put_made.new.outputs (more given (c.args.at.ahead + c.args.at.place) made) c.put_made.result was (g.S.Store.files c.put_made.new.store)) (c.deref.ensures.value ∙ c.in_ok-record.ensures)
     (c.put_made.ensures.grown given was is)

@@ -10,7 +10,7 @@ pub returns-clause-waits : goal.returns-clause-waits
 returns-clause-waits c =
     let given = c.args.settings in
     let keeps : AreSettings (settings_of given) = record { delay_low = given.delay_low; mark_low = given.mark_low; drain_low = given.drain_low } in
-    let ends = empty_ends c.args.shape c.args.channels.now c.args.entries.now in
+    let ends = empty_ends c.args.ends.now.shape c.args.ends.now.channels.now c.args.ends.now.entries.now in
     record {
       keeps = keeps;
       mark = refl;

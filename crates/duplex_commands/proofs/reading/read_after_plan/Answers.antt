@@ -10,7 +10,7 @@ use Rattle.plan_inputs.specs.Values.{AreOn}
 use Rattle.duplex_commands.specs.Reading.{first_unlisted}
 use Rattle.duplex_commands.proofs.Backs.{back_on}
 use Rattle.duplex_commands.proofs.ReadParts.{clashes, no_a, no_b, all_had, by_rows, of_plan_a, of_most, of_back, of_room}
-use Rattle.duplex_commands.proofs.reading.read_behind_plan.Goals as goal
+use Rattle.duplex_commands.proofs.reading.read_after_plan.Goals as goal
 
 pub returns-in-Some-clause-reads : goal.returns-in-Some-clause-reads
 returns-in-Some-clause-reads g c =
