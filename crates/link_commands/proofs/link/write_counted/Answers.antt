@@ -19,9 +19,9 @@ new-requires-clause-skews g c = ap length c.as_slice.ensures.value ∙ c.require
 pub new-requires-clause-whole : goal.new-requires-clause-whole
 new-requires-clause-whole g c =
     let (inputs, is) = c.requires.carried in
-    let i = planned_value c.args.plan.now inputs c.args.schedule.now in
-    let carried = c.args.carried.now in
-    let group = group_of c.args.plan.now.link in
+    let i = planned_value c.args.run.now.plan.now inputs c.args.run.now.schedule.now in
+    let carried = c.args.run.now.carried.now in
+    let group = group_of c.args.run.now.plan.now.link in
     let same = kept_words i is.stream (map vec_bytes carried.lanes.items) carried.words c.args.words.now is.kept c.requires.words in
     subst (λ (ws : List Word). length ws % group ≡ 0) (sym same) (whole_groups is.source is.stream group is.is_stream is.is_source.shape.group)
 
@@ -32,10 +32,10 @@ returns-in_err-counter-clause-writes g c inputs is =
 
 pub returns-in_err-received-clause-writes : goal.returns-in_err-received-clause-writes
 returns-in_err-received-clause-writes g c inputs is =
-    let value = plan_value c.args.plan.now in
+    let value = plan_value c.args.run.now.plan.now in
     let r = c.from_residual-in_err-received in
     let p = err_from_is_err_and r.result r.ensures.1 in
-    rw (p.1, p.2) (stopped_link (planned_value c.args.plan.now inputs c.args.schedule.now) c.args.carried.now is (g.S.Store.files c.args.store.now) (the_setting value) (is_the_setting value) c.in_err-received.field-0.0 _
+    rw (p.1, p.2) (stopped_link (planned_value c.args.run.now.plan.now inputs c.args.run.now.schedule.now) c.args.run.now.carried.now is (g.S.Store.files c.args.store.now) (the_setting value) (is_the_setting value) c.in_err-received.field-0.0 _
     (subst (λ lanes. HeldStopped (held_beginning value (the_setting value) (map vec_bytes lanes) (g.S.Store.files c.args.store.now)) value.settings (map vec_bytes lanes) c.in_err-received.field-0.0 (g.S.Store.files c.receive_held.new.store)) c.deref.ensures.value
     (c.in_err-received.ensures.comes (the_setting value) (is_the_setting value))))
 
@@ -44,28 +44,28 @@ counts-counts-requires g c =
     let made = c.in_ok-counter.ensures in
     let lanes = map vec_bytes c.deref.result.now in
     let all = c.in_ok-received.ensures.observes made.counts (made.counted lanes) in
-    (all.0, c.args.plan.now.link, lanes, all.1)
+    (all.0, c.args.run.now.plan.now.link, lanes, all.1)
 
 pub write_received-requires-clause-received : goal.write_received-requires-clause-received
 write_received-requires-clause-received g c =
-    let value = plan_value c.args.plan.now in
+    let value = plan_value c.args.run.now.plan.now in
     let was = g.S.Store.files c.args.store.now in
     let (inputs, is) = c.requires.carried in (
       inputs,
       was,
-      record { carried = is; came = λ setting is_setting. came_of c.deref.result.now c.args.carried.now.lanes.items c.deref.ensures.value value setting was c.in_ok-received.received.receipt c.in_ok-received.received.lines.items _ (c.in_ok-received.ensures.comes setting is_setting) },
+      record { carried = is; came = λ setting is_setting. came_of c.deref.result.now c.args.run.now.carried.now.lanes.items c.deref.ensures.value value setting was c.in_ok-received.received.receipt c.in_ok-received.received.lines.items _ (c.in_ok-received.ensures.comes setting is_setting) },
     )
 
 pub returns-clause-writes : goal.returns-clause-writes
 returns-clause-writes g c inputs is =
-    let value = plan_value c.args.plan.now in
+    let value = plan_value c.args.run.now.plan.now in
     let was = g.S.Store.files c.args.store.now in
-    let i = planned_value c.args.plan.now inputs c.args.schedule.now in
-    let carried = c.args.carried.now in
+    let i = planned_value c.args.run.now.plan.now inputs c.args.run.now.schedule.now in
+    let carried = c.args.run.now.carried.now in
     c.write_received.ensures.writes inputs was
     (record { carried = is; came = λ setting is_setting. came_of c.deref.result.now carried.lanes.items c.deref.ensures.value value setting was c.in_ok-received.received.receipt c.in_ok-received.received.lines.items _ (c.in_ok-received.ensures.comes setting is_setting) })
     (let made = c.in_ok-counter.ensures in
     let lanes = map vec_bytes c.deref.result.now in
     let all = c.in_ok-received.ensures.observes made.counts (made.counted lanes) in
     counted_here i carried _ c.deref.result.now c.as_slice.result.now c.args.words.now (counts_value c.counts-counts.result) c.deref.ensures.value c.requires.words (c.receive_held.ensures.fixed ∙ made.given) c.as_slice.ensures.value
-    (c.counts-counts.ensures all.0 c.args.plan.now.link lanes all.1))
+    (c.counts-counts.ensures all.0 c.args.run.now.plan.now.link lanes all.1))
