@@ -33,7 +33,7 @@ use Rattle.lane_commands.specs.Stripe.{IsReadFor, IsStriped, PlanWords, plan_wor
 use Rattle.tx_end.specs.Lanes.{AreLaneFiles}
 use Rattle.lane_commands.specs.Values.{AreStriped, words_value}
 use Rattle.lane_commands.specs.declared.striped.StripedLanes.{StripedLanes}
-use Rattle.lane_commands.specs.declared.plan_words.PlanWords as code
+use Rattle.lane_commands.specs.declared.plan_words.StripeInputs as code
 use Rattle.lane_commands.proofs.Filling.{stripe_once, stripe_some}
 
 -- ---- the work
@@ -100,7 +100,7 @@ writes_striped i lanes names contents f r x y are named is held text h =
 module _ (file : List ℕ) where
   -- the plan was refused, or reading it stopped
   pub no_plan : (s : Stop) (x : Option Files) → IfSome x (λ files. Reads plan_value (λ n. n ≡ file) (Err s) (plan_in files file)) → IfSome x (λ files. Reads words_value (IsReadFor file files) (Err s) (plan_words_in files file))
-  no_plan s x h = first_stops PlanValue PlanWords Plan code.PlanWords (λ files. plan_in files file) with_words plan_value words_value (λ files n. n ≡ file) (IsReadFor file) s x (λ u q n. inl n) h
+  no_plan s x h = first_stops PlanValue PlanWords Plan code.StripeInputs (λ files. plan_in files file) with_words plan_value words_value (λ files n. n ≡ file) (IsReadFor file) s x (λ u q n. inl n) h
 
   named_for : (plan : Plan) (name : List ℕ) (u : Files) (q : List ℕ) → name ≡ words_name (plan_value plan).out → plan_in u file ≡ Ok (plan_value plan) → q ≡ name → IsReadFor file u q
   named_for plan name u q named is e = inr (subst (λ r. MatchResult r (λ p. q ≡ words_name p.out) (λ f. ⊥)) (sym is) (e ∙ named))
@@ -118,7 +118,7 @@ module _ (file : List ℕ) where
       -- the words were refused, or reading them stopped
       pub no_words : (s : Stop) → IfSome y (λ files. Reads (λ (ws : List Word). ws) (λ n. n ≡ name) (Err s) (sent_words_in files name)) → IfSome x (λ files. Reads words_value (IsReadFor file files) (Err s) (plan_words_in files file))
       no_words s h =
-          second_reads PlanValue PlanWords Plan code.PlanWords (λ files. plan_in files file) with_words words_value (IsReadFor file) (IsReadFor file) (plan_value plan) (Err s) x y same (λ u q is n. n) had
+          second_reads PlanValue PlanWords Plan code.StripeInputs (λ files. plan_in files file) with_words words_value (IsReadFor file) (IsReadFor file) (plan_value plan) (Err s) x y same (λ u q is n. n) had
           (subst (λ z. IfSome z (λ files. Reads words_value (IsReadFor file files) (Err s) (with_words files (plan_value plan)))) (sym same)
           (by x had (subst (λ z. IfSome z (λ files. Reads (λ (ws : List Word). ws) (λ n. n ≡ name) (Err s) (sent_words_in files name))) same h)))
         where
@@ -126,7 +126,7 @@ module _ (file : List ℕ) where
           by None is k = tt
           by (Some u) is k =
               subst (λ m. Reads words_value (IsReadFor file u) (Err s) (behind (sent_words_in u m) (λ words. Ok (record { plan = plan_value plan; words = words })))) named
-              (behind_stops (List Word) PlanWords (List Word) code.PlanWords (sent_words_in u name) (λ words. Ok (record { plan = plan_value plan; words = words })) (λ (ws : List Word). ws) words_value (λ n. n ≡ name) (IsReadFor file u) s (λ q n. named_for plan name u q named is n) k)
+              (behind_stops (List Word) PlanWords (List Word) code.StripeInputs (sent_words_in u name) (λ words. Ok (record { plan = plan_value plan; words = words })) (λ (ws : List Word). ws) words_value (λ n. n ≡ name) (IsReadFor file u) s (λ q n. named_for plan name u q named is n) k)
 
       -- both were read
       pub both_read : (words : List Word) → IfSome y (λ files. sent_words_in files name ≡ Ok words) → IfSome x (λ files. plan_words_in files file ≡ Ok (record { plan = plan_value plan; words = words }))

@@ -4,11 +4,11 @@ use Rattle.lk_base.specs.declared.word.Word.{Word}
 use Rattle.link_plan.specs.Views.{plan_value}
 use Rattle.run_stops.specs.Reading.{vec_items}
 use Rattle.tx_end.specs.Lanes.{AreLaneFiles}
-use Rattle.lane_commands.specs.declared.plan_words.PlanWords as code
+use Rattle.lane_commands.specs.declared.plan_words.StripeInputs as code
 use Rattle.lane_commands.specs.declared.striped.StripedLanes.{StripedLanes}
 use Rattle.lane_commands.specs.Stripe.{PlanWords, Stripes}
 
-abbrev pub words_value : code.PlanWords → PlanWords
+abbrev pub words_value : code.StripeInputs → PlanWords
 words_value read = record { plan = plan_value read.plan; words = read.words }
 
 -- the lanes of the stream of these words, and its length

@@ -16,7 +16,7 @@ use word_list::WordList;
 
 /// A plan and the words of its words file.
 #[derive(Drop)]
-pub struct PlanWords {
+pub struct StripeInputs {
     /// The plan.
     pub plan: Plan,
     /// The words, in order.
@@ -29,7 +29,7 @@ pub fn read_plan_words<S: Store>(
     alloc: Global,
     store: &mut S,
     file: &str,
-) -> Result<PlanWords, Stop>
+) -> Result<StripeInputs, Stop>
     requires { S.faults store.old < 2 ^ 60 }
     ensures cause { StopCount result (S.faults store.old) (S.faults store.new) }
     ensures unchanged { S.files store.new ≡ S.files store.old }
@@ -38,5 +38,5 @@ pub fn read_plan_words<S: Store>(
     let plan = read_plan_file(alloc, store, file)?;
     let name = words_name(alloc, plan.out.as_str())?;
     let words = read_sent_words(alloc, store, name.as_str())?;
-    Ok(PlanWords { plan, words })
+    Ok(StripeInputs { plan, words })
 }

@@ -9,7 +9,7 @@ ghost use Rattle.run_shell.specs.Writing.{Writes};
 ghost use Rattle.lane_commands.specs.Stripe.{IsStriped};
 ghost use Rattle.lane_commands.specs.Values.{AreStriped, words_value};
 
-use crate::plan_words::{PlanWords, read_plan_words};
+use crate::plan_words::{StripeInputs, read_plan_words};
 use crate::striped::{StripedLanes, stripe_words};
 use link_plan::Plan;
 use link_reports::slots_line;
@@ -51,7 +51,7 @@ fn deliver_lanes<S: Store>(
 fn write_stripes<S: Store>(
     alloc: Global,
     store: &mut S,
-    read: &mut PlanWords,
+    read: &mut StripeInputs,
 ) -> Result<Finished, Stop>
     requires count { S.faults store.old < 2 ^ 60 }
     ensures cause { StopCount result (S.faults store.old) (S.faults store.new) }

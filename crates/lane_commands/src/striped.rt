@@ -3,7 +3,7 @@ ghost use Rattle.std.specs.Prelude.{◌≡◌, ◌<◌, ◌+◌, ◌%◌, ◌++�
 ghost use Rattle.lane_commands.specs.Stripe.{Stripes, filler};
 ghost use Rattle.lane_commands.specs.Values.{AreStriped, words_value};
 
-use crate::plan_words::PlanWords;
+use crate::plan_words::StripeInputs;
 use lk_base::{Link, OutOfMemory, Word};
 use std::alloc::Global;
 use tx_end::lanes_of;
@@ -50,7 +50,7 @@ fn fill_group(link: &Link, words: &mut WordList) -> Result<(), OutOfMemory>
 }
 
 /// The lanes that carry the words of a plan, whose last group is filled.
-pub fn stripe_words(alloc: Global, read: &mut PlanWords) -> Result<StripedLanes, OutOfMemory>
+pub fn stripe_words(alloc: Global, read: &mut StripeInputs) -> Result<StripedLanes, OutOfMemory>
     ensures striped { IfOk result (AreStriped (words_value read.old)) }
     ensures plan { read.new.plan ≡ read.old.plan }
 {

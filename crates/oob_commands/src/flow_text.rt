@@ -29,6 +29,11 @@ fn slot_text(alloc: Global, slot: u64) -> Result<String, AllocError>
     format!(in alloc; "{slot}")
 }
 
+// Why a writer into memory fails: memory ran out.
+fn no_memory<E: Drop>(_: E) -> OutOfMemory {
+    OutOfMemory
+}
+
 // Writes a row of these fields.
 fn write_fields(writer: &mut Writer<Vec<u8>>, fields: &[&[u8]]) -> Result<(), OutOfMemory>
     requires { IsBetweenRows writer.old }
@@ -36,10 +41,7 @@ fn write_fields(writer: &mut Writer<Vec<u8>>, fields: &[&[u8]]) -> Result<(), Ou
     ensures text { OnOk result (Appends (text_written (λ v. Some v.items) writer.old) (text_written (λ v. Some v.items) writer.new)
         (row_text rows_writer (map (λ f. f.now) fields.now))) }
 {
-    match writer.write_fields(fields) {
-        Ok(()) => Ok(()),
-        Err(_) => Err(OutOfMemory),
-    }
+    writer.write_fields(fields).map_err(no_memory)
 }
 
 // Writes the row of a word.
@@ -70,8 +72,5 @@ pub fn rows_text(alloc: Global, slot: u64, words: &[u64]) -> Result<Vec<u8>, Out
     for word in words {
         write_word(alloc, &mut writer, slot, *word)?;
     }
-    match writer.into_inner() {
-        Ok(text) => Ok(text),
-        Err(_) => Err(OutOfMemory),
-    }
+    writer.into_inner().map_err(no_memory)
 }

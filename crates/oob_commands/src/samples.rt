@@ -68,6 +68,7 @@ pub fn fill_samples<S: Store>(
 {
     let mut frames = FrameWriter::new(alloc, entries)?;
     let mut samples = Vec::new(alloc);
+    // proof: the label names the loop in its invariant
     'giving: loop {
         if put_frame(alloc, store, outputs, &mut frames, local, &mut samples)? {
             break;

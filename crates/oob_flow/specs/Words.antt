@@ -18,7 +18,7 @@ flow_bits states = spelled (take 16 (states ++ replicate 16 true))
 abbrev pub bare_idle : Bool → ℕ → ℕ
 bare_idle reset flow = 2 ^ 63 + digit reset * 2 ^ 56 + flow * 2 ^ 40
 
--- the same with the checksum of the word alone
+-- the idle word with these flow bits and its checksum, that of the word alone
 unfoldable pub idle_word : Bool → ℕ → ℕ
 idle_word reset flow = bare_idle reset flow + control_crc [] (bare_idle reset flow)
 

@@ -1,5 +1,5 @@
 //! A plan that names events, the inputs that it names, and its events, read in their order.
-ghost use Rattle.std.specs.Prelude.{◌≡◌, ◌<◌, ◌≤◌, ◌^◌, Some, [], false, IfOk, IfSome};
+ghost use Rattle.std.specs.Prelude.{◌≡◌, ◌<◌, ◌≤◌, ◌^◌, Some, [], true, false, IfOk, IfSome};
 ghost use Rattle.link_plan.specs.Listing.{numbers_of};
 ghost use Rattle.link_plan.specs.Views.{plan_value};
 ghost use Rattle.plan_inputs.specs.Inputs.{rows_in};
@@ -27,6 +27,18 @@ pub struct ResendInputs {
     pub rows: Vec<(Event, u32)>,
 }
 
+// The number of the row that says that a plan is wide, which each wide plan has.
+fn wide_row(plan: &Plan) -> u32
+    requires { plan.now.wide ≡ true }
+    ensures { plan.now.wide_row ≡ Some result }
+{
+    match plan.wide_row {
+        Some(row) => row,
+        // A plan is wide only where a row says so.
+        None => unreachable!(),
+    }
+}
+
 // Why a plan is none for this command, if it is none: it names no events, or it is wide.
 fn refusal(plan: &Plan) -> Option<PlanError>
     ensures { result ≡ refusal_of (plan_value plan.now) }
@@ -35,7 +47,7 @@ fn refusal(plan: &Plan) -> Option<PlanError>
         return Some(PlanError::Missing(Key::Events));
     }
     if plan.wide {
-        return Some(PlanError::Clash(plan.wide_row.unwrap_or(0)));
+        return Some(PlanError::Clash(wide_row(plan)));
     }
     None
 }
