@@ -32,8 +32,8 @@ abbrev pub ReadsStatus : List (List ℕ) → Files → Status → Option Files �
 ReadsStatus words files status old new = (name : List ℕ) (i : SamplesReading) →
     request_of words ≡ Some (OobRead name) → samples_reading_in files name ≡ Ok i → IsAnswer status → Answers (IsAcceptedFlow i) words files status old new
 
--- Where the files hold bytes, the capture of each listed channel at each end has exactly the packets of the other end whose end word
--- arrived, in order; and, whatever they hold, no queue of a channel that has a calendar entry was ever above the bound.
+-- The capture of each listed channel at each end has exactly the packets of the other end whose end word arrived, in order; and no
+-- queue of a channel that has a calendar entry was ever above the bound.
 abbrev pub HoldsBack : List (List ℕ) → Files → Status → Option Files → Option Files → Type 0
 HoldsBack words files status old new = (name : List ℕ) (i : DuplexReading) →
     request_of words ≡ Some (Duplex name) → duplex_in files name ≡ Ok i → IsAnswer status → Answers (IsHeldBack files i) words files status old new
