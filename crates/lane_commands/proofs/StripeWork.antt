@@ -29,7 +29,7 @@ use Rattle.stream_commands.specs.Outputs.{AreLaneOutputs}
 use Rattle.stream_commands.proofs.LaneContents.{one_list, some_list}
 use Rattle.stream_commands.proofs.OneOutcome.{same_parts}
 use Rattle.lane_commands.specs.SentWords.{sent_words_in}
-use Rattle.lane_commands.specs.Stripe.{IsReadFor, IsStriped, PlanWords, plan_words_in, stripe_meaning, stripe_work, with_words}
+use Rattle.lane_commands.specs.Stripe.{IsReadFor, IsStriped, StripeInputs, plan_words_in, stripe_meaning, stripe_work, with_words}
 use Rattle.tx_end.specs.Lanes.{AreLaneFiles}
 use Rattle.lane_commands.specs.Values.{AreStriped, words_value}
 use Rattle.lane_commands.specs.declared.striped.StripedLanes.{StripedLanes}
@@ -45,20 +45,20 @@ group_some s link = by s.lanes (s.metaframe - s.skips - 3) link.lanes.0 (omega (
     by a b la lb = omega (arith, mul-le-mul la lb)
 
 -- the plan was accepted
-plan_had : (files : Files) (name : List ℕ) (i : PlanWords) → plan_words_in files name ≡ Ok i → plan_in files name ≡ Ok i.plan
+plan_had : (files : Files) (name : List ℕ) (i : StripeInputs) → plan_words_in files name ≡ Ok i → plan_in files name ≡ Ok i.plan
 plan_had files name i e = let (plan, is, more) = behind_ok (plan_in files name) (with_words files) i e in is ∙ ap Ok (same plan more)
   where
     same : (plan : PlanValue) → with_words files plan ≡ Ok i → plan ≡ i.plan
     same plan more = let (words, had, k) = behind_ok (sent_words_in files (words_name plan.out)) (λ ws. Ok (record { plan = plan; words = ws })) i more in cc
 
-one_made : (i : PlanWords) (o p : Outcome) → IsStriped i o → IsStriped i p → o ≡ p
+one_made : (i : StripeInputs) (o p : Outcome) → IsStriped i o → IsStriped i p → o ≡ p
 one_made i o p h k =
     let e : k.stream ≡ h.stream = stripe_once i.plan.settings i.words k.stream h.stream k.stripes h.stripes in
     same_parts o p (h.status ∙ sym k.status)
     (one_list i.plan.settings i.plan.out h.stream o.files p.files h.files (subst (λ (w : List Word). AreLaneOutputs i.plan.settings i.plan.out w p.files) e k.files))
     (h.text ∙ ap (λ (w : List Word). slots_line (length w)) (sym e) ∙ sym k.text)
 
-some_made : (i : PlanWords) → 0 < group_of i.plan.settings → (o : Outcome) × IsStriped i o
+some_made : (i : StripeInputs) → 0 < group_of i.plan.settings → (o : Outcome) × IsStriped i o
 some_made i some =
     let (stream, stripes) = stripe_some i.plan.settings i.words some in
     let (files, are) = some_list i.plan.settings i.plan.out stream in
@@ -82,7 +82,7 @@ as_many names contents prefix out n lanes named e count =
     count ∙ sym e ∙ sym (length-map-range_with_len (lane_name prefix) 0 n) ∙ ap length (sym named)
 
 -- the files of the lanes of these words are written
-pub writes_striped : (i : PlanWords) (lanes : StripedLanes) (names contents : List (List ℕ)) (f : Finished) (r : Result Finished Stop) (x y : Option Files) → AreStriped i lanes
+pub writes_striped : (i : StripeInputs) (lanes : StripedLanes) (names contents : List (List ℕ)) (f : Finished) (r : Result Finished Stop) (x y : Option Files) → AreStriped i lanes
     → names ≡ lane_names i.plan.out i.plan.settings.lanes → contents ≡ map vec_items lanes.files.items → f.held ≡ false → f.text.items ≡ slots_line lanes.slots
     → Writes (λ o. o ≡ delivered names contents f) names r x y → Writes (IsStriped i) (lane_names i.plan.out i.plan.settings.lanes) r x y
 writes_striped i lanes names contents f r x y are named is held text h =
@@ -100,7 +100,7 @@ writes_striped i lanes names contents f r x y are named is held text h =
 module _ (file : List ℕ) where
   -- the plan was refused, or reading it stopped
   pub no_plan : (s : Stop) (x : Option Files) → IfSome x (λ files. Reads plan_value (λ n. n ≡ file) (Err s) (plan_in files file)) → IfSome x (λ files. Reads words_value (IsReadFor file files) (Err s) (plan_words_in files file))
-  no_plan s x h = first_stops PlanValue PlanWords Plan code.StripeInputs (λ files. plan_in files file) with_words plan_value words_value (λ files n. n ≡ file) (IsReadFor file) s x (λ u q n. inl n) h
+  no_plan s x h = first_stops PlanValue StripeInputs Plan code.StripeInputs (λ files. plan_in files file) with_words plan_value words_value (λ files n. n ≡ file) (IsReadFor file) s x (λ u q n. inl n) h
 
   named_for : (plan : Plan) (name : List ℕ) (u : Files) (q : List ℕ) → name ≡ words_name (plan_value plan).out → plan_in u file ≡ Ok (plan_value plan) → q ≡ name → IsReadFor file u q
   named_for plan name u q named is e = inr (subst (λ r. MatchResult r (λ p. q ≡ words_name p.out) (λ f. ⊥)) (sym is) (e ∙ named))
@@ -118,7 +118,7 @@ module _ (file : List ℕ) where
       -- the words were refused, or reading them stopped
       pub no_words : (s : Stop) → IfSome y (λ files. Reads (λ (ws : List Word). ws) (λ n. n ≡ name) (Err s) (sent_words_in files name)) → IfSome x (λ files. Reads words_value (IsReadFor file files) (Err s) (plan_words_in files file))
       no_words s h =
-          second_reads PlanValue PlanWords Plan code.StripeInputs (λ files. plan_in files file) with_words words_value (IsReadFor file) (IsReadFor file) (plan_value plan) (Err s) x y same (λ u q is n. n) had
+          second_reads PlanValue StripeInputs Plan code.StripeInputs (λ files. plan_in files file) with_words words_value (IsReadFor file) (IsReadFor file) (plan_value plan) (Err s) x y same (λ u q is n. n) had
           (subst (λ z. IfSome z (λ files. Reads words_value (IsReadFor file files) (Err s) (with_words files (plan_value plan)))) (sym same)
           (by x had (subst (λ z. IfSome z (λ files. Reads (λ (ws : List Word). ws) (λ n. n ≡ name) (Err s) (sent_words_in files name))) same h)))
         where
@@ -126,7 +126,7 @@ module _ (file : List ℕ) where
           by None is k = tt
           by (Some u) is k =
               subst (λ m. Reads words_value (IsReadFor file u) (Err s) (behind (sent_words_in u m) (λ words. Ok (record { plan = plan_value plan; words = words })))) named
-              (behind_stops (List Word) PlanWords (List Word) code.StripeInputs (sent_words_in u name) (λ words. Ok (record { plan = plan_value plan; words = words })) (λ (ws : List Word). ws) words_value (λ n. n ≡ name) (IsReadFor file u) s (λ q n. named_for plan name u q named is n) k)
+              (behind_stops (List Word) StripeInputs (List Word) code.StripeInputs (sent_words_in u name) (λ words. Ok (record { plan = plan_value plan; words = words })) (λ (ws : List Word). ws) words_value (λ n. n ≡ name) (IsReadFor file u) s (λ q n. named_for plan name u q named is n) k)
 
       -- both were read
       pub both_read : (words : List Word) → IfSome y (λ files. sent_words_in files name ≡ Ok words) → IfSome x (λ files. plan_words_in files file ≡ Ok (record { plan = plan_value plan; words = words }))

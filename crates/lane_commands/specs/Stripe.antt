@@ -19,15 +19,15 @@ use Rattle.lane_commands.specs.SentWords.{sent_words_in}
 -- ---- what is read
 
 -- a plan and the words of its words file
-pub record PlanWords : Type 0 where
+pub record StripeInputs : Type 0 where
   pub plan : PlanValue
   pub words : List Word
 
-abbrev pub with_words : Files → PlanValue → Result PlanWords Refusal
+abbrev pub with_words : Files → PlanValue → Result StripeInputs Refusal
 with_words files plan = behind (sent_words_in files (words_name plan.out)) (λ words. Ok (record { plan = plan; words = words }))
 
 -- the plan in the file of this name, and after it the words of its words file
-abbrev pub plan_words_in : Files → List ℕ → Result PlanWords Refusal
+abbrev pub plan_words_in : Files → List ℕ → Result StripeInputs Refusal
 plan_words_in files name = behind (plan_in files name) (with_words files)
 
 -- the plan's own file, and where it is accepted its words file
@@ -49,7 +49,7 @@ pub record Stripes (s : Settings) (words stream : List Word) : Type 0 where
   pub whole : length stream % group_of s ≡ 0
 
 -- the lanes of that stream, lane 0 first, and its length
-pub record IsStriped (i : PlanWords) (o : Outcome) : Type 0 where
+pub record IsStriped (i : StripeInputs) (o : Outcome) : Type 0 where
   pub stream : List Word
   pub stripes : Stripes i.plan.settings i.words stream
   pub status : o.status ≡ Done
@@ -59,7 +59,7 @@ pub record IsStriped (i : PlanWords) (o : Outcome) : Type 0 where
 -- The words of the plan's words file become the files of its lanes, under names that begin with its `out`. No stream is held.
 abbrev pub stripe_work : List ℕ → Work
 stripe_work name = record {
-  Inputs = PlanWords;
+  Inputs = StripeInputs;
   inputs_in = λ files. plan_words_in files name;
   IsMade = IsStriped;
   IsHeld = λ i. ⊥;

@@ -14,7 +14,7 @@ use Rattle.run_shell.specs.Outcome.{Outcome, content_of}
 use Rattle.run_shell.specs.Outputs.{outs, blank}
 use Rattle.stream_commands.specs.Plan.{burst_plan_work, send_plan_work}
 use Rattle.lane_commands.specs.SentWords.{given_from, sent_words_of_file}
-use Rattle.lane_commands.specs.Stripe.{PlanWords, Stripes, IsStriped, filler, stripe_meaning}
+use Rattle.lane_commands.specs.Stripe.{StripeInputs, Stripes, IsStriped, filler, stripe_meaning}
 
 -- what `join` reads of a words file is what is given with the tags 1, 2 and 3
 abbrev pub JoinReadsThreeTags : Type 0
@@ -34,7 +34,7 @@ WordsStripeOnce = (s : Settings) (words a b : List Word) → Stripes s words a �
 
 -- without a word each lane file is empty
 abbrev pub NoWordsNoBytes : Type 0
-NoWordsNoBytes = (i : PlanWords) (o : Outcome) → i.words ≡ [] → IsStriped i o →
+NoWordsNoBytes = (i : StripeInputs) (o : Outcome) → i.words ≡ [] → IsStriped i o →
     o.files ≡ outs (lane_names i.plan.out i.plan.settings.lanes) (blank (lane_names i.plan.out i.plan.settings.lanes))
 
 -- ---- worked examples

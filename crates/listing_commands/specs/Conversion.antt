@@ -10,7 +10,7 @@ use Rattle.run_shell.specs.Outcome.{Outcome}
 use Rattle.run_shell.specs.Meaning.{Meaning}
 use Rattle.run_stops.specs.Reading.{of_input, bytes_in, IsOfInput}
 use Rattle.run_shell.specs.Work.{refused_outcome, IsOfInputs}
-use Rattle.listing_commands.specs.declared.conversion.Made.{Made}
+use Rattle.listing_commands.specs.declared.conversion.MadeFile.{MadeFile}
 
 pub record Conversion : Type 1 where
   -- the file that is read, and the most bytes that it may have
@@ -65,6 +65,6 @@ pub record IsConversion (c : Conversion) : Type 0 where
   pub either : (bytes : List ℕ) → All (λ byte. byte < 2 ^ 8) bytes → IsAccepted c bytes ⊎ IsRefused c bytes
 
 -- what was made of the bytes of a file of this name, or they are refused, or memory ran out
-abbrev pub Gives : List ℕ → (List ℕ → ℕ → Type 0) → (InputError → Type 0) → Result Made Stop → Type 0
+abbrev pub Gives : List ℕ → (List ℕ → ℕ → Type 0) → (InputError → Type 0) → Result MadeFile Stop → Type 0
 Gives name Makes Refuses (Ok made) = Makes made.content.items made.count
 Gives name Makes Refuses (Err s) = ((why : InputError) × Refuses why × IsOfInput name why s) ⊎ (s ≡ stop.OutOfMemory)

@@ -4,7 +4,7 @@ ghost use Rattle.run_stops.specs.Stops.{StopCount};
 ghost use Rattle.listing_commands.specs.Conversion.{Gives};
 ghost use Rattle.listing_commands.specs.Assembling.{IsFileOfText, RefusesText};
 
-use crate::conversion::{Made, write_made};
+use crate::conversion::{MadeFile, write_made};
 use crate::limits::TEXT_LIMIT;
 use lk_outside::Store;
 use run_shell::{FileCommand, Finished};
@@ -13,7 +13,7 @@ use std::alloc::Global;
 use word_text::assemble;
 
 // The bytes of which a text is the listing.
-fn assemble_bytes(alloc: Global, file: &str, text: &[u8]) -> Result<Made, Stop>
+fn assemble_bytes(alloc: Global, file: &str, text: &[u8]) -> Result<MadeFile, Stop>
     ensures answers { Gives file.now (IsFileOfText text.now) (RefusesText text.now) result }
     ensures calm { (count : ℕ) → StopCount result count count }
 {
@@ -21,7 +21,7 @@ fn assemble_bytes(alloc: Global, file: &str, text: &[u8]) -> Result<Made, Stop>
     match assemble(alloc, text, &mut content)? {
         Ok(()) => {
             let count = content.len() as u64;
-            Ok(Made { content, count })
+            Ok(MadeFile { content, count })
         }
         Err(refusal) => Err(input_stop(alloc, file, InputError::Text(refusal))),
     }

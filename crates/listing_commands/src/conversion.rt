@@ -14,7 +14,7 @@ use std::alloc::{AllocError, Global};
 
 /// What was made of the bytes of a file.
 #[derive(Drop)]
-pub struct Made {
+pub struct MadeFile {
     /// The bytes of the file that is created.
     pub content: Vec<u8>,
     /// How many of what is counted it has.
@@ -45,7 +45,7 @@ pub fn write_made<S: Store>(
     file: &str,
     ending: &str,
     counted: &str,
-    made: Made,
+    made: MadeFile,
 ) -> Result<Finished, Stop>
     requires { S.faults store.old < 2 ^ 60 }
     ensures cause { StopCount result (S.faults store.old) (S.faults store.new) }

@@ -8,6 +8,6 @@ mod limits;
 mod list_file;
 
 pub use assemble_text::AssembleText;
-pub use conversion::Made;
+pub use conversion::MadeFile;
 pub use limits::{LISTED_LIMIT, TEXT_LIMIT};
 pub use list_file::ListFile;

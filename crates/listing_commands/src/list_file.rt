@@ -4,7 +4,7 @@ ghost use Rattle.run_stops.specs.Stops.{StopCount};
 ghost use Rattle.listing_commands.specs.Conversion.{Gives};
 ghost use Rattle.listing_commands.specs.Listing.{is_words_name, IsTextOfWords, IsTextOfLane, RefusesWords, IsTextOf, RefusesListed};
 
-use crate::conversion::{Made, write_made};
+use crate::conversion::{MadeFile, write_made};
 use crate::limits::LISTED_LIMIT;
 use lk_outside::Store;
 use run_shell::{FileCommand, Finished};
@@ -20,29 +20,29 @@ fn is_words_name(name: &str) -> bool
 }
 
 // The listing of a words file.
-fn list_words_file(alloc: Global, file: &str, bytes: &[u8]) -> Result<Made, Stop>
+fn list_words_file(alloc: Global, file: &str, bytes: &[u8]) -> Result<MadeFile, Stop>
     ensures answers { Gives file.now (IsTextOfWords bytes.now) (RefusesWords bytes.now) result }
     ensures calm { (count : ℕ) → StopCount result count count }
 {
     let mut content = Vec::new(alloc);
     match list_words(alloc, bytes, &mut content)? {
-        Ok(count) => Ok(Made { content, count }),
+        Ok(count) => Ok(MadeFile { content, count }),
         Err(refusal) => Err(input_stop(alloc, file, InputError::Words(refusal))),
     }
 }
 
 // The listing of a lane file.
-fn list_lane_file(alloc: Global, file: &str, bytes: &[u8]) -> Result<Made, Stop>
+fn list_lane_file(alloc: Global, file: &str, bytes: &[u8]) -> Result<MadeFile, Stop>
     ensures answers { Gives file.now (IsTextOfLane bytes.now) (λ _. ⊥) result }
     ensures calm { (count : ℕ) → StopCount result count count }
 {
     let mut content = Vec::new(alloc);
     let count = list_lane(alloc, bytes, &mut content)?;
-    Ok(Made { content, count })
+    Ok(MadeFile { content, count })
 }
 
 // The listing of a file, by its name.
-fn list_bytes(alloc: Global, file: &str, bytes: &[u8]) -> Result<Made, Stop>
+fn list_bytes(alloc: Global, file: &str, bytes: &[u8]) -> Result<MadeFile, Stop>
     ensures answers { Gives file.now (IsTextOf (is_words_name file.now) bytes.now) (RefusesListed (is_words_name file.now) bytes.now) result }
     ensures calm { (count : ℕ) → StopCount result count count }
 {

@@ -15,7 +15,7 @@ mod stream_words;
 mod word_maker;
 
 pub use counts::{SentCount, count_listed, count_sent};
-pub use packet::{Made, Packet};
+pub use packet::{MadeStream, Packet};
 pub use sent::Sent;
 pub use sent_list::SentList;
 pub use source::StreamSource;

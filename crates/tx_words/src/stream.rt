@@ -3,7 +3,7 @@ ghost use Rattle.stream_model.specs.BurstStream.{IsBurstStream, IsHeld};
 ghost use Rattle.stream_model.specs.Cutting.{HoldTheLeast};
 ghost use Rattle.tx_words.specs.Sources.{IsHeldOn};
 
-use crate::packet::Made;
+use crate::packet::MadeStream;
 use crate::source::StreamSource;
 use crate::word_maker::WordMaker;
 use lk_base::{OutOfMemory, Word};
@@ -26,7 +26,7 @@ fn push_block(words: &mut WordList, block: &[Word]) -> Result<(), OutOfMemory>
 /// # Errors
 ///
 /// `OutOfMemory` where memory ran out, and nowhere else.
-pub fn words_of(alloc: Global, source: &StreamSource) -> Result<Made, OutOfMemory>
+pub fn words_of(alloc: Global, source: &StreamSource) -> Result<MadeStream, OutOfMemory>
     ensures stream { IfOk result (λ made. IsBurstStream source.now made.words) }
     ensures least { IfOk result (λ made. HoldTheLeast source.now made.words) }
     ensures held { IfOk result (λ made. (channel : ℕ) → (made.held ≡ Some channel) ↔ IsHeldOn source.now made.words channel) }
@@ -40,5 +40,5 @@ pub fn words_of(alloc: Global, source: &StreamSource) -> Result<Made, OutOfMemor
         push_block(&mut words, &block[..count])?;
     }
     let held = maker.held();
-    Ok(Made { words, held })
+    Ok(MadeStream { words, held })
 }

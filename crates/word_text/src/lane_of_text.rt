@@ -7,7 +7,7 @@ ghost use Rattle.word_text.specs.Bytes.{IsKept, PutsBytes, TakesBytes, CodesPut}
 use crate::code_of_line::code_of;
 use crate::cut::first_line;
 use crate::digits::put_byte;
-use crate::piece::Piece;
+use crate::piece::CodePiece;
 use crate::rest::rest_of;
 use coding_67b::BitWriter;
 use lane_model::CODE_BITS;
@@ -80,7 +80,7 @@ fn put_codes<'a>(
 fn put_last(
     writer: &mut BitWriter,
     waiting: u32,
-    rest: &Piece,
+    rest: &CodePiece,
     bytes: &mut Vec<u8>,
 ) -> Result<(), OutOfMemory>
     requires waiting { waiting ≡ length writer.old }

@@ -6,13 +6,13 @@ use lane_model::CODE_BITS;
 
 // This many bits as a number, the first of them highest.
 #[derive(Clone, Copy)]
-pub struct Piece {
+pub struct CodePiece {
     pub count: u32,
     pub bits: u128,
 }
 
 // Takes the bits of the next code of a lane, or as many as are left.
-pub fn next_piece(reader: &mut BitReader) -> Piece
+pub fn next_piece(reader: &mut BitReader) -> CodePiece
     ensures count { result.count ≤ 67 }
     ensures below { result.bits < 2 ^ result.count }
     ensures bits { reader.old ≡ bits_of result.count result.bits ++ reader.new }
@@ -22,10 +22,10 @@ pub fn next_piece(reader: &mut BitReader) -> Piece
     for count in 0..CODE_BITS {
         match reader.bit() {
             Some(bit) => bits = bits << 1 | bit as u128,
-            None => return Piece { count, bits },
+            None => return CodePiece { count, bits },
         }
     }
-    Piece {
+    CodePiece {
         count: CODE_BITS,
         bits,
     }

@@ -4,11 +4,11 @@ ghost use Rattle.word_text.specs.CodeLines.{rest_line};
 ghost use Rattle.word_text.specs.Refusals.{IsRestLine};
 
 use crate::digits::{bit_text, put};
-use crate::piece::Piece;
+use crate::piece::CodePiece;
 use lk_base::OutOfMemory;
 
 // Makes the line that of the last bits of a lane, in place of what stood in it.
-pub fn rest_line(line: &mut Vec<u8>, rest: &Piece) -> Result<(), OutOfMemory>
+pub fn rest_line(line: &mut Vec<u8>, rest: &CodePiece) -> Result<(), OutOfMemory>
     requires { rest.now.count < 67 }
     ensures { OnOk result (line.new.items ≡ rest_line (bits_of rest.now.count rest.now.bits)) }
 {
@@ -35,7 +35,7 @@ fn bits_told(text: &[u8]) -> u128
 
 // The bits of which this is the last line, 1 to 66 of them. `None` exactly where it is no such line. The bits are spelled
 // in the buffer.
-pub fn rest_of(spelled: &mut Vec<u8>, line: &[u8]) -> Result<Option<Piece>, OutOfMemory>
+pub fn rest_of(spelled: &mut Vec<u8>, line: &[u8]) -> Result<Option<CodePiece>, OutOfMemory>
     ensures { IfOk result (λ answer. MatchOption answer
         (IsRestLine line.now → ⊥)
         (λ rest. (0 < rest.count) × (rest.count < 67) × (rest.bits < 2 ^ rest.count) × (line.now ≡ rest_line (bits_of rest.count rest.bits)))) }
@@ -43,7 +43,7 @@ pub fn rest_of(spelled: &mut Vec<u8>, line: &[u8]) -> Result<Option<Piece>, OutO
     if line.len() < 6 || line.len() > 71 {
         return Ok(None);
     }
-    let rest = Piece {
+    let rest = CodePiece {
         count: (line.len() - 5) as u32,
         bits: bits_told(&line[5..]),
     };

@@ -7,7 +7,7 @@ ghost use Rattle.word_text.specs.Answers.{ListsLane};
 
 use crate::digits::{put, put_byte};
 use crate::line_of_code::code_line;
-use crate::piece::{Piece, next_piece};
+use crate::piece::{CodePiece, next_piece};
 use crate::rest::rest_line;
 use coding_67b::BitReader;
 use lane_model::CODE_BITS;
@@ -26,7 +26,7 @@ fn put_code(line: &mut Vec<u8>, text: &mut Vec<u8>, code: u128) -> Result<(), Ou
 }
 
 // Appends the line of the last bits, ended, to a text. It is spelled in the buffer.
-fn put_rest(line: &mut Vec<u8>, text: &mut Vec<u8>, rest: &Piece) -> Result<(), OutOfMemory>
+fn put_rest(line: &mut Vec<u8>, text: &mut Vec<u8>, rest: &CodePiece) -> Result<(), OutOfMemory>
     requires { rest.now.count < 67 }
     ensures ok { OnOk result (text.new.items ≡ text.old.items ++ ended (rest_line (bits_of rest.now.count rest.now.bits))) }
     ensures err { OnErr result (text.new.items ≡ text.old.items) }

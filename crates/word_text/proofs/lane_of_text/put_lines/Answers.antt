@@ -8,7 +8,7 @@ use Rattle.word_text.specs.Listings.{lane_head}
 use Rattle.word_text.specs.CodeLines.{rest_line}
 use Rattle.word_text.specs.Refusals.{IsRestLine, HasNoWholeBytes}
 use Rattle.word_text.specs.Bytes.{CodesPut, TakesBytes, PutsBytes}
-use Rattle.word_text.specs.declared.piece.Piece.{Piece}
+use Rattle.word_text.specs.declared.piece.CodePiece.{CodePiece}
 use Rattle.word_text.proofs.Kept.{kept-trans}
 use Rattle.word_text.proofs.Taking.{takes-then, takes-count}
 use Rattle.word_text.proofs.Rests.{no-rest}
@@ -16,11 +16,11 @@ use Rattle.word_text.proofs.Lanes.{no-end-there}
 use Rattle.word_text.proofs.LaneEnds.{no-whole, wrong-code, wrong-behind, all-put, last-line}
 use Rattle.word_text.proofs.lane_of_text.put_lines.Goals as goal
 
-abbrev Told : Option Piece → List ℕ → Type 0
+abbrev Told : Option CodePiece → List ℕ → Type 0
 Told o line = MatchOption o (IsRestLine line → ⊥) (λ rest. (0 < rest.count) × (rest.count < 67) × (rest.bits < 2 ^ rest.count) × (line ≡ rest_line (bits_of rest.count rest.bits)))
 
 -- a last line with its bits
-record IsRest (rest : Piece) (line : List ℕ) : Type 0 where
+record IsRest (rest : CodePiece) (line : List ℕ) : Type 0 where
   some : 0 < length (bits_of rest.count rest.bits)
   short : length (bits_of rest.count rest.bits) < 67
   size : length (bits_of rest.count rest.bits) ≡ rest.count
@@ -28,17 +28,17 @@ record IsRest (rest : Piece) (line : List ℕ) : Type 0 where
   narrow : rest.count < 67
   below : rest.bits < 2 ^ rest.count
 
-no-one : (o : Option Piece) (line : List ℕ) → o ≡ None → Told o line → IsRestLine line → ⊥
+no-one : (o : Option CodePiece) (line : List ℕ) → o ≡ None → Told o line → IsRestLine line → ⊥
 no-one None line e h = h
 no-one (Some w) line e h = absurd cc
 
-one : (o : Option Piece) (w : Piece) (line : List ℕ) → o ≡ Some w → Told o line → IsRest w line
+one : (o : Option CodePiece) (w : CodePiece) (line : List ℕ) → o ≡ Some w → Told o line → IsRest w line
 one None w line e h = absurd cc
 one (Some v) w line e h =
     let same : v ≡ w = cc in
     let size = length-bits_of v.count v.bits in
     let (some, short, low, is) = h in
-    subst (λ (x : Piece). IsRest x line) same (record { some = omega (arith, size, some); short = omega (arith, size, short); size = size; is = is; narrow = short; below = low })
+    subst (λ (x : CodePiece). IsRest x line) same (record { some = omega (arith, size, some); short = omega (arith, size, short); size = size; is = is; narrow = short; below = low })
 
 waits-count : (text left : List ℕ) (number : ℕ) (waiting : List Bool) (old new : List ℕ) (p : CodesPut text left number waiting old new) → length p.bits ≡ 8 * length p.taken.more + length waiting
 waits-count text left number waiting old new p = takes-count p.bits waiting old new p.taken
@@ -52,13 +52,13 @@ whole : (text left : List ℕ) (number waits : ℕ) (waiting : List Bool) (old n
 whole text left number waits [] old new p h e f = all-put text left number p.bits [] old new p.told (nil_from_length left h) (omega arith) (subst (λ (b : List Bool). TakesBytes b [] old new) (sym (append-nil p.bits)) p.taken)
 whole text left number waits (b ∷ waiting) old new p h e f = absurd (omega arith)
 
-rest-not-whole : (text left line more : List ℕ) (number waits : ℕ) (waiting : List Bool) (old new : List ℕ) (rest : Piece) → (p : CodesPut text left number waiting old new) → left ≡ ended line ++ more → length more ≡ 0 → IsRest rest line → waits ≡ length waiting → ((waits + rest.count) % 8 ≡ 0 → ⊥) → HasNoWholeBytes text
+rest-not-whole : (text left line more : List ℕ) (number waits : ℕ) (waiting : List Bool) (old new : List ℕ) (rest : CodePiece) → (p : CodesPut text left number waiting old new) → left ≡ ended line ++ more → length more ≡ 0 → IsRest rest line → waits ≡ length waiting → ((waits + rest.count) % 8 ≡ 0 → ⊥) → HasNoWholeBytes text
 rest-not-whole text left line more number waits waiting old new rest p e h r f g =
     let bits = bits_of rest.count rest.bits in
     let count = waits-count text left number waiting old new p in
     no-whole text left number p.bits bits p.told (last-line left bits more (e ∙ ap (λ (l : List ℕ). ended l ++ more) r.is) h r.some) r.short (λ k. g (omega (arith, count, f, k, r.size)))
 
-rest-whole : (text left line more : List ℕ) (number : ℕ) (waiting : List Bool) (old mid new : List ℕ) (rest : Piece) → (p : CodesPut text left number waiting old mid) → left ≡ ended line ++ more → length more ≡ 0 → IsRest rest line → TakesBytes (waiting ++ bits_of rest.count rest.bits) [] mid new → PutsBytes text old new (Ok tt)
+rest-whole : (text left line more : List ℕ) (number : ℕ) (waiting : List Bool) (old mid new : List ℕ) (rest : CodePiece) → (p : CodesPut text left number waiting old mid) → left ≡ ended line ++ more → length more ≡ 0 → IsRest rest line → TakesBytes (waiting ++ bits_of rest.count rest.bits) [] mid new → PutsBytes text old new (Ok tt)
 rest-whole text left line more number waiting old mid new rest p e h r t =
     let bits = bits_of rest.count rest.bits in
     all-put text left number p.bits bits old new p.told (last-line left bits more (e ∙ ap (λ (l : List ℕ). ended l ++ more) r.is) h r.some) r.short (takes-then p.bits waiting bits (waiting ++ bits) [] old mid new refl p.taken t)
