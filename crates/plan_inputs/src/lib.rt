@@ -16,4 +16,4 @@ pub use channel_packets::CapturePackets;
 pub use inputs::{PlanInputs, PlanReading};
 pub use plan_file::{plan_stop, read_plan_file};
 pub use reading::{read_inputs, read_plan_inputs};
-pub use row_files::{read_local_file, read_schedule_file, rows_stop};
+pub use row_files::{read_flow_file, read_local_file, read_schedule_file, rows_stop};

@@ -1,3 +1,5 @@
+-- What other crates cite.
+pub mod Making
 -- What this crate alone cites.
 mod ExamplesHold
 mod Befores
@@ -7,5 +9,4 @@ mod KeptChannels
 mod Dues
 mod FlowRows
 mod Keeping
-mod Making
 mod RowOrder

@@ -1,0 +1,14 @@
+-- The worked examples are as they are said.
+use Rattle.std.proofs.Common.{refl}
+use Rattle.std.specs.Fmt.{digits}
+use Rattle.csv.specs.Writing.{fields_text, is_blank}
+use Rattle.csv_rows.specs.Written.{rows_text}
+use Rattle.check_commands.specs.CheckLaws.{WorkedTables, WorkedTexts}
+
+pub worked_tables : WorkedTables
+unfolding digits fields_text is_blank rows_text
+worked_tables = record { none = refl; three = refl; name = refl }
+
+pub worked_texts : WorkedTexts
+unfolding digits
+worked_texts = record { none = refl; three = refl }

@@ -1,0 +1,8 @@
+-- What other crates cite.
+pub mod Checks
+-- What this crate alone cites.
+mod Tables
+mod Tallies
+mod Passing
+mod Telling
+mod Examples

@@ -1,0 +1,8 @@
+-- cited by public clauses
+pub mod Words
+pub mod Table
+pub mod Check
+pub mod CheckLaws
+-- needed by private functions and proofs alone
+pub mod Values
+pub mod Tally

@@ -1,0 +1,12 @@
+//! The command that judges words: `check` tells the faults of a sender's words, by the rules, in a table.
+#![tactic(auto)]
+
+mod check;
+mod inputs;
+pub mod laws;
+mod pass;
+mod table;
+mod tally;
+mod words_file;
+
+pub use check::Check;

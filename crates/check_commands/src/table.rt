@@ -1,0 +1,88 @@
+//! The text of the table of faults.
+ghost use Rattle.std.specs.Prelude.{◌≡◌, [], ◌∷◌, Some, OnOk, IfOk, map, string_bytes};
+ghost use Rattle.std.specs.Fmt.{decimal};
+ghost use Rattle.std.specs.Io.KnownBytes.{Appends};
+ghost use Rattle.csv.specs.Writing.{text_written, row_text};
+ghost use Rattle.csv_rows.specs.Written.{rows_text, rows_writer};
+ghost use Rattle.link_reports.specs.Lines.{number_or_stroke};
+ghost use Rattle.link_reports.specs.TableWriter.{IsBetweenRows};
+ghost use Rattle.check_commands.specs.Table.{fault_fields, fault_rows, heading};
+
+use csv::{Writer, WriterBuilder};
+use lk_base::OutOfMemory;
+use std::alloc::{AllocError, Global};
+use word_rules::Fault;
+
+/// The heading, as it stands in the table.
+pub fn heading() -> &'static [u8]
+    ensures { result.now ≡ rows_text (heading ∷ []) }
+{
+    b"word,rule,channel\n"
+}
+
+// The number of a word.
+fn number_text(alloc: Global, number: u64) -> Result<String, AllocError>
+    ensures { IfOk result (λ text. string_bytes text ≡ decimal number) }
+{
+    format!(in alloc; "{number}")
+}
+
+// The channel of a fault, or a stroke.
+fn channel_text(alloc: Global, channel: Option<u16>) -> Result<String, AllocError>
+    ensures { IfOk result (λ text. string_bytes text ≡ number_or_stroke channel) }
+{
+    match channel {
+        None => String::from_str(alloc, "-"),
+        Some(number) => format!(in alloc; "{number}"),
+    }
+}
+
+// Writes a row of these fields.
+fn write_fields(writer: &mut Writer<Vec<u8>>, fields: &[&[u8]]) -> Result<(), OutOfMemory>
+    requires { IsBetweenRows writer.old }
+    ensures between { OnOk result (IsBetweenRows writer.new) }
+    ensures text { OnOk result (Appends (text_written (λ v. Some v.items) writer.old) (text_written (λ v. Some v.items) writer.new)
+        (row_text rows_writer (map (λ f. f.now) fields.now))) }
+{
+    match writer.write_fields(fields) {
+        Ok(()) => Ok(()),
+        Err(_) => Err(OutOfMemory),
+    }
+}
+
+// Writes the row of a fault.
+fn write_fault(
+    alloc: Global,
+    writer: &mut Writer<Vec<u8>>,
+    fault: &Fault,
+) -> Result<(), OutOfMemory>
+    requires { IsBetweenRows writer.old }
+    ensures between { OnOk result (IsBetweenRows writer.new) }
+    ensures text { OnOk result (Appends (text_written (λ v. Some v.items) writer.old) (text_written (λ v. Some v.items) writer.new)
+        (row_text rows_writer (fault_fields fault.now))) }
+{
+    let word = number_text(alloc, fault.word)?;
+    let channel = channel_text(alloc, fault.channel)?;
+    let fields = [
+        word.as_bytes(),
+        fault.rule.name().as_bytes(),
+        channel.as_bytes(),
+    ];
+    write_fields(writer, &fields)
+}
+
+/// The text of the rows of these faults, in order.
+pub fn fault_rows(alloc: Global, faults: &[Fault]) -> Result<Vec<u8>, OutOfMemory>
+    ensures { IfOk result (λ text. text.items ≡ fault_rows faults.now) }
+{
+    let mut writer = WriterBuilder::new()
+        .flexible(true)
+        .from_writer(Vec::new(alloc));
+    for fault in faults {
+        write_fault(alloc, &mut writer, fault)?;
+    }
+    match writer.into_inner() {
+        Ok(text) => Ok(text),
+        Err(_) => Err(OutOfMemory),
+    }
+}
