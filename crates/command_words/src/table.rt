@@ -36,6 +36,8 @@ pub enum Name {
     Resend,
     /// The words file of a plan becomes lane files.
     Stripe,
+    /// The words file of a plan is judged by the rules of a sender.
+    Check,
     /// A words file or a lane file becomes its listing.
     List,
     /// A text becomes the file of which it is the listing.
@@ -107,6 +109,11 @@ static ROWS: &[Row] = &[
     Row {
         word: "stripe",
         command: Name::Stripe,
+        rule: Rule::File,
+    },
+    Row {
+        word: "check",
+        command: Name::Check,
         rule: Rule::File,
     },
     Row {

@@ -4,6 +4,7 @@ ghost use Rattle.interlaken.specs.Request.{is_plan_name, burst_of, join_of, IsGi
 ghost use Rattle.command_words.specs.CommandLine.{words_of};
 
 use case_commands::GenerateCase;
+use check_commands::Check;
 use command_words::{Arguments, CommandLine, Name, arguments_of, line_of, read_line, row_in, rows};
 use duplex_commands::DuplexFile;
 use join_commands::{JoinPlan, JoinWords};
@@ -49,6 +50,8 @@ pub enum Request<'w> {
     Resend(WithFile<'w, ResendPlan>),
     /// The words file of a plan becomes lane files.
     Stripe(WithFile<'w, Stripe>),
+    /// The words file of a plan is judged by the rules of a sender.
+    Check(WithFile<'w, Check>),
     /// A words file or a lane file becomes its listing.
     ListFile(WithFile<'w, ListFile>),
     /// A text becomes the file of which it is the listing.
@@ -75,6 +78,7 @@ impl Command for Request<'_> {
             Request::OobRead(read) => read.obey(alloc, store),
             Request::Resend(resend) => resend.obey(alloc, store),
             Request::Stripe(stripe) => stripe.obey(alloc, store),
+            Request::Check(check) => check.obey(alloc, store),
             Request::ListFile(list) => list.obey(alloc, store),
             Request::AssembleText(assemble) => assemble.obey(alloc, store),
         }
@@ -127,6 +131,7 @@ fn request_for<'w>(command: Name, arguments: &Arguments<'w>) -> Request<'w>
         Name::OobRead => Request::OobRead(WithFile::new(arguments.file)),
         Name::Resend => Request::Resend(WithFile::new(arguments.file)),
         Name::Stripe => Request::Stripe(WithFile::new(arguments.file)),
+        Name::Check => Request::Check(WithFile::new(arguments.file)),
         Name::List => Request::ListFile(WithFile::new(arguments.file)),
         Name::Assemble => Request::AssembleText(WithFile::new(arguments.file)),
     }
