@@ -54,7 +54,7 @@ FILES = {
     "a.events": "send,20\ntake,10\nlose,1\nrewind,1\nsend,30\ntake,4\nrepeat,1\ntakeback,5\nloseback,1\nrepeatback,1\n"}
 CASES = (("a.plan", "link", "a.plan", 500), ("a.duplex", "duplex", "a.duplex", 120), ("a.schedule", "link", "a.plan", 120), ("a.flow", "link", "a.plan", 100), ("a.local", "link", "a.plan", 120),
          ("a.events", "resend", "a.plan", 100), ("a.plan", "resend", "a.plan", 30), ("a.plan", "duplex", "a.duplex", 30), ("a.plan", "oobread", "a.plan", 30))
-BYTES = (("two.pcap", "link", "a.plan", 60), ("one.pcap", "duplex", "a.duplex", 40), ("one.pcap", "burst", "one.pcap", 40), ("a.words", "join", "a.plan", 40), ("a.words", "stripe", "a.plan", 30), ("a.oob", "oobread", "a.plan", 40),
+BYTES = (("two.pcap", "link", "a.plan", 60), ("one.pcap", "duplex", "a.duplex", 40), ("one.pcap", "burst", "one.pcap", 40), ("a.words", "join", "a.plan", 40), ("a.words", "stripe", "a.plan", 30), ("a.words", "check", "a.plan", 30), ("a.oob", "oobread", "a.plan", 40),
          ("a.words", "list", "a.words", 30))
 FIELDS = ("", "0", "1", "2", "3", "7", "8", "16", "31", "32", "33", "48", "64", "65", "96", "128", "255", "256", "257", "300", "1024", "4096", "4097", "65535", "65536", "262145", "16777215", "16777216",
           "4194304", "4194305", "999999999999", "1000000000000", "000000000000007", "0000000000000007", "-1", "+1", " 1", "1 ", "1.5", "0x10", "1e3", "on", "off", "On", "x", "one.pcap", "81FFFF0000188177",

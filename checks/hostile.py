@@ -2,7 +2,7 @@
 
     python3 hostile.py PROGRAM [--write MODEL] [CASE..]
 
-`join` and `stripe` get words files, `receive` lanes, `oobwrite` local rows, `oobread` samples, `resend` events, and `duplex` two ends. What
+`join`, `stripe` and `check` get words files, `receive` lanes, `oobwrite` local rows, `oobread` samples, `resend` events, and `duplex` two ends. What
 each case has to come to stands in hostile.txt: a line '== CASE -- WORDS', 'status N', the text, and a line 'NAME LENGTH SHA-256' for
 each file that is created. Of a text of more than 40 lines the line 'text LENGTH SHA-256' stands there, and of more than 40 files
 the line 'files LENGTH SHA-256' of their lines. --write makes that file anew by an independent model, MODEL, which is called as the
@@ -160,6 +160,8 @@ def on_words(words):
     found["words: on one channel"] = (["join", "o.words"], {"o.words": words})
     for name in ("no words", "one word", "random bytes", "short of a byte", "a byte more", "each fifth bad", "shuffled", "cut in a burst"):
         found["words: %s on lanes" % name] = (["stripe", "p.plan"], {"p.plan": FOUR, "o.words": cases[name]})
+    for name in cases:
+        found["words: %s judged" % name] = (["check", "p.plan"], {"p.plan": ONE, "o.words": cases[name]})
     found["words: a smaller longest packet"] = (["join", "p.plan"], {"p.plan": ONE + b"max_packet,299\n", "o.words": words})
     return found
 

@@ -11,7 +11,7 @@ a failing call has to end with status 0 and leave the files that are looked at:
     receive of a lane with a hundred packets: at the last read whose failing ends the run, the capture has a piece already
     generate of a case: each of its files is written to its end before the next, pieces and then a rest
     duplex  of a hundred packets both ways: pieces of both captures alone, then the rests in the order of creation, then the text
-    oobwrite, oobread, resend of one large output each: pieces of it, a rest, and the text in one write
+    check, oobwrite, oobread, resend of one large output each: pieces of it, a rest, and the text in one write
 """
 
 import os
@@ -87,6 +87,11 @@ class Checks:
         before = self.files(["burst", "p.plan"], SENT, ["o.words"])
         self.equal_outputs(["stripe", "p.plan"], before, LANES, 171520)
 
+    def check(self):
+        # Each word is bad, and its row has its number.
+        length = len("word,rule,channel\n") + sum(len("%d,bad,-\n" % number) for number in range(15000))
+        self.one_output(["check", "p.plan"], {"p.plan": SENT["p.plan"], "o.words": 15000 * (b"\3" + bytes(8))}, "o.faults.csv", length)
+
     def duplex(self):
         self.equal_outputs(["duplex", "d.csv"], ENDS, ["o.a.1.pcap", "o.b.1.pcap"], len(ENDS["a.pcap"]))
 
@@ -132,7 +137,7 @@ class Checks:
 def main():
     program, library = (os.path.abspath(name) for name in sys.argv[1:])
     checks = Checks(program, library)
-    for command in (checks.burst, checks.send, checks.stripe, checks.receive, checks.generate, checks.duplex, checks.oobwrite, checks.oobread, checks.resend):
+    for command in (checks.burst, checks.send, checks.stripe, checks.check, checks.receive, checks.generate, checks.duplex, checks.oobwrite, checks.oobread, checks.resend):
         command()
     return checks.tally.end()
 

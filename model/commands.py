@@ -22,6 +22,7 @@ from link import Link, Shape
 from plan import Plan
 from reassembly import Outcome, Packet, Settings, reassembled
 from resend import resent
+from rules import RULES, Rules, faults
 from stream import ListedPacket, Source, Stream, listed_packets, payload_stream
 
 DEFAULT_SHAPE = Shape(group=1, warmup=1, burst_max=256, burst_short=64, burst_min=0)
@@ -145,6 +146,17 @@ def stripe(name: str) -> Answer:
     words = read_input(plan.out + ".words", files.WORDS_LIMIT, words_file.sent_words_of_file)
     words += [FILLER] * (-len(words) % plan.link.group)
     return Answer(DONE, lane_files(plan, sent_lanes(plan, words)), [texts.slots_line(len(words))])
+
+
+def check(name: str) -> Answer:
+    """The faults of the words of a plan's words file, in a table and counted."""
+    plan = read_plan(name, plans.plan_of)
+    flow = rows_of_file(plan.file("flow"), inputs.flow_rows)
+    words = read_input(plan.out + ".words", files.WORDS_LIMIT, words_file.words_of_file)
+    found = faults(words, Rules(plan.shape, plan.settings.max_packet, plan.wide, plan.channels, plan.entries, flow))
+    counts = {rule: sum(fault.rule == rule for fault in found) for rule in RULES}
+    lines = ["words %d" % len(words), "faults %d" % len(found), *(texts.rule_line(rule, n) for rule, n in counts.items() if n)]
+    return Answer(DONE, [(plan.out + ".faults.csv", texts.faults_table(found))], lines)
 
 
 def send(name: str) -> Answer:
@@ -320,5 +332,5 @@ def assemble(name: str) -> Answer:
 
 COMMANDS = {
     "burst": burst, "join": join, "send": send, "receive": receive, "link": link, "generate": generate, "duplex": duplex,
-    "oobwrite": oobwrite, "oobread": oobread, "resend": resend, "stripe": stripe, "list": list_file, "assemble": assemble,
+    "oobwrite": oobwrite, "oobread": oobread, "resend": resend, "stripe": stripe, "check": check, "list": list_file, "assemble": assemble,
 }

@@ -266,6 +266,37 @@ def stripe_case(r: Random) -> Case:
     return Case(["stripe", "p.plan"], files, d.wide)
 
 
+def flow_rows(r: Random, entries: Sequence[int], slots: int) -> bytes:
+    """Rows of a flow file, in order of slot, by which entries go off and on; some of their words are valid, and some are not."""
+    numbers = [fields.sealed([], fields.control_number(False, False, 0, r.randrange(3) > 0, r.getrandbits(16), 0, 0)) for _ in range(r.choice([1, 2, 6]))]
+    spoiled = [number ^ (r.randrange(6) == 0) << r.randrange(64) for number in numbers]
+    slots_of = sorted(r.randrange(slots + 1) for _ in spoiled)
+    return "".join("%d,%016X\n" % row for row in zip(slots_of, spoiled)).encode()
+
+
+def check_case(r: Random) -> Case:
+    """`check` of a stream's words, mutated or not, cut or not, by its plan or another, with a flow file or without one, and of any
+    words; now and then the words file has another tag or is not whole, and a file is not there."""
+    d = Drawn(r)
+    words = payload_stream(d.source()).words
+    words = mutated_words(r, words) if r.randrange(8) else words
+    begin = r.choice([0, 0, r.randrange(len(words) + 1)])
+    words = r.choice([words, words, words[begin:], words[:r.randrange(len(words) + 1)], [random_listings.word(r) for _ in range(r.choice([0, 1, 30]))]])[:600]
+    data = words_file.file_of_words(words)
+    if r.randrange(10) == 0:
+        at = 9 * r.randrange(len(data) // 9 + 1)
+        data = r.choice([data[:at] + bytes([r.choice([0, 4, 255])]) + data[at + 1:], data[:r.randrange(len(data) + 1)]])
+    rows = far_end(r, d) + [["burst_min", r.choice([0, 32, 32])]]
+    rows = rows if sum(row[0] == "burst_min" for row in rows) == 1 else rows[:-1]
+    files = {"o.words": data}
+    if r.randrange(2):
+        rows, files = rows + [["flow", "f.csv"]], {**files, "f.csv": flow_rows(r, d.plan.entries, len(words))}
+    files["p.plan"] = drawn.spoiled_plan(r, d.rows) if r.randrange(20) == 0 else drawn.spelled(r, rows)
+    if r.randrange(12) == 0:
+        del files[r.choice(sorted(files))]
+    return Case(["check", "p.plan"], files, d.wide)
+
+
 # ---- received lanes
 
 def receive_case(r: Random) -> Case:
@@ -600,13 +631,13 @@ KINDS: dict[str, Callable[[Random], Case]] = {
     "capture": capture_case, "burst": plan_case("burst"), "join": join_case, "send": plan_case("send"), "receive": receive_case,
     "regular": regular_case, "link": link_case, "mimic": mimic_case, "channels": channels_case, "words": words_case,
     "generate": generate_case, "list": list_case, "assemble": assemble_case, "duplex": duplex_case, "oobwrite": oobwrite_case,
-    "oobread": oobread_case, "resend": resend_case, "stripe": stripe_case,
+    "oobread": oobread_case, "resend": resend_case, "stripe": stripe_case, "check": check_case,
 }
 # Kinds that have large cases, and kinds that have wide plans.
 LARGE = ("generate", "channels")
 WIDE = (
     "burst", "join", "send", "receive", "regular", "link", "mimic", "channels", "words", "duplex", "oobwrite", "oobread", "resend",
-    "stripe",
+    "stripe", "check",
 )
 
 

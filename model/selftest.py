@@ -26,6 +26,7 @@ import random_inputs
 import random_listings
 import reassembly
 import resend
+import rules
 import spans
 import stream
 import texts
@@ -569,6 +570,24 @@ class Runs(unittest.TestCase):
         for data, why in ((idle + b"\3" + idle[1:], "tag at 9"), (idle + b"\3", "tag at 9"), (idle[:8], "short at 0"), (idle + b"\1", "short at 9")):
             self.write(o_words=data)
             self.assertEqual(interlaken.run(["stripe", "p.plan"]), (5, "input refused: o.words: %s\n" % why))
+
+    def test_check(self):
+        self.write(p_plan=b"lanes,1\nmetaframe,32\nwarmup,4\nchannel,0,a.pcap\nout,o\n", a_pcap=pcap.written([bytes(60)], 1))
+        interlaken.run(["burst", "p.plan"])
+        self.assertEqual(interlaken.run(["check", "p.plan"]), (0, "words 168\nfaults 0\n"))
+        self.assertEqual(self.read("o.faults.csv"), b"word,rule,channel\n")
+        sent = words_file.words_of_file(self.read("o.words"))
+        at = next(number for number, word in enumerate(sent) if rules.is_burst_word(word))
+
+        def judged(number, word):
+            self.write(o_words=words_file.file_of_words([*sent[:number], word, *sent[number + 1:]]))
+            return interlaken.run(["check", "p.plan"])[1].splitlines()[1:], self.read("o.faults.csv").splitlines()[1:]
+
+        own = sent[at].number
+        self.assertEqual(judged(at + 1, fields.Word(fields.DATA, 1)), (["faults 1", "rule crc=1"], [b"%d,crc,-" % (at + 9)]))
+        no_sop, channel_7 = fields.sealed([], own & ~(1 << 61)), fields.sealed([], own | 7 << 32)
+        self.assertEqual(judged(at, fields.Word(fields.CONTROL, no_sop)), (["faults 1", "rule open=1"], [b"%d,open,0" % at]))
+        self.assertEqual(judged(at, fields.Word(fields.CONTROL, channel_7)), (["faults 1", "rule channel=1"], [b"%d,channel,7" % at]))
 
     def test_stripe_after_burst_makes_the_lanes_of_send(self):
         self.write(p_plan=b"lanes,2\nmetaframe,32\nwarmup,4\nchannel,1,a.pcap\nout,o\n", a_pcap=pcap.written([bytes(60)], 1))

@@ -8,10 +8,12 @@ from epochs import Place
 from locks import Report
 from reassembly import DROPS, Packet
 from resend import Counts
+from rules import Fault
 from spans import Span
 
 USAGE = "usage: interlaken COMMAND FILE, or interlaken generate NUMBER PREFIX"
 SPANS_HEADING = "after_group,after_index,before_group,before_index,why"
+FAULTS_HEADING = "word,rule,channel"
 
 
 def sent_line(channel: int, packets: Sequence[bytes], left: int) -> str:
@@ -51,6 +53,11 @@ def dropped_line(drops: Counter) -> str:
     return "dropped " + " ".join("%s=%d" % (why, drops[why]) for why in DROPS)
 
 
+def rule_line(rule: str, count: int) -> str:
+    """The faults of a rule."""
+    return "rule %s=%d" % (rule, count)
+
+
 def accidents_line(accidents: Accidents) -> str:
     """The count of accidents."""
     return "accidents locks=%d groups=%d stretches=%d" % accidents
@@ -81,6 +88,12 @@ def span_table(spans: Sequence[Span]) -> bytes:
     """The heading and a row for each span in order; an end that is absent is `-` in both its columns."""
     rows = [",".join((*columns(span.after), *columns(span.before), span.why)) for span in spans]
     return "".join(row + "\n" for row in [SPANS_HEADING, *rows]).encode()
+
+
+def faults_table(faults: Sequence[Fault]) -> bytes:
+    """A row for each fault: the number of its word, its rule, and its channel or a stroke."""
+    rows = ["%d,%s,%s" % (fault.word, fault.rule, "-" if fault.channel is None else fault.channel) for fault in faults]
+    return "".join(row + "\n" for row in [FAULTS_HEADING, *rows]).encode()
 
 
 def columns(place: Place | None) -> tuple[str, str]:

@@ -92,7 +92,7 @@ def absent(folder, inputs, refused):
     """An absent file: which row names it, and where it may be."""
     told = "%s%s: no such file" % (where_named(refused), shown_name(refused.name))
     if not refused.is_plan and refused.named_by is None and inputs.plan:
-        return told + "; `interlaken %s %s` writes it" % ({"join": "burst", "stripe": "burst"}.get(inputs.command, "link"), shlex.quote(inputs.name))
+        return told + "; `interlaken %s %s` writes it" % ({"join": "burst", "stripe": "burst", "check": "burst"}.get(inputs.command, "link"), shlex.quote(inputs.name))
     return told + "".join("; " + hint for hint in name_hints(folder, inputs, refused.name))
 
 

@@ -73,6 +73,12 @@ class Inputs:
         if self.has_data:
             self.folder.words_bytes(self.plan.out + ".words", has_bad=False)
 
+    def take_check(self):
+        self.take_plan()
+        self.flow = self.named(self.plan, self.plan.places.get("flow"), lambda: Flow(self.folder, self.plan))
+        if self.has_data:
+            self.folder.words_bytes(self.plan.out + ".words")
+
     def take_receive(self):
         """The plan, and the lanes, of which the program asks here whether they are there."""
         self.take_plan()
@@ -157,6 +163,7 @@ COMMANDS = {
     "oobread": Command("FILE", "a plan with a row `oob`", Inputs.take_oobread),
     "resend": Command("FILE", "a plan with a row `events`", Inputs.take_resend),
     "stripe": Command("FILE", "a plan", Inputs.take_stripe),
+    "check": Command("FILE", "a plan", Inputs.take_check),
     "list": Command("FILE", "a words file where FILE ends in .words, else a lane file", Inputs.take_list),
     "assemble": Command("FILE", "a listing", Inputs.take_assemble),
 }
