@@ -5,7 +5,7 @@ use Rattle.lk_base.specs.declared.word.RxWord.{RxWord}
 use Rattle.lk_outside.specs.Files.{Files}
 use Rattle.words_files.specs.WordsOfFile.{words_of_file}
 use Rattle.words_files.specs.declared.error.WordsError.{WordsError}
-use Rattle.run_stops.specs.declared.faults.InputError.TheVariants as refused
+use Rattle.run_stops.specs.declared.input_error.InputError.TheVariants as refused
 use Rattle.run_stops.specs.Reading.{Refusal, of_input, behind, bytes_in}
 
 abbrev pub words_by : List ℕ → Result (List RxWord) WordsError → Result (List RxWord) Refusal
