@@ -1,8 +1,8 @@
 //! The packets of both ends, lent to a run.
-ghost use Rattle.std.specs.Prelude.{◌≡◌, ◌+◌, ◌<◌, ◌^◌, IfOk, OnOk};
+ghost use Rattle.std.specs.Prelude.{◌≡◌, ◌+◌, ◌<◌, ◌≤◌, ◌^◌, ℕ, List, All, Contains, IfOk, OnOk, length, sum_by};
 ghost use Rattle.link_plan.specs.Listing.{numbers_of, channels_in_order};
 ghost use Rattle.duplex_model.specs.DuplexRun.{Ends, Settings as RunSettings};
-ghost use Rattle.duplex.specs.Duplexes.{Waits, KeepsInboxes, packets_of as sent_by};
+ghost use Rattle.duplex.specs.Duplexes.{Waits, KeepsInboxes, packet_added, packets_of as sent_by};
 ghost use Rattle.plan_inputs.specs.Inputs.{on_channel};
 ghost use Rattle.plan_inputs.specs.Values.{packets_of, packet_values, size_of, AreOn};
 ghost use Rattle.duplex_commands.specs.Values.{duplex_reading};
@@ -16,6 +16,23 @@ use lk_base::OutOfMemory;
 use plan_inputs::CapturePackets;
 use std::alloc::Global;
 
+// Lends a packet, which an end sends after those that it has. Its bytes are below 256, by their type.
+fn lend_packet<'a>(
+    duplex: &mut Duplex<'a>,
+    end: End,
+    channel: u16,
+    packet: &'a [u8],
+) -> Result<(), OutOfMemory>
+    requires waits { (settings : RunSettings) × (ends : Ends) × Waits duplex.old settings ends × Contains ends.channels channel × (sum_by (λ (p : ℕ × List ℕ). length p.1) (sent_by ends end) < 2 ^ 40) }
+    requires low { 1 ≤ length packet.now }
+    requires high { length packet.now ≤ 262144 }
+    ensures ok { OnOk result ((settings : RunSettings) (ends : Ends) → Waits duplex.old settings ends → Waits duplex.new settings (packet_added ends end channel packet.now)) }
+    ensures inboxes { KeepsInboxes duplex.old duplex.new }
+    ensures bytes { All (λ byte. byte < 256) packet.now }
+{
+    duplex.packet(end, channel, packet)
+}
+
 // Lends the packets of a capture, which an end sends after those that it has.
 fn lend<'a>(
     duplex: &mut Duplex<'a>,
@@ -28,7 +45,7 @@ fn lend<'a>(
     ensures bytes { OnOk result (AreOfBytes (on_channel capture.now.channel (packets_of capture.now))) }
 {
     for number in 0..capture.count() {
-        duplex.packet(end, capture.channel, capture.packet(number))?;
+        lend_packet(duplex, end, capture.channel, capture.packet(number))?;
     }
     Ok(())
 }

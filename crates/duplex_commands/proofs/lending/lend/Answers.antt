@@ -1,5 +1,4 @@
-use Rattle.std.proofs.Common.{◌≡◌, ℕ, List, refl, sym, subst, take, get_or, ◌≤◌, ◌<◌, All, arith}
-use Rattle.std.proofs.lemmas.List.{get_or_default}
+use Rattle.std.proofs.Common.{◌≡◌, ℕ, refl, sym, subst, take, ◌≤◌, ◌<◌, arith}
 use Rattle.duplex_model.specs.DuplexRun.{Ends}
 use Rattle.duplex.specs.Duplexes.{Waits}
 use Rattle.plan_inputs.specs.Inputs.{on_channel}
@@ -11,17 +10,14 @@ use Rattle.duplex_commands.proofs.lending.lend.Goals as goal
 pub loop-number-init : goal.loop-number-init
 loop-number-init c = record { waits = λ settings ends w. subst (λ (e : Ends). Waits c.args.duplex.now settings e) (sym (none_added ends c.args.end)) w; inboxes = record { inbox_a = refl; inbox_b = refl }; bytes = λ j d below. absurd (omega (arith, below)) }
 
-are_bytes : (bytes : List ℕ) → ((i : ℕ) → get_or bytes i 0 < 256) → All (λ byte. byte < 256) bytes
-are_bytes bytes small k d lt = let e = get_or_default bytes k 0 d lt in let h = small k in omega (arith, e, h)
-
 below : (k n m : ℕ) → k < n → n ≡ m → k < m
 below k n m lt e = omega arith
 
 past : (k n m : ℕ) → n ≤ k → n ≡ m → m ≤ k
 past k n m le e = omega arith
 
-pub packet-requires-in-loop-number-clause-waits : goal.packet-requires-in-loop-number-clause-waits
-packet-requires-in-loop-number-clause-waits c =
+pub lend_packet-requires-clause-waits : goal.lend_packet-requires-clause-waits
+lend_packet-requires-clause-waits c =
     let (settings, ends, w, on, small) = c.requires in
     let capture = c.args.capture.now in
     let k = c.loop-number.number in
@@ -36,9 +32,9 @@ loop-number-preserved c =
     record {
       waits = λ settings ends w.
           next_added ends c.args.end capture.channel (packets_of capture) k lt _ settings c.packet.result.now c.packet.ensures.value
-          (c.in_ok-packet.ensures.ok settings (all_added ends c.args.end (take k (on_channel capture.channel (packets_of capture)))) (c.loop-number.invariant.waits settings ends w));
-      inboxes = keeps_both _ _ _ c.loop-number.invariant.inboxes c.packet-in-loop-number.ensures.inboxes;
-      bytes = next_of_bytes capture.channel (packets_of capture) k lt c.packet.result.now c.packet.ensures.value (are_bytes c.packet.result.now (λ i. omega (arith, c.packet.type_inv i))) c.loop-number.invariant.bytes;
+          (c.in_ok-lend_packet.ensures.ok settings (all_added ends c.args.end (take k (on_channel capture.channel (packets_of capture)))) (c.loop-number.invariant.waits settings ends w));
+      inboxes = keeps_both _ _ _ c.loop-number.invariant.inboxes c.lend_packet.ensures.inboxes;
+      bytes = next_of_bytes capture.channel (packets_of capture) k lt c.packet.result.now c.packet.ensures.value c.lend_packet.ensures.bytes c.loop-number.invariant.bytes;
     }
 
 pub returns-clause-waits : goal.returns-clause-waits

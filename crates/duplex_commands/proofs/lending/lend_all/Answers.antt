@@ -1,4 +1,4 @@
-use Rattle.std.proofs.Common.{refl, sym, subst, take}
+use Rattle.std.proofs.Common.{refl, sym, subst, take, arith}
 use Rattle.duplex_model.specs.DuplexRun.{Ends}
 use Rattle.duplex.specs.Duplexes.{Waits}
 use Rattle.plan_inputs.specs.Values.{packet_values}
