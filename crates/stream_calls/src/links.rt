@@ -1,8 +1,12 @@
 //! The links of these calls.
+ghost use Rattle.std.specs.Prelude.{◌≡◌, IfSome};
+
 use lk_base::{Link, LinkSettings};
 
 /// A link with one Skip word, and with bursts of 64 to 256 bytes; none where the numbers are out of range.
-pub fn link_of(lanes: u32, metaframe: u32) -> Option<Link> {
+pub fn link_of(lanes: u32, metaframe: u32) -> Option<Link>
+    ensures { IfSome result (λ link. link.lanes ≡ lanes) }
+{
     Link::new(LinkSettings {
         lanes,
         metaframe,
