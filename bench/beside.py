@@ -68,10 +68,10 @@ def table(programs, megabytes, size):
             if name == "list":
                 for folder in folders:
                     cut_words(folder)
-            given = [text_of([program] + words, folder) for program, folder in zip(programs, folders)]
-            if given[0][0] == 2:
+            earlier = text_of([programs[0]] + words, one)
+            if earlier[0] == 2:
                 continue  # the earlier program has no such command
-            same = given[0] == given[1] and contents(one) == contents(other)
+            same = earlier == text_of([programs[1]] + words, other) and contents(one) == contents(other)
             different += not same
             (a, before), (b, now) = in_turn(programs, words, folders)
             row("`%s`" % name, what, "%.2f" % a, "%.2f" % b, "%.2f" % (b / a) if same else "OTHER RESULT", "%.0f" % before, "%.0f" % now)
