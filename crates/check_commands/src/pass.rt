@@ -29,7 +29,11 @@ fn word_at(words: &WordsFile, number: usize) -> RxWord
     requires { number < length words.now }
     ensures { result ≡ get_or words.now number Bad }
 {
-    words.get(number).unwrap_or(RxWord::Bad)
+    let Some(word) = words.get(number) else {
+        // The number is that of a word.
+        unreachable!()
+    };
+    word
 }
 
 // The faults of the words from number `from` up to number `to`.

@@ -4,7 +4,6 @@ ghost use Rattle.pcap_files.specs.Written.{header_bytes, record_head, record_byt
 
 use byteorder::{ByteOrder, LittleEndian};
 use lk_base::{LONGEST_PACKET, OutOfMemory};
-use std::alloc::Global;
 
 // Writes a number of two bytes after what was written.
 fn put_u16(bytes: &mut [u8], at: usize, number: u16)
@@ -50,7 +49,7 @@ pub fn put_record_head(bytes: &mut [u8], size: u32)
 
 /// Appends the header of a capture, 24 bytes: little-endian, version 2.4, packets up to 262,144 bytes, and the link
 /// type given. Where memory runs out, `out` stays as it was.
-pub fn write_header(_alloc: Global, out: &mut Vec<u8>, link_type: u32) -> Result<(), OutOfMemory>
+pub fn write_header(out: &mut Vec<u8>, link_type: u32) -> Result<(), OutOfMemory>
     ensures ok { OnOk result (out.new.items ≡ out.old.items ++ header_bytes link_type) }
     ensures err { OnErr result (out.new.items ≡ out.old.items) }
 {
@@ -62,7 +61,7 @@ pub fn write_header(_alloc: Global, out: &mut Vec<u8>, link_type: u32) -> Result
 
 /// Appends the record of one packet of 1 to 262,144 bytes: both stamps are 0, and both lengths the packet's. Where
 /// memory runs out, `out` stays as it was.
-pub fn write_packet(_alloc: Global, out: &mut Vec<u8>, bytes: &[u8]) -> Result<(), OutOfMemory>
+pub fn write_packet(out: &mut Vec<u8>, bytes: &[u8]) -> Result<(), OutOfMemory>
     requires least { 1 ≤ length bytes.now }
     requires most { length bytes.now ≤ 262144 }
     ensures ok { OnOk result (out.new.items ≡ out.old.items ++ record_bytes bytes.now) }

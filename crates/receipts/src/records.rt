@@ -42,7 +42,7 @@ fn record_of(alloc: Global, packet: &[u8]) -> Result<Vec<u8>, OutOfMemory>
     ensures { IfOk result (λ bytes. bytes.items ≡ record_bytes packet.now) }
 {
     let mut bytes = Vec::new(alloc);
-    write_packet(alloc, &mut bytes, packet)?;
+    write_packet(&mut bytes, packet)?;
     Ok(bytes)
 }
 

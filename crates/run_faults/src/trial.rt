@@ -41,9 +41,9 @@ pub struct Ended {
 // A capture of packets of 300 and of 40 bytes.
 fn capture(alloc: Global) -> Result<Vec<u8>, OutOfMemory> {
     let mut capture = Vec::new(alloc);
-    write_header(alloc, &mut capture, 1)?;
-    write_packet(alloc, &mut capture, &[7; 300])?;
-    write_packet(alloc, &mut capture, &[9; 40])?;
+    write_header(&mut capture, 1)?;
+    write_packet(&mut capture, &[7; 300])?;
+    write_packet(&mut capture, &[9; 40])?;
     Ok(capture)
 }
 

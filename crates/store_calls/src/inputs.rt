@@ -29,8 +29,8 @@ fn put_capture(
     ensures { store.new.faults ≡ store.old.faults }
 {
     let mut capture = Vec::new(alloc);
-    write_header(alloc, &mut capture, 1)?;
-    write_packet(alloc, &mut capture, packet)?;
+    write_header(&mut capture, 1)?;
+    write_packet(&mut capture, packet)?;
     store.put(name, &capture)
 }
 

@@ -53,7 +53,7 @@ fn tell_file(rt: &HostRuntime) -> io::Result<()> {
     println!(rt; "the file from 1: read {read:?} {text}")
 }
 
-// The same file, read past its end and created again.
+// A file that holds bytes, read past its end and created again.
 fn tell_again(rt: &HostRuntime) -> io::Result<()> {
     let mut store = HostStore::new(rt);
     let mut buf = [0; 8];

@@ -211,7 +211,7 @@ fn count_ended(alloc: Global, sent: &[Sent]) -> Result<Vec<Tally>, OutOfMemory>
     Ok(tallies)
 }
 
-/// The same counts by the list of the packets whose SOP word is in the stream. A channel sends its first packets, as many as
+/// What a stream sends of each channel, counted by the list of the packets whose SOP word is in the stream. A channel sends its first packets, as many as
 /// have their end words in the stream.
 ///
 /// # Errors

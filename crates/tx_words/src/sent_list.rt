@@ -188,7 +188,7 @@ impl SentList {
         &self.list[..self.count]
     }
 
-    /// The same, where no more words are made.
+    /// The packets whose SOP word was made, where no more words are made.
     pub fn into_sent(self) -> Vec<Sent>
         requires { (p : List Word) × (room : ℕ) × Lists self p room }
         ensures { (p : List Word) (room : ℕ) → Lists self p room → AreSent p result.items }
