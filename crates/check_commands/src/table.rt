@@ -1,5 +1,5 @@
 //! The text of the table of faults.
-ghost use Rattle.std.specs.Prelude.{◌≡◌, [], ◌∷◌, Some, OnOk, IfOk, map, string_bytes};
+ghost use Rattle.std.specs.Prelude.{◌≡◌, [], ◌∷◌, Some, OnOk, IfOk, string_bytes};
 ghost use Rattle.std.specs.Fmt.{decimal};
 ghost use Rattle.std.specs.Io.KnownBytes.{Appends};
 ghost use Rattle.csv.specs.Writing.{text_written, row_text};
@@ -8,7 +8,8 @@ ghost use Rattle.link_reports.specs.Lines.{number_or_stroke};
 ghost use Rattle.link_reports.specs.TableWriter.{IsBetweenRows};
 ghost use Rattle.check_commands.specs.Table.{fault_fields, fault_rows, heading};
 
-use csv::{Writer, WriterBuilder};
+use csv::Writer;
+use link_reports::{row_writer, write_row, written_rows};
 use lk_base::OutOfMemory;
 use std::alloc::{AllocError, Global};
 use word_rules::Fault;
@@ -37,19 +38,6 @@ fn channel_text(alloc: Global, channel: Option<u16>) -> Result<String, AllocErro
     }
 }
 
-// Writes a row of these fields.
-fn write_fields(writer: &mut Writer<Vec<u8>>, fields: &[&[u8]]) -> Result<(), OutOfMemory>
-    requires { IsBetweenRows writer.old }
-    ensures between { OnOk result (IsBetweenRows writer.new) }
-    ensures text { OnOk result (Appends (text_written (λ v. Some v.items) writer.old) (text_written (λ v. Some v.items) writer.new)
-        (row_text rows_writer (map (λ f. f.now) fields.now))) }
-{
-    match writer.write_fields(fields) {
-        Ok(()) => Ok(()),
-        Err(_) => Err(OutOfMemory),
-    }
-}
-
 // Writes the row of a fault.
 fn write_fault(
     alloc: Global,
@@ -68,21 +56,16 @@ fn write_fault(
         fault.rule.name().as_bytes(),
         channel.as_bytes(),
     ];
-    write_fields(writer, &fields)
+    write_row(writer, &fields)
 }
 
 /// The text of the rows of these faults, in order.
 pub fn fault_rows(alloc: Global, faults: &[Fault]) -> Result<Vec<u8>, OutOfMemory>
     ensures { IfOk result (λ text. text.items ≡ fault_rows faults.now) }
 {
-    let mut writer = WriterBuilder::new()
-        .flexible(true)
-        .from_writer(Vec::new(alloc));
+    let mut writer = row_writer(alloc);
     for fault in faults {
         write_fault(alloc, &mut writer, fault)?;
     }
-    match writer.into_inner() {
-        Ok(text) => Ok(text),
-        Err(_) => Err(OutOfMemory),
-    }
+    written_rows(writer)
 }

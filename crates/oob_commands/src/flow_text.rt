@@ -1,5 +1,5 @@
 //! The text of a flow file's rows.
-ghost use Rattle.std.specs.Prelude.{◌≡◌, ◌<◌, [], ◌∷◌, true, Some, OnOk, IfOk, map, string_bytes};
+ghost use Rattle.std.specs.Prelude.{◌≡◌, [], ◌∷◌, Some, OnOk, IfOk, string_bytes};
 ghost use Rattle.std.specs.Fmt.{decimal};
 ghost use Rattle.std.specs.Io.KnownBytes.{Appends};
 ghost use Rattle.csv.specs.Writing.{text_written, row_text};
@@ -9,7 +9,8 @@ ghost use Rattle.csv_rows.specs.Written.{rows_writer};
 ghost use Rattle.oob_commands.specs.FlowFile.{flow_file};
 ghost use Rattle.lk_base.specs.Hex.{hex};
 
-use csv::{Writer, WriterBuilder};
+use csv::Writer;
+use link_reports::{row_writer, write_row, written_rows};
 use lk_base::{OutOfMemory, put_hex};
 use std::alloc::{AllocError, Global};
 
@@ -29,21 +30,6 @@ fn slot_text(alloc: Global, slot: u64) -> Result<String, AllocError>
     format!(in alloc; "{slot}")
 }
 
-// Why a writer into memory fails: memory ran out.
-fn no_memory<E: Drop>(_: E) -> OutOfMemory {
-    OutOfMemory
-}
-
-// Writes a row of these fields.
-fn write_fields(writer: &mut Writer<Vec<u8>>, fields: &[&[u8]]) -> Result<(), OutOfMemory>
-    requires { IsBetweenRows writer.old }
-    ensures between { OnOk result (IsBetweenRows writer.new) }
-    ensures text { OnOk result (Appends (text_written (λ v. Some v.items) writer.old) (text_written (λ v. Some v.items) writer.new)
-        (row_text rows_writer (map (λ f. f.now) fields.now))) }
-{
-    writer.write_fields(fields).map_err(no_memory)
-}
-
 // Writes the row of a word.
 fn write_word(
     alloc: Global,
@@ -59,18 +45,16 @@ fn write_word(
     let slot = slot_text(alloc, slot)?;
     let word = word_text(alloc, word)?;
     let fields = [slot.as_bytes(), word.as_slice()];
-    write_fields(writer, &fields)
+    write_row(writer, &fields)
 }
 
 /// The text of a row of this slot for each word.
 pub fn rows_text(alloc: Global, slot: u64, words: &[u64]) -> Result<Vec<u8>, OutOfMemory>
     ensures { IfOk result (λ text. text.items ≡ flow_file (rows_at slot words.now)) }
 {
-    let mut writer = WriterBuilder::new()
-        .flexible(true)
-        .from_writer(Vec::new(alloc));
+    let mut writer = row_writer(alloc);
     for word in words {
         write_word(alloc, &mut writer, slot, *word)?;
     }
-    writer.into_inner().map_err(no_memory)
+    written_rows(writer)
 }

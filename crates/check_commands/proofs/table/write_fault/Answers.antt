@@ -6,7 +6,7 @@ use Rattle.check_commands.proofs.table.write_fault.Goals as goal
 
 pub returns-clause-text : goal.returns-clause-text
 returns-clause-text c =
-    let new = c.write_fields.new.writer.wtr in
+    let new = c.write_row.new.writer.wtr in
     let old = c.args.writer.now.wtr in
     let same : c.as_bytes.result.now ∷ c.as_bytes-2.result.now ∷ c.as_bytes-3.result.now ∷ [] ≡ fault_fields c.args.fault.now = rw (c.as_bytes.ensures.value, c.as_bytes-2.ensures.value, c.as_bytes-3.ensures.value, c.in_ok-word.ensures, c.in_ok-channel.ensures, c.name.ensures) refl in
-    subst (λ (text : List ℕ). OnOk c.write_fields.result (new.inner.items ++ new.buf ≡ old.inner.items ++ old.buf ++ text)) (ap (row_text rows_writer) same) c.write_fields.ensures.text
+    subst (λ (text : List ℕ). OnOk c.write_row.result (new.inner.items ++ new.buf ≡ old.inner.items ++ old.buf ++ text)) (ap (row_text rows_writer) same) c.write_row.ensures.text
