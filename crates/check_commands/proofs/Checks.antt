@@ -17,7 +17,7 @@ use Rattle.run_shell.specs.Outcome.{Outcome}
 use Rattle.run_shell.specs.Meaning.{IsMeaning}
 use Rattle.run_shell.specs.Work.{IsWork}
 use Rattle.run_shell.proofs.Works.{is_meaning}
-use Rattle.check_commands.specs.Words.{words_in}
+use Rattle.run_stops.specs.WordsInputs.{words_in}
 use Rattle.check_commands.specs.Check.{CheckInputs, faults_found, told_outcome, IsOfPlan, IsReadFor, check_inputs_in, check_meaning, check_work, with_flow, with_words}
 use Rattle.check_commands.specs.Values.{inputs_value}
 use Rattle.check_commands.specs.declared.inputs.CheckInputs as code

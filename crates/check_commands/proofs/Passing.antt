@@ -1,5 +1,5 @@
 -- How many faults there may be, and the order of the rows of flow control.
-use Rattle.std.proofs.Common.{◌≡◌, ℕ, suc, ◌+◌, ◌*◌, ◌≤◌, ◌<◌, ◌^◌, Bool, true, false, List, [], ◌∷◌, ◌++◌, length, Option, Some, None, Ok, ap, arith}
+use Rattle.std.proofs.Common.{◌≡◌, ℕ, suc, ◌+◌, ◌*◌, ◌≤◌, ◌<◌, ◌^◌, Bool, true, false, List, [], ◌∷◌, ◌++◌, length, Option, Some, None, ap, arith}
 use Rattle.std.proofs.lemmas.List.{length-append}
 use Rattle.lk_base.specs.declared.word.RxWord.{RxWord}
 use Rattle.lk_base.specs.declared.word.RxWord.TheVariants.{Data, Control, Bad}
@@ -7,8 +7,6 @@ use Rattle.receive_model.specs.Lists.{first_of}
 use Rattle.stream_model.specs.declared.rows.FlowRow.{FlowRow}
 use Rattle.std.specs.List.Sorted.{IsNonDecreasingBy}
 use Rattle.word_rules.specs.Faults.{Plan, data_rows, word_rows, burst_rows, packet_rows, field_rows, faults, faults_at, faults_from, row}
-use Rattle.words_files.specs.WordsOfFile.{words_of_file}
-use Rattle.words_files.proofs.Again.{accepted-whole}
 use Rattle.word_rules.specs.Flows.{InOrder, no_row}
 use Rattle.word_rules.specs.declared.fault.Fault.{Fault}
 use Rattle.word_rules.specs.declared.rule.WordRule.{WordRule}
@@ -108,10 +106,6 @@ few_told p words told found rest few e =
     let c = length-append found rest in
     let d = ap length e in
     omega (arith, few, a, b, c, d)
-
--- no more words than bytes
-pub few_words : (bytes : List ℕ) (words : List RxWord) (limit : ℕ) → words_of_file bytes ≡ Ok words → length bytes < limit → length words < limit
-few_words bytes words limit e lt = let whole = accepted-whole bytes words e in omega arith
 
 pub in_order : (rows : List FlowRow) → IsNonDecreasingBy (λ (row : FlowRow). row.slot) rows → InOrder rows
 in_order rows h i j le lt = h i j no_row le lt

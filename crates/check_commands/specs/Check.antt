@@ -18,7 +18,7 @@ use Rattle.run_shell.specs.Work.{Work, meaning_by}
 use Rattle.word_rules.specs.Faults.{Plan, faults}
 use Rattle.word_rules.specs.declared.fault.Fault.{Fault}
 use Rattle.word_rules.specs.declared.limits.WordLimits.{WordLimits}
-use Rattle.check_commands.specs.Words.{words_in}
+use Rattle.run_stops.specs.WordsInputs.{words_in}
 use Rattle.check_commands.specs.Table.{check_text, faults_table}
 
 -- ---- what is read

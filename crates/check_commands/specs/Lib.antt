@@ -1,5 +1,4 @@
 -- cited by public clauses
-pub mod Words
 pub mod Table
 pub mod Check
 pub mod CheckLaws

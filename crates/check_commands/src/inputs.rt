@@ -6,16 +6,15 @@ ghost use Rattle.link_plan.specs.Views.{plan_value};
 ghost use Rattle.run_stops.specs.Stops.{StopCount};
 ghost use Rattle.run_stops.specs.Reading.{Reads};
 ghost use Rattle.run_shell.specs.Names.{words_name};
-ghost use Rattle.check_commands.specs.Words.{words_in};
+ghost use Rattle.run_stops.specs.WordsInputs.{words_in};
 ghost use Rattle.check_commands.specs.Check.{IsReadFor, check_inputs_in};
 ghost use Rattle.check_commands.specs.Values.{inputs_value};
 
-use crate::words_file::read_words_file;
 use link_plan::Plan;
 use lk_outside::Store;
 use plan_inputs::{read_flow_file, read_plan_file};
 use run_shell::words_name;
-use run_stops::Stop;
+use run_stops::{Stop, read_words_file};
 use std::alloc::Global;
 use stream_model::FlowRow;
 use words_files::WordsFile;

@@ -7,6 +7,5 @@ pub mod laws;
 mod pass;
 mod table;
 mod tally;
-mod words_file;
 
 pub use check::Check;

@@ -10,20 +10,22 @@ use Rattle.lk_outside.specs.Files.{Files, file}
 use Rattle.stream_model.specs.BurstStream.{Source, IsBurstStream}
 use Rattle.stream_model.proofs.OneStream.{one_stream}
 use Rattle.words_files.specs.WordsFile.{words_file}
+use Rattle.words_files.specs.WordsOfFile.{sent_words_of_file}
+use Rattle.words_files.proofs.SentAgain.{sent_again}
 use Rattle.tx_end.proofs.Shapes.{whole_groups}
 use Rattle.plan_inputs.proofs.SameSource.{same_source}
 use Rattle.run_stops.specs.Reading.{behind, bytes_by, bytes_in}
+use Rattle.run_stops.specs.WordsInputs.{words_by}
 use Rattle.run_shell.specs.Names.{words_name}
 use Rattle.run_shell.specs.Outcome.{Output, content_of}
 use Rattle.run_shell.specs.Work.{refused_outcome}
 use Rattle.run_shell.proofs.Fills.{same}
 use Rattle.stream_commands.specs.Outputs.{AreLaneOutputs}
 use Rattle.stream_commands.proofs.LaneContents.{one_list}
-use Rattle.lane_commands.specs.SentWords.{sent_words_by, sent_words_in, sent_words_of_file}
+use Rattle.lane_commands.specs.SentWords.{sent_words_in}
 use Rattle.lane_commands.specs.Stripe.{IsStriped, Stripes, plan_words_in, with_words}
 use Rattle.lane_commands.specs.StripeLaws.{StripeSendsBurst}
 use Rattle.lane_commands.proofs.Filling.{stripe_once, stripes_whole}
-use Rattle.lane_commands.proofs.SentAgain.{sent_again}
 
 -- a file within the limit is read whole
 read_within : (name : List ℕ) (limit : ℕ) (bytes : List ℕ) → length bytes ≤ limit → bytes_by name limit (Some bytes) ≡ Ok bytes
@@ -38,7 +40,7 @@ each_sized source w stream = λ k d lt. stream.sized k (get_or w k d) (slice_get
 words_there : (files : Files) (name : List ℕ) (w : List Word) → All (λ word. payload word < 2 ^ 64) w → file files name ≡ Some (words_file w) → length (words_file w) ≤ words_limit → sent_words_in files name ≡ Ok w
 words_there files name w sized there fits =
     let had : bytes_in files name words_limit ≡ Ok (words_file w) = ap (bytes_by name words_limit) there ∙ read_within name words_limit (words_file w) fits in
-    ap (λ r. behind r (λ bytes. sent_words_by name (sent_words_of_file bytes))) had ∙ ap (sent_words_by name) (sent_again w sized)
+    ap (λ r. behind r (λ bytes. words_by name (sent_words_of_file bytes))) had ∙ ap (words_by name) (sent_again w sized)
 
 -- the content of the one output
 one_content : (name given content : List ℕ) (files : List Output) → files ≡ record { name = name; content = given } ∷ [] → content_of files name ≡ Some content → given ≡ content

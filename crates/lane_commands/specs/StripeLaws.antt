@@ -6,19 +6,14 @@ use Rattle.lk_base.specs.declared.word.Word.{Word}
 use Rattle.lk_base.specs.declared.word.Word.TheVariants.{Data, Control}
 use Rattle.lk_outside.specs.Files.{Files, file}
 use Rattle.words_files.specs.Examples.{last_byte_missing, word_of_each_kind}
-use Rattle.words_files.specs.WordsOfFile.{cut_file, has_wrong_tag, word_in, words_of_file}
+use Rattle.words_files.specs.WordsOfFile.{sent_words_of_file}
 use Rattle.words_files.specs.declared.error.WordsError.TheVariants.{Tag, Short}
 use Rattle.plan_inputs.specs.Inputs.{Reading, plan_in}
 use Rattle.run_shell.specs.Names.{words_name, lane_names}
 use Rattle.run_shell.specs.Outcome.{Outcome, content_of}
 use Rattle.run_shell.specs.Outputs.{outs, blank}
 use Rattle.stream_commands.specs.Plan.{burst_plan_work, send_plan_work}
-use Rattle.lane_commands.specs.SentWords.{given_from, sent_words_of_file}
 use Rattle.lane_commands.specs.Stripe.{StripeInputs, Stripes, IsStriped, filler, stripe_meaning}
-
--- what `join` reads of a words file is what is given with the tags 1, 2 and 3
-abbrev pub JoinReadsThreeTags : Type 0
-JoinReadsThreeTags = (bytes : List ℕ) → words_of_file bytes ≡ given_from has_wrong_tag word_in 0 (cut_file bytes)
 
 -- `stripe` after `burst` of one plan creates the files that `send` of the plan creates: where the plan stands, and its words file
 -- holds what `burst` gave to it, within the limit of words files

@@ -5,7 +5,7 @@ ghost use Rattle.run_stops.specs.Reading.{Reads};
 ghost use Rattle.lane_commands.specs.Stripe.{IsReadFor, plan_words_in};
 ghost use Rattle.lane_commands.specs.Values.{words_value};
 
-use crate::sent_words::read_sent_words;
+use crate::sent_words::read_sent_words_file;
 use link_plan::Plan;
 use lk_outside::Store;
 use plan_inputs::read_plan_file;
@@ -37,6 +37,6 @@ pub fn read_plan_words<S: Store>(
 {
     let plan = read_plan_file(alloc, store, file)?;
     let name = words_name(alloc, plan.out.as_str())?;
-    let words = read_sent_words(alloc, store, name.as_str())?;
+    let words = read_sent_words_file(alloc, store, name.as_str())?;
     Ok(StripeInputs { plan, words })
 }

@@ -4,9 +4,9 @@ use Rattle.std.specs.Result.{result_err}
 use Rattle.std.proofs.lemmas.List.{drop-drop}
 use Rattle.lk_base.specs.declared.word.RxWord.{RxWord}
 use Rattle.words_files.specs.declared.error.WordsError.{WordsError}
-use Rattle.words_files.specs.WordsOfFile.{cut_file, word_in, first_refusal, answer_by, refusal_by, first_offset, has_wrong_tag, is_short, words_from, words_of_file}
+use Rattle.words_files.specs.WordsOfFile.{cut_file, word_in, first_refusal, given_by, refusal_by, first_offset, has_wrong_tag, is_short, words_from, words_of_file}
 use Rattle.words_files.proofs.Again.{accepted-whole}
-use Rattle.words_files.proofs.Cut.{ahead, cut-step, one-more, refused-there}
+use Rattle.words_files.proofs.Cut.{ahead, cut-step, one_more, refused_there}
 
 ahead-err : (xs : List RxWord) (r : Result (List RxWord) WordsError) → result_err (ahead xs r) ≡ result_err r
 ahead-err xs (Ok ys) = refl
@@ -17,15 +17,15 @@ pub err-more : (offset : ℕ) (rest : List ℕ) → 0 < length rest → first_re
 err-more offset rest some e =
     let later : Result (List RxWord) WordsError = words_from (offset + 9) (cut_file (drop 9 rest)) in
     sym (ahead-err [] (words_from offset (cut_file rest)))
-    ∙ ap (λ (r : Result (List RxWord) WordsError). result_err r) (one-more [] offset rest some e)
+    ∙ ap (λ (r : Result (List RxWord) WordsError). result_err r) (one_more RxWord has_wrong_tag word_in [] offset rest some e)
     ∙ ahead-err ([] ++ word_in (take 9 rest) ∷ []) later
 
 pub err-there : (offset : ℕ) (rest : List ℕ) (e : WordsError) → 0 < length rest → first_refusal offset (take 9 rest) ≡ Some e → result_err (words_from offset (cut_file rest)) ≡ Some e
 err-there offset rest e some is =
     sym (ahead-err [] (words_from offset (cut_file rest)))
-    ∙ ap (λ (r : Result (List RxWord) WordsError). result_err r) (refused-there [] offset rest e some is)
+    ∙ ap (λ (r : Result (List RxWord) WordsError). result_err r) (refused_there RxWord has_wrong_tag word_in [] offset rest e some is)
 
-ok-of : (r : Option WordsError) (xs : List RxWord) → result_err (answer_by r xs) ≡ None → answer_by r xs ≡ Ok xs
+ok-of : (r : Option WordsError) (xs : List RxWord) → result_err (given_by r xs) ≡ None → given_by r xs ≡ Ok xs
 ok-of None xs h = refl
 ok-of (Some e) xs h = absurd cc
 

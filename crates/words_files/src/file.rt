@@ -5,6 +5,7 @@ ghost use Rattle.words_files.specs.WordsOfFile.{words_of_file};
 
 use crate::error::WordsError;
 use crate::reader::{first_refusal, word_in};
+use crate::tags::Tags;
 use crate::writer::WORD_BYTES;
 use lk_base::{RxWord, tail};
 use std::marker::Model;
@@ -16,7 +17,7 @@ fn refusal_of(bytes: &[u8]) -> Option<WordsError>
     let mut rest = bytes;
     let mut offset = 0;
     while !rest.is_empty() {
-        if let Some(refusal) = first_refusal(offset, rest) {
+        if let Some(refusal) = first_refusal(Tags::Received, offset, rest) {
             return Some(refusal);
         }
         rest = tail(rest, WORD_BYTES);

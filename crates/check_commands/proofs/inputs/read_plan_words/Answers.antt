@@ -3,7 +3,7 @@ use Rattle.std.proofs.lemmas.Result.{err_from_is_err_and}
 use Rattle.lk_base.specs.declared.word.RxWord.{RxWord}
 use Rattle.run_stops.specs.Reading.{Reads}
 use Rattle.run_shell.specs.Names.{words_name}
-use Rattle.check_commands.specs.Words.{words_in}
+use Rattle.run_stops.specs.WordsInputs.{words_in}
 use Rattle.check_commands.proofs.Checks.{out_of_memory}
 use Rattle.check_commands.proofs.inputs.read_plan_words.Goals as goal
 

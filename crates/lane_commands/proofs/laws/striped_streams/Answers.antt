@@ -1,5 +1,4 @@
 use Rattle.lane_commands.proofs.Filling.{stripe_once}
-use Rattle.lane_commands.proofs.Given.{three_tags}
 use Rattle.lane_commands.proofs.NoWords.{no_words_no_bytes}
 use Rattle.lane_commands.proofs.laws.striped_streams.Goals as goal
 
@@ -8,6 +7,3 @@ returns-clause-once c = stripe_once
 
 pub returns-clause-none : goal.returns-clause-none
 returns-clause-none c = no_words_no_bytes
-
-pub returns-clause-reader : goal.returns-clause-reader
-returns-clause-reader c = three_tags

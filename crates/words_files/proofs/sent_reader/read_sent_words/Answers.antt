@@ -1,9 +1,8 @@
 use Rattle.std.proofs.Common.{◌≡◌, ◌<◌, ◌+◌, ◌-◌, ◌≤◌, ◌∷◌, ◌++◌, [], ◌∙◌, sym, List, drop, take, length, rules, ap, arith, length-drop}
 use Rattle.lk_base.specs.declared.word.Word.{Word}
-use Rattle.words_files.specs.WordsOfFile.{cut_file}
-use Rattle.lane_commands.specs.SentWords.{given_from, has_unsent_tag, sent_word_in}
-use Rattle.lane_commands.proofs.Given.{ahead, one_more, refused_there}
-use Rattle.lane_commands.proofs.sent_words.read_words.Goals as goal
+use Rattle.words_files.specs.WordsOfFile.{cut_file, given_from, has_unsent_tag, sent_word_in}
+use Rattle.words_files.proofs.Cut.{ahead, one_more, refused_there}
+use Rattle.words_files.proofs.sent_reader.read_sent_words.Goals as goal
 
 pub returns-in-Err : goal.returns-in-Err
 returns-in-Err c =

@@ -1,8 +1,7 @@
 use Rattle.std.proofs.Common.{◌≡◌, ◌+◌, length}
-use Rattle.words_files.specs.WordsOfFile.{cut_file}
-use Rattle.lane_commands.specs.SentWords.{given_from, has_unsent_tag, sent_word_in, sent_words_of_file}
-use Rattle.lane_commands.proofs.Given.{ahead}
-use Rattle.lane_commands.proofs.sent_words.read_words.Given as goal
+use Rattle.words_files.specs.WordsOfFile.{cut_file, given_from, has_unsent_tag, sent_word_in, sent_words_of_file}
+use Rattle.words_files.proofs.Cut.{ahead}
+use Rattle.words_files.proofs.sent_reader.read_sent_words.Given as goal
 
 -- the words so far and what the bytes that are left give are the whole
 abbrev pub invariant-loop-rest : goal.invariant-loop-rest

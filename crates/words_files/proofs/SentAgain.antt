@@ -1,15 +1,13 @@
--- A words file that was written is read as its words.
-use Rattle.std.proofs.Common.{◌≡◌, ℕ, suc, ◌+◌, ◌^◌, ◌<◌, List, [], ◌∷◌, ◌++◌, map, None, Ok, All, refl, ap, ◌∙◌, arith}
-use Rattle.std.proofs.lemmas.List.Concat.{flat_map-cons}
+-- A words file that was written is read as its words, where a file of sent words is read.
+use Rattle.std.proofs.Common.{◌≡◌, ℕ, suc, ◌+◌, ◌^◌, ◌<◌, List, [], ◌∷◌, map, None, Ok, All, refl, ap, ◌∙◌, arith}
 use Rattle.byteorder.specs.Numbers.{big_number-reads_back}
 use Rattle.lk_base.specs.declared.word.Word.{Word}
 use Rattle.lk_base.specs.declared.word.Word.TheVariants.{Data, Control}
 use Rattle.lk_base.specs.Words.{payload}
 use Rattle.words_files.specs.WordsFile.{word_bytes, words_file}
-use Rattle.words_files.specs.WordsOfFile.{cut_file}
-use Rattle.words_files.proofs.Cut.{cut-step}
-use Rattle.lane_commands.specs.SentWords.{given_from, has_unsent_tag, refusal_at, sent_word_in, sent_words_of_file}
-use Rattle.lane_commands.proofs.Given.{ahead, step_ok}
+use Rattle.words_files.specs.WordsOfFile.{given_from, has_unsent_tag, refusal_at, sent_word_in, sent_words_of_file}
+use Rattle.words_files.proofs.Again.{cut-again}
+use Rattle.words_files.proofs.Cut.{ahead, step_ok}
 
 no_refusal : (offset : ℕ) (word : Word) → refusal_at has_unsent_tag offset (word_bytes word) ≡ None
 no_refusal offset (Data x) = refl
@@ -18,13 +16,6 @@ no_refusal offset (Control x) = refl
 word_again : (word : Word) → payload word < 2 ^ 64 → sent_word_in (word_bytes word) ≡ word
 word_again (Data x) h = ap (λ (n : ℕ). Data n) (big_number-reads_back 8 x [] h)
 word_again (Control x) h = ap (λ (n : ℕ). Control n) (big_number-reads_back 8 x [] h)
-
-cut_again : (words : List Word) → cut_file (words_file words) ≡ map word_bytes words
-cut_again [] = refl
-cut_again (w ∷ ws) =
-    ap cut_file (flat_map-cons word_bytes w ws)
-    ∙ cut-step (word_bytes w ++ words_file ws) (omega arith)
-    ∙ ap (λ (rest : List (List ℕ)). word_bytes w ∷ rest) (cut_again ws)
 
 again_from : (offset : ℕ) (words : List Word) → All (λ word. payload word < 2 ^ 64) words → given_from has_unsent_tag sent_word_in offset (map word_bytes words) ≡ Ok words
 again_from offset [] h = refl
@@ -35,4 +26,4 @@ again_from offset (w ∷ ws) h =
     ∙ ap (λ (x : Word). Ok (x ∷ ws)) (word_again w (h 0 w (omega arith)))
 
 pub sent_again : (words : List Word) → All (λ word. payload word < 2 ^ 64) words → sent_words_of_file (words_file words) ≡ Ok words
-sent_again words h = ap (given_from has_unsent_tag sent_word_in 0) (cut_again words) ∙ again_from 0 words h
+sent_again words h = ap (given_from has_unsent_tag sent_word_in 0) (cut-again words) ∙ again_from 0 words h
