@@ -9,6 +9,7 @@ use Rattle.word_rules.specs.declared.rule.WordRule.{WordRule}
 use Rattle.word_rules.specs.declared.rule.WordRule.TheVariants as rules
 use lib.Chars.{codes}
 use Rattle.link_reports.specs.Lines.{count_line}
+use Rattle.run_shell.proofs.OutputNames.{from_zero}
 use Rattle.check_commands.specs.Table.{all_rules, check_text, faults_of, rule_line, rule_line_of, rule_place}
 use Rattle.check_commands.specs.Tally.{counts_of}
 
@@ -66,9 +67,6 @@ by_places told = refl
 
 counted : (told : List Fault) (f : Fault) (k : ℕ) → at (told ++ f ∷ []) k ≡ at told k + cond (rule_place f.rule == k) 1 0
 counted told f k = sum_by_push (λ (x : Fault). cond (rule_place x.rule == k) 1 0) told f
-
-from_zero : (k : ℕ) → 0 + k ≡ k
-from_zero k = omega arith
 
 pub one-more : (told : List Fault) (f : Fault) → counts_of (told ++ f ∷ []) ≡ slice_set (counts_of told) (rule_place f.rule) (slice_index (counts_of told) (rule_place f.rule) + 1)
 one-more told f =

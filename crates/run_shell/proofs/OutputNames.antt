@@ -12,7 +12,7 @@ use lib.Chars.{codes}
 use Rattle.run_shell.specs.Names.{lane_name, lane_names}
 use Rattle.run_shell.specs.Outputs.{Differ, blank, open_names}
 
-from_zero : (k : ℕ) → 0 + k ≡ k
+pub from_zero : (k : ℕ) → 0 + k ≡ k
 from_zero k = omega arith
 
 pub one_name : (x n : List ℕ) → Contains (x ∷ []) n → n ≡ x
