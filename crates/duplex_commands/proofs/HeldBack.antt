@@ -8,7 +8,7 @@ use Rattle.duplex_commands.specs.HeldBack.{IsHeldBack}
 use Rattle.duplex_commands.proofs.CapturesSent.{captures_are_sent}
 use Rattle.duplex_commands.proofs.PeaksWithin.{peaks_are_bounded}
 
-pub held_back : (files : Files) (name : List ℕ) (r : DuplexReading) (o : Outcome) → duplex_in files name ≡ Ok r → IsDuplexed r o → IsHeldBack files r o
+pub held_back : (files : Files) (name : List ℕ) (r : DuplexReading) (o : Outcome) → duplex_in files name ≡ Ok r → IsDuplexed r o → IsHeldBack r o
 held_back files name r o is (a, b, run, (setting, of, e)) = record {
   a = a;
   b = b;

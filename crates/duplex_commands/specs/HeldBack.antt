@@ -14,7 +14,7 @@ use Rattle.duplex_commands.specs.Run.{run_settings, came_on, IsRunFor, IsDuplexe
 -- The words that the ends sent in the run of what was read. The capture of each listed channel at an end has exactly the packets
 -- of the other end whose end word was sent more than `delay` slots before the end of the run, in order; and no queue of a channel
 -- that has a calendar entry was ever above the bound. That is so whatever the files hold.
-pub record IsHeldBack (files : Files) (r : DuplexReading) (o : Outcome) : Type 0 where
+pub record IsHeldBack (r : DuplexReading) (o : Outcome) : Type 0 where
   pub a : List Word
   pub b : List Word
   pub run : IsRunFor r a b
@@ -29,4 +29,4 @@ pub record IsHeldBack (files : Files) (r : DuplexReading) (o : Outcome) : Type 0
       × (peak (run_settings r.settings) a channel r.settings.slots ≤ peak_bound (run_settings r.settings) run.ends (calendar_words run.ends))
 
 abbrev pub EndsHoldBack : Type 0
-EndsHoldBack = (files : Files) (name : List ℕ) (r : DuplexReading) (o : Outcome) → duplex_in files name ≡ Ok r → IsDuplexed r o → IsHeldBack files r o
+EndsHoldBack = (files : Files) (name : List ℕ) (r : DuplexReading) (o : Outcome) → duplex_in files name ≡ Ok r → IsDuplexed r o → IsHeldBack r o

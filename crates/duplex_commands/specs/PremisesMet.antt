@@ -62,4 +62,4 @@ pub record TwoEndsMeet : Type 0 where
   pub read : duplex_in two_ends_files settings_name ≡ Ok two_ends_reading
   pub outcome : Outcome
   pub made : IsDuplexed two_ends_reading outcome
-  pub held : IsHeldBack two_ends_files two_ends_reading outcome
+  pub held : IsHeldBack two_ends_reading outcome

@@ -43,7 +43,7 @@ module _ (words : List (List ℕ)) (status : Status) (u : Files) (x y : Option F
 
   holds_at : HoldsBack words u status x y
   holds_at name i asks is answer =
-      answers (IsHeldBack u i) words u status x y found settled answer (λ o of. held_back u name i o is (made_of (duplex_work name) u i o is (asked_for words (Duplex name) u o asks of)))
+      answers (IsHeldBack i) words u status x y found settled answer (λ o of. held_back u name i o is (made_of (duplex_work name) u i o is (asked_for words (Duplex name) u o asks of)))
 
 module _ (words : List (List ℕ)) (status : Status) (x y : Option Files) (found : IfSome x (λ files. IsAnswer status → Found (OutcomeOf words files) status)) (settled : IfSome x (λ files. (o : Outcome) → OutcomeOf words files o → Settles o status x y)) where
   pub run_resends : IfSome x (λ files. ResendsInOrder words files status x y)

@@ -36,4 +36,4 @@ ReadsStatus words files status old new = (name : List ℕ) (i : SamplesReading) 
 -- queue of a channel that has a calendar entry was ever above the bound.
 abbrev pub HoldsBack : List (List ℕ) → Files → Status → Option Files → Option Files → Type 0
 HoldsBack words files status old new = (name : List ℕ) (i : DuplexReading) →
-    request_of words ≡ Some (Duplex name) → duplex_in files name ≡ Ok i → IsAnswer status → Answers (IsHeldBack files i) words files status old new
+    request_of words ≡ Some (Duplex name) → duplex_in files name ≡ Ok i → IsAnswer status → Answers (IsHeldBack i) words files status old new
