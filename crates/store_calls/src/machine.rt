@@ -57,8 +57,8 @@ fn tell_file(rt: &HostRuntime) -> io::Result<()> {
 fn tell_again(rt: &HostRuntime) -> io::Result<()> {
     let mut store = HostStore::new(rt);
     let mut buf = [0; 8];
-    let behind = store.read_at(NAME, 9, &mut buf);
-    println!(rt; "the file from 9: read {behind:?}")?;
+    let past = store.read_at(NAME, 9, &mut buf);
+    println!(rt; "the file from 9: read {past:?}")?;
     let again = store.create(NAME);
     println!(rt;
         "the file created again: {again:?}, {} bytes",
