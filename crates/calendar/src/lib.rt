@@ -7,4 +7,4 @@ mod worded;
 
 pub use incoming::CalendarIn;
 pub use outgoing::CalendarOut;
-pub use worded::flow_word;
+pub use worded::{flow_word, valid_word};

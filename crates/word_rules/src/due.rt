@@ -102,7 +102,7 @@ impl Due {
             .is_some_and(|number| has_zero_past_last(entries, word, number))
     }
 
-    /// Whether a Control word breaks `calendar`, where the calendar has so many entries.
+    /// Whether a Control word breaks `calendar`, where the calendar has this many entries.
     pub fn breaks_calendar(self, entries: u64, word: ControlWord) -> bool
         requires few { entries < 2 ^ 32 }
         requires small { IfSome self.after_reset (λ n. n < 2 ^ 58) }

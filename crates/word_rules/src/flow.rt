@@ -2,32 +2,14 @@
 ghost use Rattle.std.specs.Prelude.{◌≡◌, ◌≤◌, ◌<◌, ◌++◌, ◌∷◌, [], ℕ, List, All, IfOk, length, take, get_or, not};
 ghost use Rattle.stream_model.specs.Calendar.{is_on};
 ghost use Rattle.stream_model.specs.declared.rows.FlowRow.{FlowRow};
-ghost use Rattle.calendar.specs.Incoming.{Stands, StandsFor};
+ghost use Rattle.calendar.specs.Incoming.{Stands};
 ghost use Rattle.word_rules.specs.Flows.{InOrder, IsFlow, no_row};
 
 use arrayvec::ArrayVec;
-use calendar::CalendarIn;
-use control_words::{Control, ControlWord};
+use calendar::{CalendarIn, valid_word};
 use lk_base::OutOfMemory;
-use lk_crc::crc24_of;
 use std::alloc::Global;
 use stream_model::FlowRow;
-
-// The fields of a flow row's word, where it is valid.
-fn valid_word(word: u64) -> Option<Control>
-    ensures { StandsFor result word }
-{
-    let empty: [u64; 0] = [];
-    let control = match ControlWord(word).control() {
-        Ok(control) => control,
-        Err(_) => return None,
-    };
-    if ControlWord(word).crc() == crc24_of(&empty, word) {
-        Some(control)
-    } else {
-        None
-    }
-}
 
 // Takes the word of one row.
 fn take_row(calendar: &mut CalendarIn, row: FlowRow)

@@ -44,7 +44,7 @@ fn has_wrong_fill(end: Eop, last: u64) -> bool
     }
 }
 
-/// The bytes of a burst of so many Data words, by how the data before the word that closes it end.
+/// The bytes of a burst of this many Data words, by how the data before the word that closes it end.
 pub fn burst_bytes(size: u64, end: Eop) -> u64
     requires { size < 2 ^ 60 }
     ensures { result ≡ burst_bytes size end }

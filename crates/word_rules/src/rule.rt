@@ -35,7 +35,7 @@ pub enum WordRule {
     Open,
     /// A burst on a channel that is not listed.
     Channel,
-    /// A packet of more bytes than the most.
+    /// A packet of more bytes than `max_packet`.
     Long,
     /// An idle with bits that no idle has.
     Idle,
