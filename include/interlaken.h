@@ -24,7 +24,7 @@ extern "C" {
 #endif
 
 /* The version of these calls. The shared library has the first number in its name. */
-#define INTERLAKEN_VERSION "1.1.0"
+#define INTERLAKEN_VERSION "1.2.0"
 
 /* The results of calls. */
 enum interlaken_result {
@@ -183,6 +183,12 @@ uint32_t interlaken_receiver_report(interlaken_receiver *receiver, uint32_t lane
  * of enum interlaken_lane_state. The lane is in a declared lock where its report has more locks than lost ones.
  * Results: DONE, NO_LANE, NO_RECEIVER; the state is INTERLAKEN_LANE_SEARCHING where it is not DONE. */
 uint32_t interlaken_receiver_lane_state(interlaken_receiver *receiver, uint32_t lane, uint32_t *state);
+
+/* Writes whether the far end lets packets be sent on a channel, 1 or 0, by the control words that `next` gave as INTERLAKEN_FLOW and the
+ * plan's calendar. A channel is on until an entry turns it off, also one that has no entry. After a fault span, in which words may be
+ * missing, no word counts up to the next with Reset Calendar.
+ * Results: DONE, NO_RECEIVER; `on` is 0 where it is not DONE. */
+uint32_t interlaken_receiver_is_on(interlaken_receiver *receiver, uint16_t channel, uint32_t *on);
 
 #ifdef __cplusplus
 }

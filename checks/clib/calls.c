@@ -78,6 +78,7 @@ static uint32_t below(uint32_t bound) {
 struct known {
   interlaken_receiver receiver;
   int has, lends, over[2], ended;
+  int off[2]; /* channels 1 and 2, the entries of the calendar, by the control words that came */
   uint32_t length;
   uint8_t packet[LONGEST]; /* the last packet, read as a whole after `next` */
   size_t fed[2];
@@ -140,6 +141,7 @@ static void try_next(struct known *k) {
   want("end", event.kind != INTERLAKEN_ENDED || (k->over[0] && k->over[1] && !k->ended));
   want("none after the end", !k->ended || event.kind == INTERLAKEN_NONE);
   if (event.kind == INTERLAKEN_ENDED) k->ended = 1;
+  if (event.kind == INTERLAKEN_FLOW && (event.word >> 56 & 1) != 0) k->off[0] = !(event.word >> 55 & 1), k->off[1] = !(event.word >> 54 & 1);
   k->lends = event.kind == INTERLAKEN_PACKET;
   k->length = event.length;
   if (k->lends) {
@@ -182,6 +184,15 @@ static void try_state(struct known *k) {
   want("a declared lock", (found == INTERLAKEN_LANE_DECLARED) == (report.locks > report.lost));
 }
 
+/* A word of this calendar has all its entries, so each with Reset Calendar tells of both channels, and no other of any. */
+static void try_channel(struct known *k) {
+  uint32_t on = 99, result;
+  uint16_t channel = (uint16_t)(below(10) == 0 ? 0xffff : below(4));
+  result = interlaken_receiver_is_on(&k->receiver, channel, &on);
+  want("channel", result == (uint32_t)(k->has ? INTERLAKEN_DONE : INTERLAKEN_NO_RECEIVER));
+  want("on", on == (uint32_t)(k->has && !((channel == 1 && k->off[0]) || (channel == 2 && k->off[1]))));
+}
+
 static void sequence(void) {
   struct known two[2] = {absent, absent};
   uint32_t calls = 20 + below(200);
@@ -195,6 +206,7 @@ static void sequence(void) {
       case 4: case 5: case 6: try_read(k); break;
       case 7: case 8: try_report(k); break;
       case 9: case 10: try_state(k); break;
+      case 11: case 12: try_channel(k); break;
       default: if (below(2)) try_feed(k); else try_next(k); break;
     }
     want("no allocation after new", allocations == before);

@@ -225,6 +225,7 @@ _CALLS = {
     "read": (_handle, _u32, ctypes.c_char_p, _size, ctypes.POINTER(_size)),
     "report": (_handle, _u32, ctypes.POINTER(_Report)),
     "lane_state": (_handle, _u32, ctypes.POINTER(_u32)),
+    "is_on": (_handle, ctypes.c_uint16, ctypes.POINTER(_u32)),
 }
 
 
@@ -336,3 +337,11 @@ class Receiver:
         state = _u32()
         self._call("lane_state", _lane(lane), state)
         return LaneState(state.value)
+
+    def is_on(self, channel: int) -> bool:
+        """Whether the far end lets packets be sent on a channel, 0 to 65,535, by the control words that were given as Flow."""
+        if not 0 <= channel <= 0xFFFF:
+            raise ValueError("no channel number: %d" % channel)
+        on = _u32()
+        self._call("is_on", channel, on)
+        return bool(on.value)

@@ -10,7 +10,7 @@ use Rattle.rx_end.specs.declared.event.RxEvent.TheVariants as events
 use Rattle.rx_end.specs.Standing.{GivesEvent, Stands, event_of}
 use Rattle.rx_end.specs.States.{State}
 use Rattle.rx_end.proofs.Pieces.{given_come_first}
-use Rattle.interlaken_c.specs.Calls.{IsRead, KeepsPacket}
+use Rattle.interlaken_c.specs.Calls.{IsRead, KeepsGiven}
 use Rattle.interlaken_c.specs.CallsLaw.{AreCalls, AreOthers, Call, Feed, Finish, Next, Look, CallsGiveFirst, IsReadOf, Leads, ReadsThePacket, fed_after, given_after}
 use Rattle.interlaken_c.specs.declared.misuse.Misuse.{Misuse}
 use Rattle.interlaken_c.specs.declared.session.Session.{Session}
@@ -48,13 +48,13 @@ calls_give_first plan setting s t calls fed given all lanes is unfed are begins 
 
 -- ---- the packet that was given last
 
-unchanged : (s t : Session) → t ≡ s → KeepsPacket s t
-unchanged s t same = record { bytes = ap (λ (v : Session). v.receiver.reassembly) same; lends = ap (λ (v : Session). v.lends) same }
+unchanged : (s t : Session) → t ≡ s → KeepsGiven s t
+unchanged s t same = record { bytes = ap (λ (v : Session). v.receiver.reassembly) same; lends = ap (λ (v : Session). v.lends) same; far = ap (λ (v : Session). v.far) same }
 
-kept_on : (s u t : Session) → KeepsPacket s u → KeepsPacket u t → KeepsPacket s t
-kept_on s u t first second = record { bytes = second.bytes ∙ first.bytes; lends = second.lends ∙ first.lends }
+kept_on : (s u t : Session) → KeepsGiven s u → KeepsGiven u t → KeepsGiven s t
+kept_on s u t first second = record { bytes = second.bytes ∙ first.bytes; lends = second.lends ∙ first.lends; far = second.far ∙ first.far }
 
-packet_stays : (calls : List Call) (s t : Session) → AreOthers s calls t → KeepsPacket s t
+packet_stays : (calls : List Call) (s t : Session) → AreOthers s calls t → KeepsGiven s t
 packet_stays [] s t others = unchanged s t (sym others)
 packet_stays (Feed lane piece (Ok n) ∷ calls) s t others = kept_on s others.0 t others.1.3 (packet_stays calls others.0 t others.2)
 packet_stays (Feed lane piece (Err why) ∷ calls) s t others = kept_on s others.0 t (unchanged s others.0 others.1.1) (packet_stays calls others.0 t others.2)
@@ -63,7 +63,7 @@ packet_stays (Finish lane (Err why) ∷ calls) s t others = kept_on s others.0 t
 packet_stays (Next answer ∷ calls) s t others = absurd others
 packet_stays (Look ∷ calls) s t others = kept_on s others.0 t (unchanged s others.0 others.1) (packet_stays calls others.0 t others.2)
 
-read_of : (t u : Session) (offset : ℕ) (old new : List ℕ) (answer : Result ℕ Misuse) → t.lends ≡ true → KeepsPacket t u → IsRead u offset old new answer → IsReadOf t.receiver.reassembly.packet offset old new answer
+read_of : (t u : Session) (offset : ℕ) (old new : List ℕ) (answer : Result ℕ Misuse) → t.lends ≡ true → KeepsGiven t u → IsRead u offset old new answer → IsReadOf t.receiver.reassembly.packet offset old new answer
 read_of t u offset old new (Err why) lends keeps read = absurd (true≢false (sym lends ∙ sym keeps.lends ∙ read.0))
 read_of t u offset old new (Ok n) lends keeps read = subst (λ r. IsReadOf r.packet offset old new (Ok n)) keeps.bytes (n, refl, read.1, read.2)
 

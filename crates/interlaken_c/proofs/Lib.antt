@@ -1,3 +1,4 @@
 mod AsBox
 mod Feeding
 mod Following
+mod Hearing

@@ -1,5 +1,5 @@
 -- The law on any calls on a receiver, in any order.
-use Rattle.std.specs.Prelude.{ℕ, ◌≡◌, ◌++◌, List, [], ◌∷◌, length, min, take, drop, ◌-◌, Option, Some, None, Result, Ok, Err}
+use Rattle.std.specs.Prelude.{ℕ, ◌≡◌, ◌++◌, Bool, List, [], ◌∷◌, length, min, take, drop, ◌-◌, Option, Some, None, Result, Ok, Err}
 use Rattle.link_plan.specs.Listing.{numbers_of}
 use Rattle.link_plan.specs.declared.plan.Plan.{Plan}
 use Rattle.receive_model.specs.Events.{Event, Setting}
@@ -11,7 +11,8 @@ use Rattle.lk_base.specs.declared.position.Pos.{Pos}
 use Rattle.rx_end.specs.declared.event.RxEvent.{RxEvent}
 use Rattle.rx_end.specs.declared.event.RxEvent.TheVariants as events
 use Rattle.rx_end.specs.Standing.{IsUnfed, event_of}
-use Rattle.interlaken_c.specs.Calls.{IsFeed, IsFinish, IsNextOf, IsRead}
+use Rattle.interlaken_c.specs.Calls.{IsChannelState, IsFeed, IsFinish, IsNextOf, IsRead}
+use Rattle.interlaken_c.specs.FarEnd.{HasHeard, is_on_by}
 use Rattle.interlaken_c.specs.declared.misuse.Misuse.{Misuse}
 use Rattle.interlaken_c.specs.declared.session.Session.{Session}
 
@@ -78,3 +79,8 @@ abbrev pub ReadsThePacket : Type 0
 ReadsThePacket = (s t u : Session) (channel count : ℕ) (first last : Pos) (calls : List Call) (offset : ℕ) (old new : List ℕ) (answer : Result ℕ Misuse) →
     Leads (Next (Some (events.Packet channel count first last))) s t → AreOthers t calls u → IsRead u offset old new answer →
     IsReadOf t.receiver.reassembly.packet offset old new answer
+
+-- After any calls a channel of the far end is on by the events that were given: by the words and the spans among them
+abbrev pub ChannelsAreHeard : Type 0
+ChannelsAreHeard = (entries : List ℕ) (s t : Session) (calls : List Call) (fed fed' : List Fed) (given : List Event) (channel : ℕ) (on : Bool) →
+    HasHeard s.far entries [] → AreCalls s fed [] calls t fed' given → IsChannelState t channel on → on ≡ is_on_by entries given channel

@@ -1,9 +1,10 @@
 -- What a call does by a handle.
-use Rattle.std.specs.Prelude.{ℕ, ◌≡◌, List, Option, Some, None, Result, Ok, Err}
+use Rattle.std.specs.Prelude.{ℕ, ◌≡◌, Bool, List, Option, Some, None, Result, Ok, Err}
+use Rattle.lk_base.specs.Checksum.{digit}
 use Rattle.lock_model.specs.declared.types.LaneReport.{LaneReport}
 use Rattle.lock_model.specs.declared.types.LaneState.{LaneState}
 use Rattle.rx_end.specs.declared.event.RxEvent.{RxEvent}
-use Rattle.interlaken_c.specs.Calls.{IsFeed, IsFinish, IsLaneState, IsNextOf, IsRead, IsReport}
+use Rattle.interlaken_c.specs.Calls.{IsChannelState, IsFeed, IsFinish, IsLaneState, IsNextOf, IsRead, IsReport}
 use Rattle.plan_errors.specs.declared.error.PlanError.{PlanError}
 use Rattle.plan_errors.specs.declared.error.PlanError.TheVariants as errors
 use Rattle.interlaken_c.specs.Codes.{bad_plan, code_of, done, in_use, no_receiver, out_of_memory, state_code}
@@ -86,3 +87,8 @@ Reports old new lane code report =
 abbrev pub TellsState : Option Session → Option Session → ℕ → ℕ → ℕ → Type 0
 TellsState old new lane code state =
     OnSession ((code ≡ no_receiver) × (state ≡ 0)) (λ s t. (result : Result LaneState Misuse) × IsLaneState s lane result × GivesState result code state × (t ≡ s)) old new
+
+-- 1 where the channel is on, else 0; 0 where there is no receiver
+abbrev pub TellsChannel : Option Session → Option Session → ℕ → ℕ → ℕ → Type 0
+TellsChannel old new channel code on =
+    OnSession ((code ≡ no_receiver) × (on ≡ 0)) (λ s t. (result : Bool) × IsChannelState s channel result × (code ≡ done) × (on ≡ digit result) × (t ≡ s)) old new

@@ -1,6 +1,7 @@
 pub mod Calls
 pub mod CallsLaw
 pub mod Codes
+pub mod FarEnd
 pub mod Held
 pub mod Misuses
 pub mod Opens

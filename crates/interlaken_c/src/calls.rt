@@ -1,6 +1,6 @@
 //! The calls on a receiver.
 ghost use Rattle.std.specs.Prelude.{◌≡◌, IfOk, IfErr};
-ghost use Rattle.interlaken_c.specs.Held.{Feeds, Finishes, Frees, GivesCode, GivesCount, GivesEvent, GivesReport, GivesState, Makes, Reads, Reports, TellsState, refused_code};
+ghost use Rattle.interlaken_c.specs.Held.{Feeds, Finishes, Frees, GivesCode, GivesCount, GivesEvent, GivesReport, GivesState, Makes, Reads, Reports, TellsChannel, TellsState, refused_code};
 ghost use Rattle.interlaken_c.specs.Reports.{no_report};
 ghost use Rattle.interlaken_c.specs.Opens.{IsOfPlan, IsRefused};
 
@@ -255,4 +255,24 @@ pub extern "C" fn interlaken_receiver_lane_state(
     let answer = session.lane_state(lane);
     receiver.put(session);
     told(answer, state)
+}
+
+/// Writes whether the far end's channel is on, 1 or 0, by the control words that `next` gave. It is `DONE` or `NO_RECEIVER`.
+#[unsafe(no_mangle)]
+pub extern "C" fn interlaken_receiver_is_on(
+    alloc: Global,
+    receiver: &mut ReceiverHandle,
+    channel: u16,
+    on: &mut u32,
+) -> u32
+    ensures { TellsChannel receiver.old.at.session receiver.new.at.session channel result on.new }
+{
+    *on = 0;
+    let Some(session) = receiver.take(alloc) else {
+        return NO_RECEIVER;
+    };
+    let state = session.is_on(channel);
+    receiver.put(session);
+    *on = state as u32;
+    DONE
 }

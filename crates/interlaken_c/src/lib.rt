@@ -4,6 +4,7 @@
 mod calls;
 mod codes;
 mod event;
+mod far_end;
 mod handle;
 pub mod laws;
 mod misuse;

@@ -1,22 +1,26 @@
 //! What C holds: a receiver, with what it must know to answer for any call.
-ghost use Rattle.std.specs.Prelude.{◌≡◌, true, false, None, IfOk, length, replicate};
+ghost use Rattle.std.specs.Prelude.{◌≡◌, true, false, None, [], IfOk, length, replicate};
+ghost use Rattle.interlaken_c.specs.FarEnd.{HasHeard};
 ghost use Rattle.interlaken_c.specs.Misuses.{feed_misuse, lane_misuse};
 ghost use Rattle.interlaken_c.specs.Runs.{Runs, is_lent};
 ghost use Rattle.rx_end.specs.Standing.{IsUnfed};
 
+use crate::far_end::FarEnd;
 use crate::misuse::{self, Misuse};
 use link_plan::Plan;
 use lk_base::OutOfMemory;
 use rx_end::{LaneReport, LaneState, Receiver, RxEvent};
 use std::alloc::Global;
 
-/// A receiver, which lanes of it are finished, how many bytes each was fed, and whether the last event was a packet.
+/// A receiver, which lanes of it are finished, how many bytes each was fed, whether the last event was a packet, and what the far end
+/// tells of its channels.
 #[derive(Drop)]
 pub struct Session {
     pub receiver: Receiver,
     finished: Vec<bool>,
     fed: Vec<usize>,
     pub lends: bool,
+    pub far: FarEnd,
     ghost runs: { ∥ Runs receiver finished.items fed.items ∥₁ },
     ghost lent: { ∥ (lends ≡ true → receiver.reassembly.lending ≡ true) ∥₁ },
 }
@@ -38,21 +42,24 @@ fn none_fed(alloc: Global, lanes: usize) -> Result<Vec<usize>, OutOfMemory>
 }
 
 impl Session {
-    ghost use Rattle.interlaken_c.specs.Calls.{IsFeed, IsFinish, IsLaneState, IsNextOf, IsRead, IsReport};
+    ghost use Rattle.interlaken_c.specs.Calls.{IsChannelState, IsFeed, IsFinish, IsLaneState, IsNextOf, IsRead, IsReport};
 
     /// A receiver of a plan's lanes to which nothing was fed.
     pub fn new(alloc: Global, plan: &Plan) -> Result<Session, OutOfMemory>
-        ensures { IfOk result (λ s. IsUnfed plan.now s.receiver) }
+        ensures unfed { IfOk result (λ s. IsUnfed plan.now s.receiver) }
+        ensures unheard { IfOk result (λ s. HasHeard s.far plan.now.entries.items []) }
     {
         let lanes = plan.link.lanes() as usize;
         let finished = none_finished(alloc, lanes)?;
         let fed = none_fed(alloc, lanes)?;
+        let far = FarEnd::new(alloc, &plan.entries)?;
         let receiver = Receiver::new(alloc, plan)?;
         Ok(Session {
             receiver,
             finished,
             fed,
             lends: false,
+            far,
         })
     }
 
@@ -121,6 +128,7 @@ impl Session {
     {
         let event = self.receiver.next();
         self.lends = is_lent(event);
+        self.far.hear(event);
         event
     }
 
@@ -152,6 +160,13 @@ impl Session {
             return Err(Misuse::NoLane);
         }
         Ok(self.receiver.lane_state(lane))
+    }
+
+    /// Whether the far end lets packets be sent on a channel, by the control words that were given.
+    pub fn is_on(&self, channel: u16) -> bool
+        ensures { IsChannelState self.now channel result }
+    {
+        self.far.is_on(channel)
     }
 }
 
