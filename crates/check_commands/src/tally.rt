@@ -103,7 +103,7 @@ fn put_rule(
     Ok(())
 }
 
-// Puts the lines of these rules after a text, of which each has so many faults.
+// Puts the lines of these rules after a text; `counts` has the faults of each.
 fn put_rules(
     alloc: Global,
     text: &mut Vec<u8>,

@@ -131,6 +131,7 @@ pub fn read_line<'w>(alloc: Global, words: &'w [String]) -> Result<CommandLine<'
         Ok(matches) => Ok(found_in(&matches)),
         Err(error) => match error.kind() {
             ErrorKind::OutOfMemory => Err(OutOfMemory),
+            // The words are accepted.
             _ => unreachable!(),
         },
     }

@@ -89,7 +89,7 @@ impl AccidentWatch {
         }
     }
 
-    // Takes the next word, which stands at this place and this slot, if at one, and counts the stretch that ends with it, where it
+    // Takes the next word, which stands at this place and this slot, if it has one, and counts the stretch that ends with it, where it
     // passes and is no sent one.
     fn word(&mut self, sent: &WordList, slot: Option<usize>, at: Pos, word: RxWord)
         requires slot { IfSome slot (λ n. n < length sent.now) }
@@ -102,7 +102,7 @@ impl AccidentWatch {
         }
     }
 
-    // Takes words that stand one after another in a group of which `room` words are left, the first of them at this slot, if at one, as
+    // Takes words that stand one after another in a group of which `room` words are left, the first of them at this slot, if it has one, as
     // long as they are data words with which the stretch goes on as sent. Returns how many.
     fn run(&mut self, sent: &WordList, slot: Option<usize>, room: u64, words: &[RxWord]) -> usize
         requires slot { IfSome slot (λ n. n < length sent.now) }

@@ -63,6 +63,7 @@ fn append(bytes: &mut Vec<u8>, more: &[u8])
 {
     match bytes.extend_from_slice(more) {
         Ok(()) => {}
+        // There is room.
         Err(_) => unreachable!(),
     }
 }

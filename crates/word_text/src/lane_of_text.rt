@@ -95,7 +95,8 @@ fn put_last(
     for _byte in 0..(waiting + rest.count) / 8 {
         match writer.take() {
             Some(byte) => put_byte(bytes, byte)?,
-            None => return Ok(()),
+            // At least these bits wait.
+            None => unreachable!(),
         }
     }
     Ok(())

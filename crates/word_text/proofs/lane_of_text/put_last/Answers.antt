@@ -17,13 +17,10 @@ returns-in_err-put_byte-in-Some-clause-kept c =
 never : (left waiting count byte : ℕ) → waiting < 8 → count < 67 → left + 8 * byte ≡ waiting + 67 → byte < (waiting + count) / 8 → left < 8 → ⊥
 never left waiting count byte h k e f g = omega arith
 
-pub returns-in-None-clause-bits : goal.returns-in-None-clause-bits
-returns-in-None-clause-bits c =
+pub unreachable-requires : goal.unreachable-requires
+unreachable-requires c =
     let few = (c.in-None.ensures {u = tt}).none.0 cc in
     absurd (never _ c.args.waiting c.args.rest.now.count c.loop-byte._byte c.requires.few c.requires.count c.loop-byte.invariant.left c.loop-byte-test.true few)
-
-pub returns-in-None-clause-kept : goal.returns-in-None-clause-kept
-returns-in-None-clause-kept c = kept-put c.args.bytes.now.items c.loop-byte.invariant.taken.more c.loop-byte.bytes.items c.loop-byte.invariant.taken.put
 
 pub loop-byte-preserved : goal.loop-byte-preserved
 loop-byte-preserved c =
