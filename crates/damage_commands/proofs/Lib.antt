@@ -1,0 +1,11 @@
+-- What other crates cite.
+pub mod Damages
+-- What this crate alone cites.
+mod Bytes
+mod Differing
+mod NoneStruck
+mod Zeros
+mod Arrived
+mod LanesRead
+mod Writing
+mod Sending
