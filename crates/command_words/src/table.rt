@@ -36,6 +36,8 @@ pub enum Name {
     Resend,
     /// The words file of a plan becomes lane files.
     Stripe,
+    /// The schedule of a plan is applied to its lanes.
+    Damage,
     /// The words file of a plan is judged by the rules of a sender.
     Check,
     /// A words file or a lane file becomes its listing.
@@ -109,6 +111,11 @@ static ROWS: &[Row] = &[
     Row {
         word: "stripe",
         command: Name::Stripe,
+        rule: Rule::File,
+    },
+    Row {
+        word: "damage",
+        command: Name::Damage,
         rule: Rule::File,
     },
     Row {

@@ -6,6 +6,7 @@ ghost use Rattle.command_words.specs.CommandLine.{words_of};
 use case_commands::GenerateCase;
 use check_commands::Check;
 use command_words::{Arguments, CommandLine, Name, arguments_of, line_of, read_line, row_in, rows};
+use damage_commands::Damage;
 use duplex_commands::DuplexFile;
 use join_commands::{JoinPlan, JoinWords};
 use lane_commands::Stripe;
@@ -50,6 +51,8 @@ pub enum Request<'w> {
     Resend(WithFile<'w, ResendPlan>),
     /// The words file of a plan becomes lane files.
     Stripe(WithFile<'w, Stripe>),
+    /// The schedule of a plan is applied to its lanes.
+    Damage(WithFile<'w, Damage>),
     /// The words file of a plan is judged by the rules of a sender.
     Check(WithFile<'w, Check>),
     /// A words file or a lane file becomes its listing.
@@ -78,6 +81,7 @@ impl Command for Request<'_> {
             Request::OobRead(read) => read.obey(alloc, store),
             Request::Resend(resend) => resend.obey(alloc, store),
             Request::Stripe(stripe) => stripe.obey(alloc, store),
+            Request::Damage(damage) => damage.obey(alloc, store),
             Request::Check(check) => check.obey(alloc, store),
             Request::ListFile(list) => list.obey(alloc, store),
             Request::AssembleText(assemble) => assemble.obey(alloc, store),
@@ -131,6 +135,7 @@ fn request_for<'w>(command: Name, arguments: &Arguments<'w>) -> Request<'w>
         Name::OobRead => Request::OobRead(WithFile::new(arguments.file)),
         Name::Resend => Request::Resend(WithFile::new(arguments.file)),
         Name::Stripe => Request::Stripe(WithFile::new(arguments.file)),
+        Name::Damage => Request::Damage(WithFile::new(arguments.file)),
         Name::Check => Request::Check(WithFile::new(arguments.file)),
         Name::List => Request::ListFile(WithFile::new(arguments.file)),
         Name::Assemble => Request::AssembleText(WithFile::new(arguments.file)),
