@@ -1,0 +1,50 @@
+-- The events of some bytes are found one byte after another.
+use Rattle.std.proofs.Common.{ℕ, ◌≡◌, sym, ap, ◌∙◌, subst, ◌+◌, ◌<◌, ◌≤◌, Bool, List, [], ◌∷◌, ◌++◌, length, filter, take, get_or, arith, append_assoc}
+use Rattle.std.proofs.lemmas.List.{append-nil, length-append, length-map, take_all, take_more}
+use Rattle.std.proofs.lemmas.List.Sums.{count_by-le-length, length-filter}
+use Rattle.lk_base.specs.Checksum.{bits_of, bits_of_bytes}
+use Rattle.lk_base.specs.Link.{Settings}
+use Rattle.lk_base.proofs.Bits.{bits-byte}
+use Rattle.lane_events.specs.declared.types.LaneEvent.{LaneEvent}
+use Rattle.lane_events.specs.declared.word_events.WordEvents.{WordEvents}
+use Rattle.lane_events.specs.Events.{AreLaneEvents, all_kinds}
+use Rattle.lane_events.specs.Inspection.{Finds, Inspects, InspectorView, event_of, events_in, has_kind}
+
+-- a word has at most twelve events
+few_events : (w : WordEvents) → length (events_in w) ≤ 12
+few_events w =
+    let a = length-map (filter (has_kind w) all_kinds) (event_of w.bit) in
+    let b = length-filter (has_kind w) all_kinds in
+    let c = count_by-le-length (has_kind w) all_kinds in
+    omega (arith, a, b, c)
+
+pub few_appended : (w : WordEvents) (old new : List LaneEvent) → new ≡ old ++ events_in w → length new ≤ length old + 12
+few_appended w old new e = let f = few_events w in let l = length-append old (events_in w) in let g = ap length e in omega (arith, f, l, g)
+
+-- before the first byte
+pub found_none : (v : InspectorView) (bytes : List ℕ) (before : List LaneEvent) → Finds v v (bits_of_bytes (take 0 bytes)) before before
+found_none v bytes before s bits given k are =
+    let nil = append-nil bits in
+    (subst (λ (bs : List Bool). Inspects v s bs) (sym nil) k, subst (λ (bs : List Bool). AreLaneEvents s bs (given ++ before)) (sym nil) are)
+
+-- a byte more
+pub found_more : (v u w : InspectorView) (bytes : List ℕ) (i byte : ℕ) (word : WordEvents) (before now after : List LaneEvent) → i < length bytes → byte ≡ get_or bytes i 0 →
+    Finds v u (bits_of_bytes (take i bytes)) before now →
+    ((s : Settings) (bits : List Bool) → Inspects u s bits → Inspects w s (bits ++ bits_of 8 byte)) →
+    ((s : Settings) (bits : List Bool) (events : List LaneEvent) → Inspects u s bits → AreLaneEvents s bits events → AreLaneEvents s (bits ++ bits_of 8 byte) (events ++ events_in word)) →
+    after ≡ now ++ events_in word → Finds v w (bits_of_bytes (take (i + 1) bytes)) before after
+found_more v u w bytes i byte word before now after lt is finds inspects events e s bits given k are =
+    let cut : bits ++ bits_of_bytes (take (i + 1) bytes) ≡ (bits ++ bits_of_bytes (take i bytes)) ++ bits_of 8 byte =
+    ap (λ bs. bits ++ bits_of_bytes bs) (take_more bytes i 0 lt ∙ ap (λ b. take i bytes ++ b ∷ []) (sym is)) ∙ ap (λ bs. bits ++ bs) (bits-byte (take i bytes) byte)
+    ∙ sym (append_assoc bits (bits_of_bytes (take i bytes)) (bits_of 8 byte)) in
+    let front = finds s bits given k are in (
+      subst (λ (bs : List Bool). Inspects w s bs) (sym cut) (inspects s (bits ++ bits_of_bytes (take i bytes)) front.0),
+      subst (λ (bs : List Bool). AreLaneEvents s bs (given ++ after)) (sym cut)
+          (subst (λ (es : List LaneEvent). AreLaneEvents s ((bits ++ bits_of_bytes (take i bytes)) ++ bits_of 8 byte) es) (append_assoc given now (events_in word) ∙ ap (λ es. given ++ es) (sym e))
+          (events s (bits ++ bits_of_bytes (take i bytes)) (given ++ now) front.0 front.1)),
+    )
+
+-- all bytes
+pub found_all : (v w : InspectorView) (bytes : List ℕ) (i : ℕ) (before after : List LaneEvent) → length bytes ≤ i → Finds v w (bits_of_bytes (take i bytes)) before after →
+    Finds v w (bits_of_bytes bytes) before after
+found_all v w bytes i before after le finds = subst (λ (bs : List ℕ). Finds v w (bits_of_bytes bs) before after) (take_all i bytes le) finds

@@ -1,0 +1,15 @@
+mod EventsHold
+mod Local
+mod OneMore
+mod Grow
+mod AllGrow
+mod Counts
+mod Rise
+mod WorkedEventsHold
+mod LastBits
+mod Telling
+mod Balances
+mod Walking
+mod Inspecting
+mod Appending
+mod SendersBalance

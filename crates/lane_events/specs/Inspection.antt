@@ -1,0 +1,93 @@
+-- What an inspector keeps of the bits of a lane.
+use Rattle.std.specs.Prelude.{ℕ, ℤ, ◌≡◌, ◌≤◌, ◌+◌, ◌*◌, ◌/◌, ◌%◌, ◌^◌, Bool, List, [], ◌∷◌, ◌++◌, length, map, filter, Option, Some, None, is_some, if◌then◌else◌}
+use Rattle.std.specs.List.{list_any, range_with_len}
+use Rattle.std.specs.Int.Count.{ones_in}
+use Rattle.lk_base.specs.Link.{Settings}
+use Rattle.lane_model.specs.Bits.{high_number}
+use Rattle.lane_model.specs.Coding.{disparity, excess}
+use Rattle.lock_model.specs.declared.types.LaneReport.{LaneReport}
+use Rattle.lock_model.specs.declared.types.LaneStep.{LaneStep}
+use Rattle.lock_model.specs.Locks.{Attempt, AreAttempts, code_at}
+use Rattle.lock_model.specs.Received.{Lock, lock_of}
+use Rattle.lane_lock.specs.Lane.{LaneView}
+use Rattle.lane_lock.specs.Standing.{Stands}
+use Rattle.lane_events.specs.declared.types.EventKind.{EventKind}
+use Rattle.lane_events.specs.declared.types.EventKind.TheVariants as kinds
+use Rattle.lane_events.specs.declared.types.LaneEvent.{LaneEvent}
+use Rattle.lane_events.specs.declared.word_events.WordEvents.{WordEvents}
+use Rattle.lane_events.specs.Events.{AreLaneEvents, all_kinds, is_unbalanced}
+use Rattle.lane_events.specs.Steps.{balance_before, balance_behind, told, unbalances}
+
+-- ---- the events of one word
+
+-- the word has an event of this kind
+abbrev pub has_kind : WordEvents → EventKind → Bool
+has_kind w kinds.Bad = w.bad
+has_kind w kinds.Sync = w.sync
+has_kind w kinds.State = w.state
+has_kind w kinds.Skip = w.skip
+has_kind w kinds.Diagnostic = w.diag
+has_kind w kinds.Health = w.health
+has_kind w kinds.Balance = w.balance
+has_kind w kinds.Lock = w.lock
+has_kind w kinds.LostHeaders = w.lost_headers
+has_kind w kinds.LostSync = w.lost_sync
+has_kind w kinds.LostState = w.lost_state
+has_kind w kinds.Unframed = w.unframed
+
+abbrev pub event_of : ℕ → EventKind → LaneEvent
+event_of bit kind = record { bit = bit; kind = kind }
+
+-- they, in order
+abbrev pub events_in : WordEvents → List LaneEvent
+events_in w = map (event_of w.bit) (filter (has_kind w) all_kinds)
+
+-- ---- the inspector
+
+-- the lock that goes on after these attempts, if one does
+abbrev pub open_of : List Bool → List Attempt → Option Lock
+open_of bits [] = None
+open_of bits (a ∷ []) = if is_some a.lost then None else lock_of bits a
+open_of bits (a ∷ b ∷ rest) = open_of bits (b ∷ rest)
+
+-- the ones less the zeros in the codes of the first n words of the lock that is declared at this bit position, where they were never
+-- unbalanced
+abbrev pub balance_of : List Bool → ℕ → ℕ → Option ℤ
+balance_of bits at n =
+    if list_any (is_unbalanced bits at) (range_with_len 0 n) then None
+    else Some (disparity (map (λ k. code_at bits (at + 67 * k)) (range_with_len 0 n)))
+
+pub record InspectorView : Type 0 where
+  -- the locks, and how many bits came
+  pub lock : LaneView
+  pub taken : ℕ
+  -- the number of the last 128 bits
+  pub window : ℕ
+  -- the balance of the lock that goes on, if one does
+  pub balance : Option ℤ
+
+-- the balance is that of the lock that goes on, if one does, whose words are there
+abbrev pub Balances : Option ℤ → List Bool → Option Lock → Type 0
+Balances balance bits None = Unit {0}
+Balances balance bits (Some lock) = (balance ≡ balance_of bits lock.at lock.count) × (lock.at + 67 * lock.count ≤ length bits)
+
+-- an inspector was given these bits
+pub record Inspects (v : InspectorView) (s : Settings) (bits : List Bool) : Type 0 where
+  pub stands : Stands v.lock s bits
+  pub count : v.taken ≡ v.lock.taken
+  pub window : v.window ≡ high_number bits % 2 ^ 128
+  pub balances : (attempts : List Attempt) → AreAttempts s.metaframe bits attempts → Balances v.balance bits (open_of bits attempts)
+
+-- events of further bits were found: with those that were given before, they are all events of the bits so far
+abbrev pub Finds : InspectorView → InspectorView → List Bool → List LaneEvent → List LaneEvent → Type 0
+Finds v w more before after = (s : Settings) (bits : List Bool) (given : List LaneEvent) → Inspects v s bits → AreLaneEvents s bits (given ++ before) →
+    Inspects w s (bits ++ more) × AreLaneEvents s (bits ++ more) (given ++ after)
+
+-- the word of a step was told, after which this many bits came: nothing of the locks and the last bits has changed, and the events and
+-- the balance are those of the step, with these reports before and after it
+pub record IsShown (v w : InspectorView) (before after : LaneReport) (step : LaneStep) (further : ℕ) (given : WordEvents) : Type 0 where
+  pub lock : w.lock ≡ v.lock
+  pub taken : w.taken ≡ v.taken
+  pub window : w.window ≡ v.window
+  pub balance : w.balance ≡ balance_behind step (balance_before step v.balance) (excess 67 (ones_in 67 (v.window / 2 ^ further % 2 ^ 67)))
+  pub events : given ≡ told step before after (unbalances (balance_before step v.balance) w.balance)

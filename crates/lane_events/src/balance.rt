@@ -1,0 +1,41 @@
+ghost use Rattle.std.specs.Prelude.{◌≡◌, ◌<◌, ◌^◌, ◌≤ℤ◌, ◌+ℤ◌, ◌||◌, int_lt, pos, negsuc, Option, IfSome, if◌then◌else◌, Some, None};
+ghost use Rattle.std.specs.Int.Count.{ones_in};
+ghost use Rattle.lane_model.specs.Coding.{excess};
+ghost use Rattle.lane_events.specs.Balance.{balance_after, is_far_off};
+
+/// Over how many more ones than zeros, or zeros than ones, the codes of a lock are unbalanced.
+const MOST: i32 = 129;
+
+/// The ones less the zeros in a code of 67 bits.
+pub fn excess_of(code: u128) -> i32
+    requires { code < 2 ^ 67 }
+    ensures value { result ≡ excess 67 (ones_in 67 code) }
+    ensures low { negsuc 66 ≤ℤ result }
+    ensures high { result ≤ℤ pos 67 }
+{
+    2 * code.count_ones() as i32 - 67
+}
+
+/// The ones less the zeros after one code more, where they were never over 129 apart.
+pub fn balance_with(before: Option<i32>, code: u128) -> Option<i32>
+    requires code { code < 2 ^ 67 }
+    requires low { IfSome before (λ n. negsuc 128 ≤ℤ n) }
+    requires high { IfSome before (λ n. n ≤ℤ pos 129) }
+    ensures value { result ≡ balance_after before (excess 67 (ones_in 67 code)) }
+    ensures low { IfSome result (λ n. negsuc 128 ≤ℤ n) }
+    ensures high { IfSome result (λ n. n ≤ℤ pos 129) }
+{
+    match before {
+        None => None,
+        Some(n) => within(n + excess_of(code)),
+    }
+}
+
+// The same number, where it is not over 129 from 0.
+fn within(n: i32) -> Option<i32>
+    ensures value { result ≡ (if is_far_off n then None else Some n) }
+    ensures low { IfSome result (λ n. negsuc 128 ≤ℤ n) }
+    ensures high { IfSome result (λ n. n ≤ℤ pos 129) }
+{
+    if n > MOST || n < -MOST { None } else { Some(n) }
+}

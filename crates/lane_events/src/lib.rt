@@ -1,0 +1,15 @@
+//! The events of one lane: what is wrong with the words that its locks cover, and where locks are declared and lost; and an inspector that gives them as the bytes of the lane come.
+#![tactic(auto)]
+
+mod balance;
+pub mod examples;
+mod inspector;
+pub mod laws;
+mod told;
+mod types;
+mod windows;
+mod word_events;
+
+pub use inspector::LaneInspector;
+pub use types::{EventKind, LaneEvent};
+pub use word_events::WordEvents;

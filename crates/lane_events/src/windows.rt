@@ -1,0 +1,22 @@
+ghost use Rattle.std.specs.Prelude.{◌≡◌, ◌<◌, ◌≤◌, ◌+◌, ◌*◌, ◌/◌, ◌%◌, ◌^◌};
+
+use lane_model::CODE_BITS;
+
+/// The last 128 bits after this many bits more, the latest in bit 0.
+pub fn pushed(window: u128, bits: u64, count: u32) -> u128
+    requires most { count ≤ 56 }
+    requires bits { bits < 2 ^ count }
+    ensures { result ≡ (window * 2 ^ count + bits) % 2 ^ 128 }
+{
+    // The remainder is the count; with it the shift is known to be below 64.
+    window << (count % 64) | bits as u128
+}
+
+/// The code whose last bit stands before the last `after` bits.
+pub fn code_in(window: u128, after: u32) -> u128
+    requires { after ≤ 55 }
+    ensures value { result ≡ window / 2 ^ after % 2 ^ 67 }
+    ensures below { result < 2 ^ 67 }
+{
+    window >> (after % 64) & ((1 << CODE_BITS) - 1)
+}
