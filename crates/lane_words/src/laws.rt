@@ -1,0 +1,21 @@
+//! Laws on gathered words and places.
+ghost use Rattle.lane_words.specs.GatheredLaws.{CleanLanesGiveStream, WordsAreOfEpochs, WordsGrow, WorkedWords, WrittenIsRead};
+
+/// The words of more items begin with those of the first. A words file is read as the words that were written, the Bad ones among
+/// them.
+pub fn words_grow()
+    ensures grow { WordsGrow }
+    ensures read { WrittenIsRead }
+{}
+
+/// The words of all items of lanes that are over are those of the epochs of the lanes, with one Bad word between each two, and as
+/// many epochs are counted as there are. Of clean lanes they are the words of the stream from group 3 on.
+pub fn words_are_of_epochs()
+    ensures epochs { WordsAreOfEpochs }
+    ensures clean { CleanLanesGiveStream }
+{}
+
+/// Worked examples: the words of two epochs, and the words file of two words.
+pub fn worked_examples()
+    ensures { WorkedWords }
+{}

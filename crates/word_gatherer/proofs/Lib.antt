@@ -1,0 +1,6 @@
+mod Stops
+-- What this crate alone cites.
+mod Tables
+mod Examples
+mod Gathering
+mod Finishing
