@@ -41,6 +41,7 @@ COMMANDS = [
     ("burst", "the capture", ["burst", "a.pcap"]), ("join", "its words file", ["join", "a.pcap.words"]),
     ("burst", "a plan", ["burst", "a.plan"]), ("join", "a plan", ["join", "a.plan"]),
     ("send", "8 lanes", ["send", "a.plan"]), ("stripe", "8 lanes", ["stripe", "a.plan"]), ("check", "a plan", ["check", "a.plan"]),
+    ("damage", "8 lanes, one bit inverted", ["damage", "d.plan"]),
     ("receive", "8 lanes", ["receive", "a.plan"]), ("link", "8 lanes", ["link", "a.plan"]),
     ("link", "8 lanes, one bit inverted", ["link", "d.plan"]),
     ("burst", "1,000 wide channels", ["burst", "w.plan"]), ("link", "1,000 wide channels", ["link", "w.plan"]),

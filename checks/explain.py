@@ -52,7 +52,7 @@ FILES = {
     "a.plan": PLAN, "a.duplex": SETTINGS, "a.schedule": "skew,0,11\nskew,1,200\nflip,0,9000\nflip,1,3\ndark,1,2000,30\ndark,0,5,1\n",
     "a.flow": "0,81BFFF00004B8D9D\n150,81FFFF0000188177\n150,80FFFF0000000000\n", "a.local": "0,1,off\n5,2,on\n5,7,off\n40,1,on\n",
     "a.events": "send,20\ntake,10\nlose,1\nrewind,1\nsend,30\ntake,4\nrepeat,1\ntakeback,5\nloseback,1\nrepeatback,1\n"}
-CASES = (("a.plan", "link", "a.plan", 500), ("a.duplex", "duplex", "a.duplex", 120), ("a.schedule", "link", "a.plan", 120), ("a.flow", "link", "a.plan", 100), ("a.local", "link", "a.plan", 120),
+CASES = (("a.plan", "link", "a.plan", 500), ("a.duplex", "duplex", "a.duplex", 120), ("a.schedule", "link", "a.plan", 120), ("a.schedule", "damage", "a.plan", 60), ("a.flow", "link", "a.plan", 100), ("a.local", "link", "a.plan", 120),
          ("a.events", "resend", "a.plan", 100), ("a.plan", "resend", "a.plan", 30), ("a.plan", "duplex", "a.duplex", 30), ("a.plan", "oobread", "a.plan", 30))
 BYTES = (("two.pcap", "link", "a.plan", 60), ("one.pcap", "duplex", "a.duplex", 40), ("one.pcap", "burst", "one.pcap", 40), ("a.words", "join", "a.plan", 40), ("a.words", "stripe", "a.plan", 30), ("a.words", "check", "a.plan", 30), ("a.oob", "oobread", "a.plan", 40),
          ("a.words", "list", "a.words", 30))
@@ -125,6 +125,13 @@ MISTAKES = [
         "v.schedule:3: warning: dark: bits 12865 to 12866 of lane 1 are in framing words: it strikes no packet",
         "v.schedule:4: warning: flip: bit 13420 of lane 1 is in slot 347: it strikes no packet"]),
     ({}, "receive damaged.plan", []),
+    ({"s.plan": LINK.replace("out,m", "out,s") + "schedule,s.schedule\n", "s.schedule": "skew,0,11\n"}, "damage s.plan", ["s.lane.0: no such file; `interlaken send s.plan` writes it"]),
+    ({"s.lane.0": b"\x80\x01", "s.lane.1": b"", "s.schedule": "skew,0,11\nskew,1,700\nflip,0,30\nflip,0,3\nflip,0,3\ndark,0,10,9\nflip,0,11\nflip,1,0\n"}, "damage s.plan", [
+        "s.schedule:5: warning: flip: bit 3 of lane 0 is named 2 times, first in line 4, and stays as it was",
+        "s.schedule:7: warning: flip: bit 11 of lane 0 is dark, and stays 0",
+        "s.schedule:3: warning: flip: bit 30 is after the end of lane 0, which has bits 0 to 15: it strikes nothing",
+        "s.schedule:6: warning: dark: bits 10 to 18 go beyond the end of lane 0, which has bits 0 to 15: it strikes 6 bits of 9",
+        "s.schedule:8: warning: flip: bit 0 is after the end of lane 1, which has no bits: it strikes nothing"]),
     ({"x.lane.0": "damaged.lane.1", "x.lane.1": "damaged.lane.0", "x.plan": LINK.replace("out,m", "out,x")}, "receive x.plan", [
         "x.lane.0: warning: it begins with the scrambler state of lane 1: are the files of lanes exchanged?",
         "x.lane.1: warning: it begins with the scrambler state of lane 0: are the files of lanes exchanged?"]),
@@ -242,7 +249,7 @@ def check_spoiled(tally, folder, causes):
 def check_causes(tally, causes):
     """That what was tried has each cause that the program names of rows, and files that are accepted."""
     for command, wanted in (("link", ("text", "key", "fields", "number", "range", "repeat", "clash", "missing", "no", "accepted")), ("duplex", ("key", "fields", "number", "range", "repeat", "clash", "missing", "accepted")),
-                            ("resend", ("key", "fields", "number", "range"))):
+                            ("resend", ("key", "fields", "number", "range")), ("damage", ("key", "fields", "number", "range", "repeat"))):
         for cause in wanted:
             tally.count("`%s` with the cause %s" % (command, cause), "" if causes[(command, cause)] else "was not tried")
 

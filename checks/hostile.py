@@ -2,7 +2,7 @@
 
     python3 hostile.py PROGRAM [--write MODEL] [CASE..]
 
-`join`, `stripe` and `check` get words files, `receive` lanes, `oobwrite` local rows, `oobread` samples, `resend` events, and `duplex` two ends. What
+`join`, `stripe` and `check` get words files, `receive` lanes, `damage` lanes and a schedule, `oobwrite` local rows, `oobread` samples, `resend` events, and `duplex` two ends. What
 each case has to come to stands in hostile.txt: a line '== CASE -- WORDS', 'status N', the text, and a line 'NAME LENGTH SHA-256' for
 each file that is created. Of a text of more than 40 lines the line 'text LENGTH SHA-256' stands there, and of more than 40 files
 the line 'files LENGTH SHA-256' of their lines. --write makes that file anew by an independent model, MODEL, which is called as the
@@ -141,6 +141,31 @@ def on_four_lanes(lanes):
     return {"%s of four" % name: (["receive", "p.plan"], {"p.plan": FOUR, **files}) for name, files in cases.items()}
 
 
+def on_schedules(lane):
+    """The cases of a lane that `damage` changes by a schedule."""
+    plan, r = b"lanes,1\nmetaframe,32\nchannel,1\nschedule,s\nout,o\n", random.Random(6)
+    bits = 8 * len(lane)
+    cases = {
+        "no rows": b"", "zeros": bytes(1000), "random bytes": r.randbytes(1000), "a quote that stays open": b'flip,0,"1\n' * 1000, "a row of many fields": b"flip" + b",0" * 100000,
+        "a bit of a megabyte": b"flip,0," + b"1" * 1000000, "a bit of sixteen digits": b"flip,0,0000000000000001\n", "a lane that is not there": b"skew,0,1\nflip,1,0\n",
+        "the greatest skew": b"skew,0,65535\nflip,0,0\n", "a greater skew": b"skew,0,65536\n", "a skew twice": b"skew,0,1\nskew,0,1\n",
+        "each bit inverted": b"".join(b"flip,0,%d\n" % bit for bit in range(bits)), "each bit inverted twice": b"".join(b"flip,0,%d\n" % bit for bit in [*range(bits), *range(bits)]),
+        "each bit dark by itself, the last first": b"".join(b"dark,0,%d,1\n" % bit for bit in reversed(range(bits))), "dark from each hundredth bit to the end": b"".join(b"dark,0,%d,999999999999\n" % bit for bit in range(0, bits, 100)),
+        "dark without a bit": b"dark,0,0,0\n", "the last bit and the first beyond": b"flip,0,%d\nflip,0,%d\ndark,0,%d,2\ndark,0,%d,1\n" % (bits - 1, bits, bits - 1, bits),
+        "many rows beyond the end": b"flip,0,999999999999\ndark,0,999999999999,999999999999\n" * 20000, "random rows": b"".join(b"flip,0,%d\ndark,0,%d,%d\n" % (r.randrange(2 * bits), r.randrange(2 * bits), r.randint(1, 99)) for _ in range(500)),
+        "at the limit": b"flip,0,1\n" * (ROWS // 9) + b"\n" * (ROWS % 9), "above the limit": b"\n" * (ROWS + 1),
+    }
+    found = {"schedule: %s" % name: (["damage", "p.plan"], {"p.plan": plan, "s": data, "o.lane.0": lane}) for name, data in cases.items()}
+    for name, data in {"an empty lane": b"", "a lane of one byte": lane[:1], "a lane of random bytes": r.randbytes(2412)}.items():
+        found["schedule: %s" % name] = (["damage", "p.plan"], {"p.plan": plan, "s": b"skew,0,1\nflip,0,0\nflip,0,8\ndark,0,3,99\n", "o.lane.0": data})
+    found["schedule: the folder itself"] = (["damage", "p.plan"], {"p.plan": plan.replace(b"schedule,s", b"schedule,."), "o.lane.0": lane})
+    found["schedule: the lane itself"] = (["damage", "p.plan"], {"p.plan": plan.replace(b"schedule,s", b"schedule,o.lane.0"), "o.lane.0": lane})
+    found["schedule: a lane file alone"] = (["damage", "p.plan"], {"p.plan": plan, "o.lane.0": lane})
+    found["schedule: no lane"] = (["damage", "p.plan"], {"p.plan": plan, "s": b""})
+    found["schedule: a prefix in a folder that is not there"] = (["damage", "p.plan"], {"p.plan": plan.replace(b"out,o", b"out,absent/o"), "s": b""})
+    return found
+
+
 def on_words(words):
     """The cases of a words file: nine bytes a word."""
     r = random.Random(2)
@@ -266,7 +291,7 @@ def table(made):
     one, = made(["send", "p.plan"], {"p.plan": ONE, **CAPTURES}, "o.lane.0")
     four = made(["send", "p.plan"], {"p.plan": FOUR, **CAPTURES}, *("o.lane.%d" % lane for lane in range(4)))
     words, = made(["burst", "p.plan"], {"p.plan": ONE, **CAPTURES}, "o.words")
-    return {**on_one_lane(one), **on_four_lanes(four), **on_words(words), **on_rows(), **on_samples(made), **on_events(), **on_ends()}
+    return {**on_one_lane(one), **on_four_lanes(four), **on_schedules(one), **on_words(words), **on_rows(), **on_samples(made), **on_events(), **on_ends()}
 
 
 def maker(run, tally):

@@ -8,6 +8,7 @@ a failing call has to end with status 0 and leave the files that are looked at:
     burst   of a hundred packets of 1,514 bytes: two pieces of 65,536 bytes, a rest, and the text in one write
     send    of eight lanes of 171,520 bytes: pieces of 65,536 bytes alone, then the rests in the order of creation, then the text
     stripe  of the words of this stream: the same
+    damage  of these lanes, without a schedule: the same
     receive of a lane with a hundred packets: at the last read whose failing ends the run, the capture has a piece already
     generate of a case: each of its files is written to its end before the next, pieces and then a rest
     duplex  of a hundred packets both ways: pieces of both captures alone, then the rests in the order of creation, then the text
@@ -87,6 +88,10 @@ class Checks:
         before = self.files(["burst", "p.plan"], SENT, ["o.words"])
         self.equal_outputs(["stripe", "p.plan"], before, LANES, 171520)
 
+    def damage(self):
+        before = self.files(["send", "p.plan"], SENT, LANES)
+        self.equal_outputs(["damage", "p.plan"], before, [name.replace("o.", "o.damaged.") for name in LANES], 171520)
+
     def check(self):
         # Each word is bad, and its row has its number.
         length = len("word,rule,channel\n") + sum(len("%d,bad,-\n" % number) for number in range(15000))
@@ -137,7 +142,7 @@ class Checks:
 def main():
     program, library = (os.path.abspath(name) for name in sys.argv[1:])
     checks = Checks(program, library)
-    for command in (checks.burst, checks.send, checks.stripe, checks.check, checks.receive, checks.generate, checks.duplex, checks.oobwrite, checks.oobread, checks.resend):
+    for command in (checks.burst, checks.send, checks.stripe, checks.damage, checks.check, checks.receive, checks.generate, checks.duplex, checks.oobwrite, checks.oobread, checks.resend):
         command()
     return checks.tally.end()
 

@@ -126,14 +126,19 @@ def sent_lanes(plan: Plan, words: Sequence[Word]) -> list[str]:
     return [lanes.lane_bits(words, plan.link, lane) for lane in range(plan.link.lanes)]
 
 
-def lane_files(plan: Plan, bits: Sequence[str]) -> list[tuple[str, bytes]]:
+def lane_files(out: str, bits: Sequence[str]) -> list[tuple[str, bytes]]:
     """A lane file for each lane by number."""
-    return [(lane_name(plan, lane), lanes.file_of_bits(part)) for lane, part in enumerate(bits)]
+    return [(lane_name(out, lane), lanes.file_of_bits(part)) for lane, part in enumerate(bits)]
 
 
-def lane_name(plan: Plan, lane: int) -> str:
+def lane_name(out: str, lane: int) -> str:
     """The name of a lane file."""
-    return "%s.lane.%d" % (plan.out, lane)
+    return "%s.lane.%d" % (out, lane)
+
+
+def lanes_of_plan(plan: Plan, limit: int) -> list[bytes]:
+    """The bytes of all lanes of a plan. The first lane that is absent or too large is refused."""
+    return [read_input(lane_name(plan.out, lane), limit, bytes) for lane in range(plan.link.lanes)]
 
 
 # An idle that resets the calendar, with all flow bits 1 and the CRC24 of itself alone.
@@ -145,7 +150,7 @@ def stripe(name: str) -> Answer:
     plan = read_plan(name, plans.plan_of)
     words = read_input(plan.out + ".words", files.WORDS_LIMIT, words_file.sent_words_of_file)
     words += [FILLER] * (-len(words) % plan.link.group)
-    return Answer(DONE, lane_files(plan, sent_lanes(plan, words)), [texts.slots_line(len(words))])
+    return Answer(DONE, lane_files(plan.out, sent_lanes(plan, words)), [texts.slots_line(len(words))])
 
 
 def check(name: str) -> Answer:
@@ -164,7 +169,7 @@ def send(name: str) -> Answer:
     plan = read_plan(name, plans.plan_of)
     source = source_of_plan(plan)
     stream = payload_stream(source)
-    return stream_answer(source, stream, lane_files(plan, sent_lanes(plan, stream.words)))
+    return stream_answer(source, stream, lane_files(plan.out, sent_lanes(plan, stream.words)))
 
 
 # ---- received words
@@ -217,10 +222,9 @@ def front_of(lane_files: Sequence[bytes], link: Link) -> Front:
 
 
 def receive(name: str) -> Answer:
-    """What the words of the lanes of a plan come to. The first lane that is absent or too large is refused."""
+    """What the words of the lanes of a plan come to."""
     plan = read_plan(name, plans.plan_of)
-    data = [read_input(lane_name(plan, lane), files.LANE_LIMIT, bytes) for lane in range(plan.link.lanes)]
-    front = front_of(data, plan.link)
+    front = front_of(lanes_of_plan(plan, files.LANE_LIMIT), plan.link)
     outcome = reassembled(front.epochs, plan.settings)
     made = outcome_files(plan.out, outcome, plan.settings, plan.link_type)
     return Answer(DONE, made, received_lines(plan, front, outcome))
@@ -246,7 +250,7 @@ def link(name: str) -> Answer:
     source = source_of_plan(plan)
     damages = damages_of_plan(plan)
     stream = payload_stream(source)
-    made = lane_files(plan, [lanes.received(bits, damage) for bits, damage in zip(sent_lanes(plan, stream.words), damages)])
+    made = lane_files(plan.out, [lanes.received(bits, damage) for bits, damage in zip(sent_lanes(plan, stream.words), damages)])
     front = front_of([data for _, data in made], plan.link)
     outcome = reassembled(front.epochs, plan.settings)
     sent = Sent(stream.words, plan.link, [damage.skew for damage in damages])
@@ -260,6 +264,17 @@ def link(name: str) -> Answer:
     ]
     made += outcome_files(plan.out, outcome, plan.settings, plan.link_type)
     return Answer(HELD if stream.is_held else DONE, made, lines)
+
+
+def damage(name: str) -> Answer:
+    """A schedule applied to the lanes of a plan, and what of it struck. All bits of a lane file are sent bits."""
+    plan = read_plan(name, plans.plan_of)
+    damages = damages_of_plan(plan)
+    sent = [lanes.bits_of_file(data) for data in lanes_of_plan(plan, files.DAMAGED_LIMIT)]
+    came = [lanes.received(bits, damage) for bits, damage in zip(sent, damages)]
+    lines = [texts.damaged_line(lane, own.skew, lanes.changed(bits, own), lanes.unused(bits, own))
+             for lane, (bits, own) in enumerate(zip(sent, damages))]
+    return Answer(DONE, lane_files(plan.out + ".damaged", came), lines)
 
 
 def generate(number: str, prefix: str) -> Answer:
@@ -332,5 +347,6 @@ def assemble(name: str) -> Answer:
 
 COMMANDS = {
     "burst": burst, "join": join, "send": send, "receive": receive, "link": link, "generate": generate, "duplex": duplex,
-    "oobwrite": oobwrite, "oobread": oobread, "resend": resend, "stripe": stripe, "check": check, "list": list_file, "assemble": assemble,
+    "oobwrite": oobwrite, "oobread": oobread, "resend": resend, "stripe": stripe, "damage": damage, "check": check, "list": list_file,
+    "assemble": assemble,
 }

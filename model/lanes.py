@@ -179,3 +179,13 @@ def received(sent: str, damage: Damage) -> str:
         end = min(dark.first + dark.count, len(lane))
         lane[dark.first:end] = "0" * (end - dark.first)
     return "1" * damage.skew + "".join(lane)
+
+
+def changed(sent: str, damage: Damage) -> int:
+    """The number of places at which the bit after the skew is not the sent one."""
+    return sum(bit != other for bit, other in zip(sent, received(sent, damage)[damage.skew:]))
+
+
+def unused(sent: str, damage: Damage) -> int:
+    """The number of `flip` and `dark` rows of the lane that begin at or past the end of its bits."""
+    return sum(first >= len(sent) for first in (*damage.flips, *(dark.first for dark in damage.darks)))

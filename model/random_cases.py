@@ -297,6 +297,35 @@ def check_case(r: Random) -> Case:
     return Case(["check", "p.plan"], files, d.wide)
 
 
+def damage_case(r: Random) -> Case:
+    """`damage` of the lanes of a stream, or of any bytes, by a schedule, some of whose rows begin at the ends of lanes or beyond;
+    now and then there is no schedule, a file is spoiled, or one is not there."""
+    d = Drawn(r)
+    words = payload_stream(d.source()).words
+    made = [lanes.file_of_bits(lanes.lane_bits(words, d.plan.link, lane)) for lane in range(d.plan.link.lanes)]
+    for _ in range(r.choice([0, 0, 1, 2])):
+        made[r.randrange(len(made))] = r.choice([b"", b"\x80", r.randbytes(r.choice([9, 300, 3_000])), b"\xff" * 700, bytes(200)])
+    rows = drawn.schedule_rows(r, d.plan, max(8 * len(made[0]), CODE_BITS)) if r.randrange(6) else []
+    rows += [row for lane, data in enumerate(made) for row in rows_at_end(r, lane, 8 * len(data))]
+    r.shuffle(rows)
+    if r.randrange(10):
+        d.add_rows("schedule", "s.csv", rows)
+    found = d.spoil() if r.randrange(8) == 0 else d.all_files()
+    found.update(("o.lane.%d" % lane, data) for lane, data in enumerate(made))
+    if r.randrange(16) == 0:
+        del found[r.choice([name for name in found if ".lane." in name])]
+    return Case(["damage", "p.plan"], found, d.wide)
+
+
+def rows_at_end(r: Random, lane: int, bits: int) -> list[list]:
+    """Rows that name the last bits of a lane, its padding among them, or bits beyond them, one of them several times."""
+    rows = []
+    for _ in range(r.choice([0, 0, 1, 3])):
+        first = max(0, bits + r.choice([-9, -8, -1, -1, 0, 0, 1, 5_000]))
+        rows += [r.choice([["flip", lane, first], ["dark", lane, first, r.choice([1, 2, 9, 999_999_999_999])]])] * r.choice([1, 1, 2, 3])
+    return rows
+
+
 # ---- received lanes
 
 def receive_case(r: Random) -> Case:
@@ -631,13 +660,13 @@ KINDS: dict[str, Callable[[Random], Case]] = {
     "capture": capture_case, "burst": plan_case("burst"), "join": join_case, "send": plan_case("send"), "receive": receive_case,
     "regular": regular_case, "link": link_case, "mimic": mimic_case, "channels": channels_case, "words": words_case,
     "generate": generate_case, "list": list_case, "assemble": assemble_case, "duplex": duplex_case, "oobwrite": oobwrite_case,
-    "oobread": oobread_case, "resend": resend_case, "stripe": stripe_case, "check": check_case,
+    "oobread": oobread_case, "resend": resend_case, "stripe": stripe_case, "damage": damage_case, "check": check_case,
 }
 # Kinds that have large cases, and kinds that have wide plans.
 LARGE = ("generate", "channels")
 WIDE = (
     "burst", "join", "send", "receive", "regular", "link", "mimic", "channels", "words", "duplex", "oobwrite", "oobread", "resend",
-    "stripe", "check",
+    "stripe", "damage", "check",
 )
 
 

@@ -211,6 +211,13 @@ class Lanes(unittest.TestCase):
         damage = lanes.Damage(2, (0, 1, 1, 3, 99), (lanes.Dark(3, 1),))
         self.assertEqual(lanes.received("10111", damage), "11" + "00101")
 
+    def test_what_of_a_schedule_struck(self):
+        damage = lanes.Damage(2, (0, 1, 1, 3, 5, 99), (lanes.Dark(3, 1), lanes.Dark(4, 9), lanes.Dark(5, 1)))
+        self.assertEqual(lanes.received("10111", damage), "11" + "00100")
+        self.assertEqual((lanes.changed("10111", damage), lanes.unused("10111", damage)), (3, 3))
+        self.assertEqual((lanes.changed("", damage), lanes.unused("", damage)), (0, 9))
+        self.assertEqual((lanes.changed("01", lanes.Damage(7)), lanes.unused("01", lanes.Damage(7))), (0, 0))
+
 
 class Received(unittest.TestCase):
     def test_words_that_come_as_they_were_sent(self):
@@ -588,6 +595,25 @@ class Runs(unittest.TestCase):
         no_sop, channel_7 = fields.sealed([], own & ~(1 << 61)), fields.sealed([], own | 7 << 32)
         self.assertEqual(judged(at, fields.Word(fields.CONTROL, no_sop)), (["faults 1", "rule open=1"], [b"%d,open,0" % at]))
         self.assertEqual(judged(at, fields.Word(fields.CONTROL, channel_7)), (["faults 1", "rule channel=1"], [b"%d,channel,7" % at]))
+
+    def test_damage(self):
+        self.write(p_plan=b"lanes,2\nmetaframe,32\nwarmup,4\nchannel,1\nout,o\nschedule,s\n", o_lane_0=b"\x80\x01", o_lane_1=b"",
+                   s=b"skew,0,3\nflip,0,15\nflip,0,16\ndark,1,0,9\n")
+        self.assertEqual(interlaken.run(["damage", "p.plan"]), (0, "damaged lane=0 skew=3 bits=1 unused=1\ndamaged lane=1 skew=0 bits=0 unused=1\n"))
+        self.assertEqual((self.read("o.damaged.lane.0"), self.read("o.damaged.lane.1")), (b"\xf0\x00\x00", b""))
+        os.remove("o.lane.1")
+        self.assertEqual(interlaken.run(["damage", "p.plan"]), (5, "input refused: o.lane.1: no file\n"))
+        self.write(s=b"flip,2,0\n")
+        self.assertEqual(interlaken.run(["damage", "p.plan"]), (5, "input refused: s: row 1: range\n"))
+
+    def test_damage_of_sent_lanes_makes_those_of_link(self):
+        rows = b"skew,0,11\nskew,1,200\nflip,0,9000\ndark,1,8000,70\n"
+        self.write(p_plan=b"lanes,2\nmetaframe,32\nwarmup,4\nchannel,1,a.pcap\nout,o\nschedule,s\n", a_pcap=pcap.written([bytes(60)], 1), s=rows)
+        interlaken.run(["link", "p.plan"])
+        linked = [self.read("o.lane.%d" % lane) for lane in range(2)]
+        interlaken.run(["send", "p.plan"])
+        self.assertEqual(interlaken.run(["damage", "p.plan"])[0], 0)
+        self.assertEqual([self.read("o.damaged.lane.%d" % lane) for lane in range(2)], linked)
 
     def test_stripe_after_burst_makes_the_lanes_of_send(self):
         self.write(p_plan=b"lanes,2\nmetaframe,32\nwarmup,4\nchannel,1,a.pcap\nout,o\n", a_pcap=pcap.written([bytes(60)], 1))

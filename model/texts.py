@@ -53,6 +53,11 @@ def dropped_line(drops: Counter) -> str:
     return "dropped " + " ".join("%s=%d" % (why, drops[why]) for why in DROPS)
 
 
+def damaged_line(lane: int, skew: int, bits: int, unused: int) -> str:
+    """Of a lane its skew, the bits that were changed, and the rows that name no bit."""
+    return "damaged lane=%d skew=%d bits=%d unused=%d" % (lane, skew, bits, unused)
+
+
 def rule_line(rule: str, count: int) -> str:
     """The faults of a rule."""
     return "rule %s=%d" % (rule, count)

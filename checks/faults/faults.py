@@ -33,7 +33,7 @@ from tally import Tally
 CASES = {
     "burst": ["burst", "one.pcap"], "burst with a plan": ["burst", "p.plan"], "join": ["join", "one.pcap.words"],
     "join with a plan": ["join", "p.plan"], "send": ["send", "p.plan"], "receive": ["receive", "p.plan"],
-    "stripe": ["stripe", "p.plan"], "check": ["check", "p.plan"],
+    "stripe": ["stripe", "p.plan"], "check": ["check", "p.plan"], "damage": ["damage", "s.plan"],
     "link": ["link", "l.plan"], "list": ["list", "one.pcap.words"],
     "list of a lane": ["list", "p.lane.0"], "assemble": ["assemble", "one.txt"], "duplex": ["duplex", "d.csv"],
     "oobwrite": ["oobwrite", "p.plan"], "oobread": ["oobread", "r.plan"], "resend": ["resend", "r.plan"],
@@ -56,7 +56,7 @@ def made_inputs():
     return {
         "one.pcap": capture(["300", "40", "1500"]), "two.pcap": capture(["64", "65", "1", "900"]),
         "p.plan": (PLAN + "flow,p.flow\nlocal,p.local\nout,p\n").encode(), "p.flow": b"0,81FFFF0000188177\n",
-        "p.local": b"3,1,off\n", "l.plan": (PLAN + "schedule,l.schedule\nout,l\n").encode(),
+        "p.local": b"3,1,off\n", "l.plan": (PLAN + "schedule,l.schedule\nout,l\n").encode(), "s.plan": (PLAN + "schedule,l.schedule\nout,p\n").encode(),
         "l.schedule": b"skew,1,30\nflip,0,9000\n", "one.txt": b"words\nbad 0000000000000000\ndata 0000000000000001\n",
         "d.csv": b"plan,p.plan\ndelay,7\nmark,4\nslots,900\ndrain,2\nback,2,one.pcap\nout,d\n",
         "r.plan": (PLAN + "flow,p.flow\nlocal,p.local\noob,r.oob\nwindow,9\nevents,r.events\nout,r\n").encode(),

@@ -16,6 +16,8 @@ PACKED = {b"\x1f\x8b": "gunzip", b"\x28\xb5": "unzstd", b"\xfd7": "unxz", b"BZ":
 MEANINGS = {"text": "a field is not UTF-8", "key": "an unknown key", "fields": "another number of fields",
             "number": "a number, a word or a state that is not spelled as one", "range": "a number, a name or a number of rows out of range",
             "repeat": "a second row of what stands once", "clash": "the row contradicts another"}
+# What writes the words files and lanes that a command reads; of the others it is `link`.
+WRITERS = {"join": "burst", "stripe": "burst", "check": "burst", "damage": "send"}
 LINES = {"words": "`data X`, `bad X`, `control X` (X: 16 digits of 0 to 9 and A to F), `idle sop=..` or `burst sop=..`",
          "lane": "`sync I`, `state I S`, `code I HH X` or, last, `rest BITS`"}
 
@@ -92,7 +94,7 @@ def absent(folder, inputs, refused):
     """An absent file: which row names it, and where it may be."""
     told = "%s%s: no such file" % (where_named(refused), shown_name(refused.name))
     if not refused.is_plan and refused.named_by is None and inputs.plan:
-        return told + "; `interlaken %s %s` writes it" % ({"join": "burst", "stripe": "burst", "check": "burst"}.get(inputs.command, "link"), shlex.quote(inputs.name))
+        return told + "; `interlaken %s %s` writes it" % (WRITERS.get(inputs.command, "link"), shlex.quote(inputs.name))
     return told + "".join("; " + hint for hint in name_hints(folder, inputs, refused.name))
 
 

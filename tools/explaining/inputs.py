@@ -4,7 +4,7 @@ from reading.files import Refused
 from reading.plans import ROWS_LIMIT, Events, Flow, Local, Plan, Schedule, Settings
 from reading.rows import Fault, KeyMissing, RowRefused
 
-CAPTURES_LIMIT, LANE_LIMIT, SAMPLES_LIMIT, LISTING_LIMIT = 1 << 28, 1 << 32, 1 << 22, 1 << 28
+CAPTURES_LIMIT, LANE_LIMIT, DAMAGED_LIMIT, SAMPLES_LIMIT, LISTING_LIMIT = 1 << 28, 1 << 32, 1 << 28, 1 << 22, 1 << 28
 
 
 class Inputs:
@@ -79,15 +79,26 @@ class Inputs:
         if self.has_data:
             self.folder.words_bytes(self.plan.out + ".words")
 
-    def take_receive(self):
-        """The plan, and the lanes, of which the program asks here whether they are there."""
-        self.take_plan()
+    def take_lanes(self, most):
+        """The lanes, of which it is asked here whether they are there."""
         for lane in range(self.plan.lanes if self.has_data else 0):
-            self.folder.must_have("%s.lane.%d" % (self.plan.out, lane), LANE_LIMIT)
+            self.folder.must_have("%s.lane.%d" % (self.plan.out, lane), most)
+
+    def take_receive(self):
+        self.take_plan()
+        self.take_lanes(LANE_LIMIT)
+
+    def take_schedule(self):
+        self.schedule = self.named(self.plan, self.plan.places.get("schedule"), lambda: Schedule(self.folder, self.plan))
 
     def take_link(self):
         self.take_plan_and_sources()
-        self.schedule = self.named(self.plan, self.plan.places.get("schedule"), lambda: Schedule(self.folder, self.plan))
+        self.take_schedule()
+
+    def take_damage(self):
+        self.take_plan()
+        self.take_schedule()
+        self.take_lanes(DAMAGED_LIMIT)
 
     def take_duplex(self):
         self.settings = settings = self.read_plan(Settings)
@@ -163,6 +174,7 @@ COMMANDS = {
     "oobread": Command("FILE", "a plan with a row `oob`", Inputs.take_oobread),
     "resend": Command("FILE", "a plan with a row `events`", Inputs.take_resend),
     "stripe": Command("FILE", "a plan", Inputs.take_stripe),
+    "damage": Command("FILE", "a plan", Inputs.take_damage),
     "check": Command("FILE", "a plan", Inputs.take_check),
     "list": Command("FILE", "a words file where FILE ends in .words, else a lane file", Inputs.take_list),
     "assemble": Command("FILE", "a listing", Inputs.take_assemble),

@@ -28,7 +28,9 @@ def before(inputs):
     """What the files say by themselves."""
     lines = flow_words(inputs.flow) if inputs.flow else []
     if inputs.schedule:
-        lines += wide_skews(inputs.plan, inputs.schedule) + even_flips(inputs.schedule) + dark_flips(inputs.schedule)
+        # Lanes that are there may have skews of their own, and are received by another plan.
+        lines += [] if inputs.command == "damage" else wide_skews(inputs.plan, inputs.schedule)
+        lines += even_flips(inputs.schedule) + dark_flips(inputs.schedule)
     return lines
 
 
@@ -79,23 +81,28 @@ def after(inputs, text):
     """What needs the number of slots, or is said by the text of the run."""
     slots, lines = slots_of(text), []
     if slots is not None and inputs.plan and not inputs.settings:
-        lines += beyond_lanes(inputs.plan, inputs.schedule, slots) + vain_strikes(inputs, slots, text) if inputs.schedule else []
+        if inputs.schedule:
+            lines += beyond_lanes(inputs.schedule, [inputs.plan.sent_bits(slots)] * inputs.plan.lanes) + vain_strikes(inputs, slots, text)
         lines += beyond_stream(inputs.flow, slots) + beyond_stream(inputs.local, slots)
+    if inputs.command == "damage" and inputs.schedule:
+        names = ["%s.lane.%d" % (inputs.plan.out, lane) for lane in range(inputs.plan.lanes)]
+        lines += beyond_lanes(inputs.schedule, [8 * inputs.folder.size(name) for name in names])
     lines += held(inputs, text) + locks(inputs, text) + accidents(text)
     return lines + (exchanged(inputs) if inputs.command == "receive" and inputs.plan else [])
 
 
-def beyond_lanes(plan, schedule, slots):
-    """Rows of a schedule that name bits after a lane's last."""
-    bits, lines = plan.sent_bits(slots), []
+def beyond_lanes(schedule, lanes):
+    """Rows of a schedule that name bits after a lane's last, of lanes with so many bits."""
+    lines = []
     for row, key, numbers in schedule.rows:
         lane, first = numbers[:2]
-        end = first + (numbers[2] if key == "dark" else 1)
+        bits, end = lanes[lane], first + (numbers[2] if key == "dark" else 1)
         if key == "skew" or end <= bits:
             continue
         what = "bits %d to %d go beyond" % (first, end - 1) if key == "dark" else "bit %d is after" % first
         struck = "it strikes nothing" if first >= bits else "it strikes %d bits of %d" % (bits - first, end - first)
-        lines.append(warning(schedule.name, row, "%s: %s the end of lane %d, which has bits 0 to %d: %s" % (key, what, lane, bits - 1, struck)))
+        has = "bits 0 to %d" % (bits - 1) if bits else "no bits"
+        lines.append(warning(schedule.name, row, "%s: %s the end of lane %d, which has %s: %s" % (key, what, lane, has, struck)))
     return some(lines, "rows are beyond the ends of lanes")
 
 
