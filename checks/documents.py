@@ -67,8 +67,8 @@ def make_folder(top, page):
 class Shell:
     """Runs one command after another, each where the one before left it, and with its status."""
 
-    def __init__(self, folder):
-        self.folder, self.status = folder, 0
+    def __init__(self, folder, seconds=SECONDS):
+        self.folder, self.seconds, self.status = folder, seconds, 0
 
     def run(self, command):
         """What the command prints; None where it does not end in time."""
@@ -76,7 +76,7 @@ class Shell:
         how = {"stdin": subprocess.DEVNULL, "stdout": subprocess.PIPE, "stderr": subprocess.STDOUT, "encoding": "utf-8", "errors": "replace"}
         shell = subprocess.Popen(["bash", "-c", script], cwd=self.folder, start_new_session=True, **how)
         try:
-            printed = shell.communicate(timeout=SECONDS)[0]
+            printed = shell.communicate(timeout=self.seconds)[0]
         except subprocess.TimeoutExpired:
             os.killpg(shell.pid, signal.SIGKILL)
             shell.communicate()
@@ -93,7 +93,7 @@ class Shell:
 def fault_of(text, wanted, status):
     """What is wrong with what a command printed and with its status, or nothing."""
     if text is None:
-        return "it does not end in %d seconds" % SECONDS
+        return "it does not end in time"
     if wanted and text.rstrip("\n").split("\n") != wanted:
         return "it prints\n%sand not\n%s\n" % (text, "\n".join(wanted))
     return "status %d, which the page does not say\n%s" % (status, text) if status else ""
@@ -143,4 +143,5 @@ def main():
     return tally.end()
 
 
-sys.exit(main())
+if __name__ == "__main__":
+    sys.exit(main())

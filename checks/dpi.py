@@ -1,0 +1,208 @@
+"""What checks/dpi.sh does, with the program and the repository as its words."""
+
+import os
+import random
+import re
+import shutil
+import struct
+import subprocess
+import sys
+import tempfile
+
+import documents
+from tally import Tally
+
+PROGRAM, TOP = os.path.abspath(sys.argv[1]), os.path.abspath(sys.argv[2])
+PAGE = "examples/dpi/README.md"
+# A command has to end by then: verilator and the compiler of C++ take long where other work is beside.
+SECONDS = 600
+# Bits that are inverted on each lane, and the plan of the bench of the page and of another one.
+FLIPS = 6
+PLANS = {(2, 32, 1): "obj_dir", (3, 40, 2): "obj_other"}
+STRICT = ["-std=c99", "-Wall", "-Wextra", "-Wpedantic", "-Werror"]
+INCLUDE = "/usr/share/verilator/include/vltstd"
+
+
+def run(*words, folder):
+    """Status and output of a command."""
+    done = subprocess.run(words, cwd=folder, capture_output=True, text=True, timeout=SECONDS)
+    return done.returncode, done.stdout + done.stderr
+
+
+def try_page(tally, folder):
+    """The commands of the page, which build the bench."""
+    shell = documents.Shell(folder, SECONDS)
+    for number, lines in documents.blocks(PAGE):
+        documents.check_block(tally, shell, PAGE, number, lines)
+
+
+def numbers_of(path):
+    with open(path, encoding="utf-8") as file:
+        return sorted(re.findall(r"\b(INTERLAKEN_[A-Z_]+) = (\d+)", file.read()))
+
+
+def packets_of(capture):
+    """The packets of a capture that `receive` wrote."""
+    with open(capture, "rb") as file:
+        data = file.read()
+    found, at = [], 24
+    while at < len(data):
+        length = struct.unpack_from("<I", data, at + 8)[0]
+        found.append(data[at + 16:at + 16 + length])
+        at += 16 + length
+    return found
+
+
+class Received:
+    """What `receive` makes of lanes."""
+
+    def __init__(self, folder, plan, out):
+        self.status, text = run(PROGRAM, "receive", plan, folder=folder)
+        self.lanes = [line for line in text.split("\n") if line.startswith("lane ")]
+        channels = re.findall(r"^got channel=(\d+)", text, re.M)
+        self.packets = {int(channel): packets_of("%s/%s.%s.pcap" % (folder, out, channel)) for channel in channels}
+        with open("%s/%s.spans.csv" % (folder, out), encoding="utf-8") as file:
+            self.spans = [line.split(",") for line in file.read().split("\n")[1:-1]]
+
+
+def sanitizers(tally, folder):
+    """The words by which cc has sanitizers, or none."""
+    words = ["-fsanitize=address,undefined", "-fno-sanitize-recover=all"]
+    with open(folder + "/empty.c", "w", encoding="utf-8") as file:
+        file.write("int main(void) { return 0; }\n")
+    if run("cc", *words, "-o", "empty", "empty.c", folder=folder)[0] == 0 and run("./empty", folder=folder)[0] == 0:
+        return words
+    tally.not_tried("sanitizers of cc", "gcc", "the C layer under them")
+    return []
+
+
+def make_lanes(folder):
+    """Two damaged lanes that are longer than what the receiver keeps of one, and what `receive` makes of them."""
+    with open(folder + "/damaged.plan", encoding="utf-8") as file:
+        plan = file.read().replace("warmup,4", "warmup,64").replace("damaged", "long")
+    for name, text in (("long.plan", plan), ("long.schedule", "skew,0,11\nskew,1,200\nflip,0,9000\nflip,1,141000\n")):
+        with open(folder + "/" + name, "w", encoding="utf-8") as file:
+            file.write(text)
+    run(PROGRAM, "link", "long.plan", folder=folder)
+    return Received(folder, "long.plan", "long")
+
+
+def try_layer(tally, folder):
+    """The C layer alone, in drawn pieces and orders."""
+    wanted = make_lanes(folder)
+    header = ["-I" + INCLUDE, "-include", "dpi/obj_dir/Vtb_live__Dpi.h", "-Idpi/library/include"]
+    words = ["cc", *STRICT, "-O1", *sanitizers(tally, folder), *header, "-o", "layer", TOP + "/checks/dpi/layer.c", "dpi/interlaken_dpi.c"]
+    tally.expect("the layer as C99, beside the prototypes that verilator makes", run(*words, "dpi/library/lib/libinterlaken.a", folder=folder), (0, ""))
+    whys = ["start", "bad", "crc", "protocol", "lost", "end"]
+    spans = []
+    for after_group, after_index, before_group, before_index, why in wanted.spans:
+        places = [("0", "0", "0") if group == "-" else ("1", index, group) for group, index in ((after_group, after_index), (before_group, before_index))]
+        spans.append("span %s %d" % (" ".join(places[0] + places[1]), whys.index(why)))
+    full = False
+    for seed in range(1, 31):
+        status, text = run("./layer", "long.plan", str(seed), "long.lane.0", "long.lane.1", folder=folder)
+        lines = text.split("\n")
+        full = full or "no room" in lines
+        what = "the layer, seed %d" % seed
+        tally.expect(what, (status, [line for line in lines if line.startswith("wrong")]), (0, []))
+        tally.expect(what + ": spans", [line for line in lines if line.startswith("span")], spans)
+        tally.expect(what + ": lanes", [line for line in lines if line.startswith("lane")], wanted.lanes)
+        for channel, packets in wanted.packets.items():
+            begin = "packet %d " % channel
+            tally.expect(what + ": packets", [line[len(begin):] for line in lines if line.startswith(begin)], [packet.hex() for packet in packets])
+    tally.expect("a lane without room", full, True)
+
+
+def numbers_in(packets):
+    """The numbers with which packets begin, in order."""
+    return sorted(packet[0] << 8 | packet[1] for found in packets.values() for packet in found)
+
+
+class Bench:
+    """A bench as it was built, its lanes without damage, and what `receive` makes of them."""
+
+    def __init__(self, tally, folder, shape, name):
+        self.tally, self.folder, self.program = tally, folder, "dpi/%s/Vtb_live" % name
+        self.lanes, self.metaframe, skips = shape
+        rows = ["lanes,%d" % self.lanes, "metaframe,%d" % self.metaframe, "skips,%d" % skips, "channel,1", "channel,2", "out,live"]
+        with open(folder + "/live.plan", "w", encoding="utf-8") as file:
+            file.write("\n".join(rows) + "\n")
+        self.what = "%d lanes, metaframes of %d words" % (self.lanes, self.metaframe)
+        status, text = run(self.program, "+lanes=live", folder=folder)
+        self.lines = text.split("\n")
+        tally.expect(self.what + ": status", status, 0)
+        wanted = Received(folder, "live.plan", "live")
+        tally.expect(self.what + ": packets", sorted(self.told("packet", text)), numbers_in(wanted.packets))
+        tally.expect(self.what + ": how many", len(self.told("packet", text)), 40)
+        tally.expect(self.what + ": lanes", [line for line in self.lines if " locks=" in line], wanted.lanes)
+        self.clean = []
+        for lane in range(self.lanes):
+            with open("%s/live.lane.%d" % (folder, lane), "rb") as file:
+                self.clean.append(file.read())
+
+    @staticmethod
+    def told(word, text):
+        """The numbers of the packets of such lines."""
+        return [int(number) for number in re.findall(r"^%s (\d+) channel=" % word, text, re.M)]
+
+    def write_lanes(self, struck, bit):
+        for lane, data in enumerate(self.clean):
+            data = bytearray(data)
+            if lane == struck:
+                data[bit // 8] ^= 128 >> bit % 8
+            with open("%s/live.lane.%d" % (self.folder, lane), "wb") as file:
+                file.write(data)
+
+    def strike(self, lane, bit):
+        """One bit is inverted while the bench runs; and in the lanes that `receive` gets."""
+        tally, what = self.tally, "%s, lane %d, bit %d" % (self.what, lane, bit)
+        status, text = run(self.program, "+lane=%d" % lane, "+bit=%d" % bit, folder=self.folder)
+        self.write_lanes(lane, bit)
+        received = Received(self.folder, "live.plan", "live")
+        came = numbers_in(received.packets)
+        lost = sorted(set(range(40)) - set(came))
+        tally.expect(what + ": status", status != 0, True)
+        tally.expect(what + ": lost packets", sorted(self.told("lost packet", text)), lost)
+        told = self.told("packet", text)
+        tally.expect(what + ": packets that came", sorted(told), came[:len(told)])
+        wrong = [int(number) for number in re.findall(r"^lane (\d+) locks=1 first=\d+ .*=[1-9]", text, re.M)]
+        tally.expect(what + ": the lane with wrong words", wrong, [lane])
+        places = [tuple(map(int, found)) for found in re.findall(r"^lane (\d+): bits (\d+) to (\d+)$", text, re.M)]
+        tally.expect(what + ": its bits", [place[0] == lane and place[1] <= bit <= place[2] for place in places], [True] * (len(received.spans) - 2))
+
+    def try_all(self):
+        draw = random.Random(1)
+        # From the second metaframe after the lanes' locks on, up to the last but two.
+        first, last = 6 * 67 * self.metaframe, 8 * len(self.clean[0]) - 3 * 67 * self.metaframe
+        for lane in range(self.lanes):
+            for _ in range(FLIPS):
+                self.strike(lane, draw.randrange(first, last))
+
+
+def main():
+    tally = Tally("dpi")
+    with tempfile.TemporaryDirectory(prefix="dpi.") as top:
+        folder = top + "/examples"
+        shutil.copytree(TOP + "/examples", folder, ignore=shutil.ignore_patterns("obj_dir", "library"))
+        os.symlink(TOP + "/tools", top + "/tools")
+        status, text = run(PROGRAM, "link", "damaged.plan", folder=folder)
+        if status or "got channel=1 packets=1" not in text:
+            tally.give_up("link", "status %d, %s" % (status, text[:200]))
+        try_page(tally, folder + "/dpi")
+        if not os.path.exists(folder + "/dpi/obj_dir/Vtb_live"):
+            tally.give_up("the bench", "it is not built")
+        names = numbers_of(TOP + "/include/interlaken.h") + [("INTERLAKEN_NO_ROOM", "9")]
+        tally.expect("names and numbers of the header and of the package", numbers_of(folder + "/dpi/interlaken_dpi.sv"), sorted(names))
+        lint = run("verilator", "--lint-only", "-Wall", "--timing", "-f", "live.f", "--top-module", "tb_live", folder=folder + "/dpi")
+        tally.expect("lint", lint, (0, ""))
+        try_layer(tally, folder)
+        for shape, name in PLANS.items():
+            if not os.path.exists(folder + "/dpi/" + name):
+                parameters = ["-G%s=%d" % pair for pair in zip(("LANES", "METAFRAME", "SKIPS"), shape)]
+                words = ["--binary", "--timing", "-f", "live.f", "--top-module", "tb_live", "--Mdir", name, "-MAKEFLAGS", "OPT_FAST=-O0 OPT_GLOBAL=-O0", *parameters]
+                tally.expect("a bench of other parameters", run("verilator", *words, folder=folder + "/dpi")[0], 0)
+            Bench(tally, folder, shape, name).try_all()
+    return tally.end()
+
+
+sys.exit(main())

@@ -1,0 +1,25 @@
+#!/usr/bin/env bash
+# Tries the live bench of examples/dpi: the commands of its page, in a copy of the examples; its C layer beside `receive`, in drawn pieces
+# and orders and with each misuse, under the sanitizers where the compiler has them; and the bench with drawn bits inverted, beside what
+# `receive` makes of the same lanes: the packets that come, the lane that was struck, its bits, and the packets that are lost. Needs
+# verilator of version 5 or later, and an archive of these sources: what the gate or `rt lib` has built, or that of release/.
+set -u
+. "$(dirname "$0")/program.bash"
+wants python3 python3
+wants verilator verilator
+wants make make
+wants c++ g++
+wants cc gcc
+case $(verilator --version 2>/dev/null) in
+  'Verilator '[5-9]* | 'Verilator '[1-9][0-9]*) ;;
+  *)
+    echo "$name: skipped, no version 5 of verilator (Debian package verilator)"
+    exit 77
+    ;;
+esac
+. "$top/tools/archive.bash"
+if ! find_archive "$top" >/dev/null; then
+  echo "$name: skipped, no archive of these sources (rt lib in crates/interlaken_c makes it)"
+  exit 77
+fi
+exec python3 -B "$top/checks/dpi.py" "$program" "$top"

@@ -1,0 +1,169 @@
+/* The functions of examples/dpi/interlaken_dpi.c without a simulator: lanes in drawn pieces and orders, and each misuse. Its prototypes are
+ * those that verilator made of the imports.
+ *
+ *     layer PLAN SEED LANE..
+ *
+ * PLAN is a plan file, and each LANE the file of a lane, from lane 0 on. It prints a line for each packet, fault span and dropped piece
+ * and for each lane, and a line that begins with `wrong` for each call with another result than it should have. */
+#include <stdint.h>
+#include <stdio.h>
+#include <stdlib.h>
+#include <string.h>
+
+enum { DONE, NO_LANE = 3, FINISHED = 4, TOO_MANY = 5, NO_PACKET = 6, NO_RECEIVER = 7, NO_ROOM = 9 };
+enum { NONE, PACKET, DROPPED, SPAN, FLOW, ENDED };
+
+struct file {
+  uint8_t *at;
+  size_t bits, fed;
+  int over;
+};
+
+static uint64_t drawn;
+
+static unsigned below(unsigned bound) {
+  drawn ^= drawn << 13, drawn ^= drawn >> 7, drawn ^= drawn << 17;
+  return (unsigned)(drawn >> 20) % bound;
+}
+
+static void want(const char *what, int found, int wanted) {
+  if (found != wanted) printf("wrong: %s gives %d and not %d\n", what, found, wanted);
+}
+
+static struct file load(const char *name) {
+  struct file file = {NULL, 0, 0, 0};
+  FILE *in = fopen(name, "rb");
+  size_t count;
+  if (in == NULL) exit(2);
+  fseek(in, 0, SEEK_END);
+  count = (size_t)ftell(in);
+  rewind(in);
+  file.at = calloc(count + 1, 1);
+  if (fread(file.at, 1, count, in) != count) exit(2);
+  fclose(in);
+  file.bits = 8 * count;
+  return file;
+}
+
+/* The next bits of a file, at most `count`, the highest first; above them are ones that do not count. */
+static unsigned piece(const struct file *file, unsigned count, unsigned long long *bits) {
+  unsigned i, left = file->bits - file->fed < count ? (unsigned)(file->bits - file->fed) : count;
+  *bits = ~0ull;
+  for (i = 0; i < left; i++) {
+    size_t at = file->fed + i;
+    *bits = *bits << 1 | (unsigned)(file->at[at / 8] >> (7 - at % 8) & 1);
+  }
+  return left;
+}
+
+/* Takes all events that there are; 1 where the end is among them. */
+static int take(void *receiver) {
+  for (;;) {
+    unsigned kind, channel, length, why, known[2], index[2];
+    unsigned long long group[2], word;
+    unsigned char byte;
+    int result = interlaken_dpi_next(receiver, &kind, &channel, &length, &why, &known[0], &index[0], &group[0], &known[1], &index[1],
+                                     &group[1], &word);
+    want("next", result, DONE);
+    if (kind == PACKET) {
+      printf("packet %u ", channel);
+      for (unsigned i = 0; i < length; i++) {
+        want("a byte", interlaken_dpi_byte(receiver, i, &byte), DONE);
+        printf("%02x", byte);
+      }
+      putchar('\n');
+    }
+    want("a byte after the last", interlaken_dpi_byte(receiver, length, &byte), NO_PACKET);
+    if (kind == SPAN) printf("span %u %u %llu %u %u %llu %u\n", known[0], index[0], group[0], known[1], index[1], group[1], why);
+    if (kind == DROPPED) printf("dropped %u\n", why);
+    if (kind == NONE || kind == ENDED || result != DONE) return kind != NONE;
+  }
+}
+
+static void print_lane(void *receiver, unsigned lane) {
+  unsigned long long n[9];
+  unsigned state;
+  want("report", interlaken_dpi_report(receiver, lane, &n[0], &n[1], &n[2], &n[3], &n[4], &n[5], &n[6], &n[7], &n[8]), DONE);
+  want("lane_state", interlaken_dpi_lane_state(receiver, lane, &state), DONE);
+  printf("lane %u locks=%llu first=", lane, n[0]);
+  if (n[1]) printf("%llu", n[2]);
+  else putchar('-');
+  printf(" lost=%llu unframed=%llu bad=%llu sync=%llu state=%llu diag=%llu\n", n[3], n[4], n[5], n[6], n[7], n[8]);
+}
+
+/* All that a handle without a receiver answers. */
+static void try_none(void *receiver) {
+  unsigned u[8];
+  unsigned long long n[9];
+  unsigned char byte;
+  want("close of none", interlaken_dpi_close(receiver), NO_RECEIVER);
+  want("feed of none", interlaken_dpi_feed(receiver, 0, 1, 1), NO_RECEIVER);
+  want("finish of none", interlaken_dpi_finish(receiver, 0), NO_RECEIVER);
+  want("next of none", interlaken_dpi_next(receiver, &u[0], &u[1], &u[2], &u[3], &u[4], &u[5], &n[0], &u[6], &u[7], &n[1], &n[2]), NO_RECEIVER);
+  want("the event of none", (int)u[0], NONE);
+  want("a byte of none", interlaken_dpi_byte(receiver, 0, &byte), NO_RECEIVER);
+  want("report of none", interlaken_dpi_report(receiver, 0, &n[0], &n[1], &n[2], &n[3], &n[4], &n[5], &n[6], &n[7], &n[8]), NO_RECEIVER);
+  want("state of none", interlaken_dpi_lane_state(receiver, 0, &u[0]), NO_RECEIVER);
+}
+
+static void try_plan(const char *plan, unsigned wanted_cause, unsigned wanted_row, unsigned wanted_key) {
+  unsigned cause = 99, row = 99, key = 99;
+  void *receiver = interlaken_dpi_open(plan, &cause, &row, &key);
+  want("a plan that is refused", receiver != NULL, 0);
+  want("its cause", (int)cause, (int)wanted_cause);
+  want("its row", (int)row, (int)wanted_row);
+  want("its key", (int)key, (int)wanted_key);
+}
+
+int main(int argc, char **argv) {
+  static struct file lanes[64], plan;
+  unsigned count = (unsigned)argc - 3, cause, row, key, i;
+  unsigned long long bits, n;
+  unsigned state;
+  void *receiver;
+  if (argc < 4) return 2;
+  drawn = strtoull(argv[2], NULL, 10) * 2654435761u + 88172645463325252u;
+  plan = load(argv[1]);
+  for (i = 0; i < count; i++) lanes[i] = load(argv[i + 3]);
+  try_none(NULL);
+  try_plan("lanes,2\nlanes,3\n", 6, 2, 0);
+  try_plan("lanes,2\n", 7, 0, 2);
+  receiver = interlaken_dpi_open((const char *)plan.at, &cause, &row, &key);
+  if (receiver == NULL) return 1;
+  want("the cause of none", (int)cause, 0);
+  want("feed of no lane", interlaken_dpi_feed(receiver, count, 1, 1), NO_LANE);
+  want("finish of no lane", interlaken_dpi_finish(receiver, ~0u), NO_LANE);
+  want("state of no lane", interlaken_dpi_lane_state(receiver, count, &state), NO_LANE);
+  want("report of no lane", interlaken_dpi_report(receiver, count, &n, &n, &n, &n, &n, &n, &n, &n, &n), NO_LANE);
+  want("feed of 65 bits", interlaken_dpi_feed(receiver, 0, 1, 65), TOO_MANY);
+  want("feed of no bits", interlaken_dpi_feed(receiver, 0, 1, 0), DONE);
+  while (!take(receiver)) {
+    /* Many pieces of one lane, so that some find no room. */
+    unsigned lane = below(count), most = 1 + below(64), pieces = below(1500);
+    while (pieces-- > 0) {
+      unsigned length = piece(&lanes[lane], 1 + below(most), &bits);
+      int result;
+      if (length == 0) {
+        result = interlaken_dpi_finish(receiver, lane);
+        if (lanes[lane].over) want("finish of a finished lane", result, FINISHED);
+        else if (result != NO_ROOM) want("finish", result, DONE);
+        lanes[lane].over |= result == DONE;
+        if (lanes[lane].over) want("feed of a finished lane", interlaken_dpi_feed(receiver, lane, 1, 1), FINISHED);
+        break;
+      }
+      result = interlaken_dpi_feed(receiver, lane, bits, length);
+      if (result == DONE) lanes[lane].fed += length;
+      else {
+        want("feed", result, NO_ROOM);
+        puts("no room");
+        break;
+      }
+    }
+  }
+  for (i = 0; i < count; i++) print_lane(receiver, i);
+  want("close", interlaken_dpi_close(receiver), DONE);
+  try_none(receiver);
+  for (i = 0; i < count; i++) free(lanes[i].at);
+  free(plan.at);
+  return 0;
+}

@@ -1,0 +1,204 @@
+/* The receiving end of an Interlaken link for a bench in SystemVerilog: the functions that interlaken_dpi.sv imports, over the C library
+ * of interlaken.h. It is C99 and C++, and needs no header of a simulator. The calls are said in interlaken_dpi.sv.
+ *
+ * A handle is the address of a `live`, which stays until the simulation ends: a call on a closed one has the result NO_RECEIVER, as one
+ * on null has. */
+#include "interlaken.h"
+#include <stdlib.h>
+#include <string.h>
+
+#define LANES 64
+#define LONGEST 262144 /* bytes of a packet */
+#define NO_ROOM 9      /* one result more than those of interlaken.h: INTERLAKEN_NO_ROOM of the package */
+
+/* The bits of a lane that the receiver has not taken: whole bytes, and fewer than eight bits after these. */
+struct lane {
+  uint8_t bytes[8];
+  unsigned count;
+  unsigned bits, bit_count;
+  int finished;
+};
+
+struct live {
+  interlaken_receiver receiver;
+  struct lane lanes[LANES];
+  uint32_t lane_count;
+  uint8_t *packet; /* the one that came last */
+  uint32_t length; /* of it; 0 where the last event was none */
+  struct live *other;
+};
+
+static struct live *all; /* the handles of this simulation */
+
+#ifdef __cplusplus
+extern "C" {
+#endif
+
+void *interlaken_dpi_open(const char *plan, unsigned int *cause, unsigned int *row, unsigned int *key);
+int interlaken_dpi_close(void *receiver);
+int interlaken_dpi_feed(void *receiver, unsigned int lane, unsigned long long bits, unsigned int count);
+int interlaken_dpi_finish(void *receiver, unsigned int lane);
+int interlaken_dpi_next(void *receiver, unsigned int *kind, unsigned int *channel, unsigned int *length, unsigned int *why,
+                        unsigned int *first_known, unsigned int *first_index, unsigned long long *first_group, unsigned int *last_known,
+                        unsigned int *last_index, unsigned long long *last_group, unsigned long long *word);
+int interlaken_dpi_byte(void *receiver, unsigned int offset, unsigned char *value);
+int interlaken_dpi_report(void *receiver, unsigned int lane, unsigned long long *locks, unsigned long long *has_first,
+                          unsigned long long *first, unsigned long long *lost, unsigned long long *unframed, unsigned long long *bad,
+                          unsigned long long *sync, unsigned long long *state, unsigned long long *diag);
+int interlaken_dpi_lane_state(void *receiver, unsigned int lane, unsigned int *state);
+
+#ifdef __cplusplus
+}
+#endif
+
+static uint32_t count_lanes(interlaken_receiver *receiver) {
+  interlaken_report report;
+  uint32_t count = 0;
+  while (count < LANES && interlaken_receiver_report(receiver, count, &report) == INTERLAKEN_DONE) count++;
+  return count;
+}
+
+void *interlaken_dpi_open(const char *plan, unsigned int *cause, unsigned int *row, unsigned int *key) {
+  struct live *live = (struct live *)calloc(1, sizeof *live);
+  interlaken_refusal refusal = {0, 0, 0};
+  if (live != NULL) live->packet = (uint8_t *)malloc(LONGEST);
+  if (live == NULL || live->packet == NULL ||
+      interlaken_receiver_new(&live->receiver, (const uint8_t *)plan, strlen(plan), &refusal) != INTERLAKEN_DONE) {
+    if (live != NULL) free(live->packet);
+    free(live);
+    live = NULL;
+  } else {
+    live->lane_count = count_lanes(&live->receiver);
+    live->other = all;
+    all = live;
+  }
+  *cause = refusal.cause;
+  *row = refusal.row;
+  *key = refusal.key;
+  return live;
+}
+
+int interlaken_dpi_close(void *receiver) {
+  struct live *live = (struct live *)receiver;
+  if (live == NULL) return INTERLAKEN_NO_RECEIVER;
+  free(live->packet);
+  live->packet = NULL;
+  live->length = 0;
+  return (int)interlaken_receiver_free(&live->receiver);
+}
+
+/* The lane of this number, where the handle has a receiver with such a lane that is not finished. */
+static int find_lane(struct live *live, unsigned int number, struct lane **lane) {
+  if (live == NULL || live->packet == NULL) return INTERLAKEN_NO_RECEIVER;
+  if (number >= live->lane_count) return INTERLAKEN_NO_LANE;
+  *lane = &live->lanes[number];
+  return (*lane)->finished ? INTERLAKEN_FINISHED : INTERLAKEN_DONE;
+}
+
+/* Has the receiver take the whole bytes: NO_ROOM where it does not take all. */
+static int push(struct live *live, unsigned int number, struct lane *lane) {
+  size_t taken = 0;
+  uint32_t result;
+  if (lane->count == 0) return INTERLAKEN_DONE;
+  result = interlaken_receiver_feed(&live->receiver, number, lane->bytes, lane->count, &taken);
+  if (result != INTERLAKEN_DONE) return (int)result;
+  lane->count -= (unsigned)taken;
+  memmove(lane->bytes, lane->bytes + taken, lane->count);
+  return lane->count == 0 ? INTERLAKEN_DONE : NO_ROOM;
+}
+
+int interlaken_dpi_feed(void *receiver, unsigned int number, unsigned long long bits, unsigned int count) {
+  struct live *live = (struct live *)receiver;
+  struct lane *lane;
+  int result = find_lane(live, number, &lane);
+  if (result != INTERLAKEN_DONE) return result;
+  if (count > 64) return INTERLAKEN_TOO_MANY;
+  result = push(live, number, lane);
+  if (result != INTERLAKEN_DONE) return result;
+  while (count-- > 0) {
+    lane->bits = lane->bits << 1 | (unsigned)(bits >> count & 1);
+    if (++lane->bit_count == 8) {
+      lane->bytes[lane->count++] = (uint8_t)lane->bits;
+      lane->bits = lane->bit_count = 0;
+    }
+  }
+  result = push(live, number, lane);
+  return result == NO_ROOM ? INTERLAKEN_DONE : result; /* what it did not take waits here */
+}
+
+int interlaken_dpi_finish(void *receiver, unsigned int number) {
+  struct live *live = (struct live *)receiver;
+  struct lane *lane;
+  int result = find_lane(live, number, &lane);
+  if (result == INTERLAKEN_DONE) result = push(live, number, lane);
+  if (result == INTERLAKEN_DONE && lane->bit_count > 0) {
+    lane->bytes[lane->count++] = (uint8_t)(lane->bits << (8 - lane->bit_count));
+    lane->bits = lane->bit_count = 0;
+    result = push(live, number, lane);
+  }
+  if (result == INTERLAKEN_DONE) result = (int)interlaken_receiver_finish(&live->receiver, number);
+  if (result == INTERLAKEN_DONE) lane->finished = 1;
+  return result;
+}
+
+int interlaken_dpi_next(void *receiver, unsigned int *kind, unsigned int *channel, unsigned int *length, unsigned int *why,
+                        unsigned int *first_known, unsigned int *first_index, unsigned long long *first_group, unsigned int *last_known,
+                        unsigned int *last_index, unsigned long long *last_group, unsigned long long *word) {
+  struct live *live = (struct live *)receiver;
+  interlaken_event event;
+  uint32_t result = INTERLAKEN_NO_RECEIVER;
+  size_t copied = 0;
+  memset(&event, 0, sizeof event);
+  if (live != NULL) result = interlaken_receiver_next(&live->receiver, &event);
+  if (event.kind == INTERLAKEN_PACKET) result = interlaken_receiver_read(&live->receiver, 0, live->packet, LONGEST, &copied);
+  if (live != NULL) live->length = (uint32_t)copied;
+  *kind = event.kind;
+  *channel = event.channel;
+  *length = event.length;
+  *why = event.why;
+  *first_known = event.first.known;
+  *first_index = event.first.index;
+  *first_group = event.first.group;
+  *last_known = event.last.known;
+  *last_index = event.last.index;
+  *last_group = event.last.group;
+  *word = event.word;
+  return (int)result;
+}
+
+int interlaken_dpi_byte(void *receiver, unsigned int offset, unsigned char *value) {
+  const struct live *live = (const struct live *)receiver;
+  *value = 0;
+  if (live == NULL || live->packet == NULL) return INTERLAKEN_NO_RECEIVER;
+  if (offset >= live->length) return INTERLAKEN_NO_PACKET;
+  *value = live->packet[offset];
+  return INTERLAKEN_DONE;
+}
+
+int interlaken_dpi_report(void *receiver, unsigned int lane, unsigned long long *locks, unsigned long long *has_first,
+                          unsigned long long *first, unsigned long long *lost, unsigned long long *unframed, unsigned long long *bad,
+                          unsigned long long *sync, unsigned long long *state, unsigned long long *diag) {
+  struct live *live = (struct live *)receiver;
+  interlaken_report report;
+  uint32_t result = INTERLAKEN_NO_RECEIVER;
+  memset(&report, 0, sizeof report);
+  if (live != NULL) result = interlaken_receiver_report(&live->receiver, lane, &report);
+  *locks = report.locks;
+  *has_first = report.has_first;
+  *first = report.first;
+  *lost = report.lost;
+  *unframed = report.unframed;
+  *bad = report.bad;
+  *sync = report.sync;
+  *state = report.state;
+  *diag = report.diag;
+  return (int)result;
+}
+
+int interlaken_dpi_lane_state(void *receiver, unsigned int lane, unsigned int *state) {
+  struct live *live = (struct live *)receiver;
+  uint32_t found = INTERLAKEN_LANE_SEARCHING, result = INTERLAKEN_NO_RECEIVER;
+  if (live != NULL) result = interlaken_receiver_lane_state(&live->receiver, lane, &found);
+  *state = found;
+  return (int)result;
+}
