@@ -1,15 +1,14 @@
 #!/usr/bin/env bash
 # Tries the C library: the header's calls beside those of the archive, the C example and the Python module on lanes that the program
 # made, in drawn pieces and orders, beside what `receive` prints and writes; drawn sequences of calls with wrong ones among them, as C
-# and as C++, with the sanitizers where the compiler has them; and each allocation failing. Needs the archive that `rt lib` makes in
-# crates/interlaken_c. CASES=1000 compares as many generated cases, SEQUENCES=100000 tries as many sequences.
+# and as C++, with the sanitizers where the compiler has them; and each allocation failing. Needs an archive of these sources: what the
+# gate or `rt lib` has built, or that of release/. CASES=1000 compares as many generated cases, SEQUENCES=100000 tries as many sequences.
 set -u
 . "$(dirname "$0")/program.bash"
 wants cc gcc
 crate=$top/crates/interlaken_c
-archive=$crate/out/libinterlaken_c.a
 . "$top/tools/archive.bash"
-if is_stale "$archive" "$top"; then
+if ! archive=$(find_archive "$top"); then
   echo "$name: skipped, no archive of these sources (rt lib in crates/interlaken_c makes it)"
   exit 77
 fi
@@ -94,16 +93,21 @@ for case in $(seq 1 "${CASES:-12}"); do
   same_as_receive "case $case" g.plan "$(awk -F, '$1 == "out" { print $2 }' g.plan)" '' "$case"
 done
 
+# A sender that turns channels off and on.
+printf '0,1,off\n300,1,on\n320,2,off\n' >drawn.local
+sed 's/^out,.*/local,drawn.local\nout,drawn/' damaged.plan >drawn.plan
+"$program" link drawn.plan >/dev/null || gives_up 'link with a local file fails'
+
 sanitize=(-fsanitize=address,undefined)
 echo 'int main(void) { return 0; }' >empty.c
 cc "${sanitize[@]}" -o empty empty.c 2>/dev/null && ./empty || { echo "$name: not tried, no sanitizers of cc (Debian package gcc): drawn calls under them"; sanitize=(); }
 cc -std=c99 "${strict[@]}" "${sanitize[@]}" -o calls "$top/checks/clib/calls.c" "$archive"
-drawn=$(./calls damaged.plan damaged.lane.0 damaged.lane.1 "${SEQUENCES:-500}" 2>&1)
+drawn=$(./calls drawn.plan drawn.lane.0 drawn.lane.1 "${SEQUENCES:-500}" 2>&1)
 sed -n "s/^not tried/$name: &/p" <<<"$drawn"
 holds 'drawn calls' "$(sed '/^not tried/d; s/^[0-9]* tried, //' <<<"$drawn")" '0 wrong'
 if ! lacks c++ g++ 'the same calls as C++'; then
   c++ "${strict[@]}" -x c++ "$top/checks/clib/calls.c" -x none -o calls_plus "$archive"
-  holds 'drawn calls as C++' "$(./calls_plus damaged.plan damaged.lane.0 damaged.lane.1 100 2>&1 | sed '/^not tried/d; s/^[0-9]* tried, //')" '0 wrong'
+  holds 'drawn calls as C++' "$(./calls_plus drawn.plan drawn.lane.0 drawn.lane.1 100 2>&1 | sed '/^not tried/d; s/^[0-9]* tried, //')" '0 wrong'
 fi
 
 if ! lacks python3 python3 'examples/python'; then
@@ -115,6 +119,18 @@ for kind, prefix in (i.Result, ""), (i.Cause, ""), (i.Key, "KEY_"), (i.Kind, "")
     for one in kind:
         print(one.name if one.name == "NO_KEY" else prefix + one.name, one.value)
 ' "$top/examples/python" | LC_ALL=C sort)" "$numbers"
+  holds 'channels that the far end turns off, in Python' "$(python3 -B -c '
+import sys
+sys.path.insert(0, sys.argv[1])
+import interlaken as i
+lanes = [open("drawn.lane.%d" % lane, "rb").read() for lane in (0, 1)]
+with i.Receiver(open("drawn.plan", "rb").read(), "library/lib/libinterlaken.so") as receiver:
+    events = receiver.feed_all(lanes)
+    next(event for event in events if isinstance(event, i.Flow))
+    print(receiver.is_on(1), receiver.is_on(2))
+    list(events)
+    print(receiver.is_on(1), receiver.is_on(2), receiver.is_on(7))
+' "$top/examples/python" 2>&1)" $'False True\nTrue False True'
   holds 'examples/python' "$(python3 -B "$top/examples/python/packets.py" library/lib/libinterlaken.so damaged.plan damaged.lane.0 damaged.lane.1 2>&1)" "$printed"
 fi
 ends

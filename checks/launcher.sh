@@ -10,14 +10,14 @@ wants python3 python3
 folder=$(mktemp -d)
 trap 'rm -rf "$folder"' EXIT
 tree=$folder/a\ tree
-mkdir -p "$tree"/{release,checks,tools,.ci} "$folder"/{bin,elsewhere} "$tree"/crates/{low,interlaken,interlaken_main,beside}/src
+mkdir -p "$tree"/{release,checks,tools,.ci} "$folder"/{bin,elsewhere} "$tree"/crates/{low,interlaken,interlaken_main,beside,interlaken_c}/src
 cp "$top/interlaken" "$tree"
-cp -r "$top"/tools/{sources.bash,build,building,release} "$tree/tools/"
+cp -r "$top"/tools/{sources.bash,archive.bash,build,building,release} "$tree/tools/"
 cp "$top"/checks/{run,release.sh,*.bash} "$tree/checks/"
 cp "$top/.ci/run" "$tree/.ci/"
-printf '%s\n' 'low:' 'interlaken: low' 'interlaken_main: interlaken low' 'beside: low' >"$tree/crates.txt"
+printf '%s\n' 'low:' 'interlaken: low' 'interlaken_main: interlaken low' 'beside: low' 'interlaken_c staticlib: beside core' >"$tree/crates.txt"
 echo 'Handles allowed: none.' >"$tree/HANDLES"
-for crate in low interlaken interlaken_main beside; do
+for crate in low interlaken interlaken_main beside interlaken_c; do
   echo "$crate as released" >"$tree/crates/$crate/src/lib.rt"
 done
 
@@ -171,21 +171,50 @@ touch -r "$folder/time" "$tree/crates/low/src/lib.rt"
 ran 'a change, then, that keeps length and time' '70 ' without x
 tree=$folder/a\ tree
 
-# tools/release and its check.
+# tools/release and its check, and the archive of the C library, which stands on low and beside.
 checked() { # WHAT WANTED
   holds "$1" "$(cd "$tree" && PATH=$folder/bin:$PATH INTERLAKEN_BUILT=crates/interlaken_main/out/interlaken_main bash checks/release.sh 2>&1 | tail -n 1)" "$2"
 }
-holds 'a release without a built program' "$("$tree/tools/release" 2>&1 | grep -c absent)" 1
-mkdir "$tree/crates/interlaken_main/out"
+found() { # WHAT WANTED
+  holds "$1" "$(. "$tree/tools/archive.bash" && find_archive "$tree")" "${2:+$tree/$2}"
+}
+fails_to_release() { # WHAT WORD
+  holds "$1" "$(PATH=$folder/bin:$PATH "$tree/tools/release" 2>&1 | grep -c "$2")" 1
+}
+built=crates/interlaken_c/out/libinterlaken_c.a
+fails_to_release 'a release without a built program' 'interlaken_main is absent'
+mkdir "$tree"/crates/interlaken_{main,c}/out
 install "$folder/built" "$tree/crates/interlaken_main/out/interlaken_main"
-holds 'a release' "$(PATH=$folder/bin:$PATH "$tree/tools/release" | wc -l)" 3
-checked 'the release that was made' 'release: 5 passed, 0 failed'
+fails_to_release 'a release without an archive' 'libinterlaken_c.a is absent'
+found 'no archive' ''
+echo archive >"$tree/$built"
+found 'an archive that was built' "$built"
+holds 'a release' "$(PATH=$folder/bin:$PATH "$tree/tools/release" | wc -l)" 5
+checked 'the release that was made' 'release: 8 passed, 0 failed'
 ran 'what was released' '5 built' without x
+mv "$tree/$built" "$folder/archive"
+found 'the archive of the release' release/libinterlaken-x86_64-linux.a
+checked 'the release where no archive was built' 'release: 7 passed, 0 failed'
+say beside 'beside as changed'
+found 'the archive of a release of other sources' ''
+checked "a changed source of the C library's alone" 'release: 6 passed, 1 failed'
+mv "$folder/archive" "$tree/$built"
+found 'an archive that is older than its sources' ''
+fails_to_release 'a release of an older archive' 'libinterlaken_c.a is older'
+ran 'the program where the C library has other sources' '5 built' without x
+say beside 'beside as released'
+touch "$tree/$built"
+echo more >>"$tree/$built"
+checked 'another archive' 'release: 7 passed, 1 failed'
+rm "$tree/$built"
+echo more >>"$tree/release/libinterlaken-x86_64-linux.a"
+found 'an archive of the release that is damaged' ''
+checked 'a damaged archive' 'release: 6 passed, 1 failed'
 say low 'low of tomorrow'
-checked 'a changed source' 'release: 4 passed, 1 failed'
-holds 'a release of an older program' "$(PATH=$folder/bin:$PATH "$tree/tools/release" 2>&1 | grep -c older)" 1
+checked 'a changed source, too' 'release: 4 passed, 3 failed'
+fails_to_release 'a release of an older program' 'interlaken_main is older'
 echo '# other' >>"$tree/crates/interlaken_main/out/interlaken_main"
-checked 'another program, and a changed source' 'release: 3 passed, 2 failed'
+checked 'another program, too' 'release: 3 passed, 4 failed'
 
 # checks/run and the gate. The name of the file is cut in two here, since a check that has it is one that tries the program.
 begin='. "$(dirname "$0")"/program'.bash

@@ -1,7 +1,8 @@
 #!/usr/bin/env bash
-# Whether release/ is that of this tree: its program is whole, runs, and is byte for byte what the gate has built; its sum of sources
-# is that of the sources, and its kit the one that is here. INTERLAKEN_BUILT names the program that the gate has built, which then
-# has to be there; without it, one that was built in this checkout counts where it is not older than its sources.
+# Whether release/ is that of this tree: its program is whole, runs, and is byte for byte what the gate has built, and so is its archive
+# of the C library, but for running; its sums of sources are those of the sources, and its kit the one that is here. INTERLAKEN_BUILT
+# names the program that the gate has built, which then has to be there; without it, one that was built in this checkout counts where
+# it is not older than its sources, and so does the archive.
 set -u
 top=$(cd "$(dirname "${BASH_SOURCE[0]}")/.." && pwd)
 . "$top/checks/tally.bash"
@@ -11,13 +12,25 @@ built=${INTERLAKEN_BUILT:-}
 if [ -z "$built" ] && [ -x "crates/$main/out/$main" ] && ! is_older "crates/$main/out/$main" .; then
   built=crates/$main/out/$main
 fi
+archive=crates/$library/out/lib$library.a
 
 holds 'the SHA-256 of the program' "$(cd release && sha256sum "${release##*/}" 2>&1)" "$(cat "$release.sha256" 2>&1)"
 holds 'the sum of the sources (after a change tools/release makes another)' "$(sum_of_sources .)" "$(cat release/sources.sha256 2>&1)"
+if [ -f "$library_release" ]; then
+  holds 'the SHA-256 of the archive' "$(cd release && sha256sum "${library_release##*/}" 2>&1)" "$(cat "$library_release.sha256" 2>&1)"
+  holds "the sum of the C library's sources" "$(sum_of_sources . "$library")" "$(cat release/library_sources.sha256 2>&1)"
+else
+  echo "release: not tried, no archive in the release: whether it is whole and of these sources"
+fi
 if command -v rt >/dev/null 2>&1; then
   holds 'the version of the kit' "$(rt version)" "$(cat release/kit 2>&1)"
 else
   echo "release: not tried, no rt (of the kit): the version of the kit"
+fi
+if [ -f "$library_release" ] && [ -f "$archive" ] && ! is_older "$archive" . "$library"; then
+  holds 'the archive that was built, beside that of the release' "$(cmp "$archive" "$library_release" 2>&1)" ''
+else
+  echo "release: not tried, no archive that the gate has built here, or none in the release: whether these are one"
 fi
 if [ "$(uname -sm)" != 'Linux x86_64' ]; then
   echo "release: not tried, no Linux on x86-64: the program of the release"

@@ -1,29 +1,37 @@
-# For the launcher, tools/release and the checks of both: the sources of the program, and their sum.
+# For the launcher, tools/release, tools/archive.bash and their checks: the sources of the program and of the C library, and their sums.
 main=interlaken_main
 release=release/interlaken-x86_64-linux
+library=interlaken_c
+library_release=release/libinterlaken-x86_64-linux.a
 
-# The lines of crates.txt of the program's crate and of those that it stands on.
-lines_of_crates() { # FOLDER
-  awk -v main="$main" '
-    /^[a-z]/ { name = $1; sub(/:.*/, "", name); line[name] = $0; order[++count] = name }
+# The lines of crates.txt of a crate and of those that it stands on. A line begins with the crate's name, and maybe its kind, before a
+# colon.
+lines_of_crates() { # FOLDER CRATE
+  awk -v main="$2" '
+    /^[a-z]/ {
+      name = uses = $0
+      sub(/[ :].*/, "", name)
+      sub(/^[^:]*:/, "", uses)
+      line[name] = $0; below[name] = uses; order[++count] = name
+    }
     END {
       wanted[main] = 1
       do {
         more = 0
         for (i = 1; i <= count; i++) {
           if (!(order[i] in wanted)) continue
-          words = split(line[order[i]], used, /[ :]+/)
-          for (k = 2; k <= words; k++) if ((used[k] in line) && !(used[k] in wanted)) { wanted[used[k]] = 1; more = 1 }
+          words = split(below[order[i]], used, / +/)
+          for (k = 1; k <= words; k++) if ((used[k] in line) && !(used[k] in wanted)) { wanted[used[k]] = 1; more = 1 }
         }
       } while (more)
       for (i = 1; i <= count; i++) if (order[i] in wanted) print line[order[i]]
     }' "$1/crates.txt"
 }
 
-# Sets lines to these lines, and parts to the folders of these crates that are proved and built.
-find_parts() { # FOLDER
+# Sets lines to these lines of the program or of another crate, and parts to the folders of these crates that are proved and built.
+find_parts() { # FOLDER [CRATE]
   local line part
-  mapfile -t lines < <(lines_of_crates "$1")
+  mapfile -t lines < <(lines_of_crates "$1" "${2:-$main}")
   parts=()
   for line in "${lines[@]}"; do
     for part in "crates/${line%%[: ]*}"/{src,specs,proofs}; do
@@ -32,11 +40,11 @@ find_parts() { # FOLDER
   done
 }
 
-# SHA-256 of all that the program is built of: the crates' lines, what HANDLES allows, and each file by its SHA-256 and its name.
-# Nothing, and a status that is not 0, where a file cannot be read.
-sum_of_sources() { # FOLDER
+# SHA-256 of all that the program, or another crate, is built of: the crates' lines, what HANDLES allows, and each file by its SHA-256
+# and its name. Nothing, and a status that is not 0, where a file cannot be read.
+sum_of_sources() { # FOLDER [CRATE]
   local lines parts sum
-  find_parts "$1"
+  find_parts "$@"
   sum=$(
     set -o pipefail
     cd "$1" && {
@@ -45,9 +53,9 @@ sum_of_sources() { # FOLDER
   ) && echo "${sum%% *}"
 }
 
-# Whether the program is older than a file that it is built of.
-is_older() { # PROGRAM FOLDER
+# Whether a file that was built of the program's sources, or of those of another crate, is older than one of them.
+is_older() { # FILE FOLDER [CRATE]
   local lines parts
-  find_parts "$2"
+  find_parts "$2" "${3:-$main}"
   [ -n "$(cd "$2" && find crates.txt HANDLES "${parts[@]}" -newer "$1" -print -quit)" ]
 }

@@ -12,8 +12,8 @@ def graph_of(path):
     with open(path) as file:
         for line in file:
             if line[0].isalpha():
-                name, _, below = line.partition(":")
-                uses[name] = below.split()
+                head, _, below = line.partition(":")
+                uses[head.split()[0]] = below.split()
     return {name: [it for it in below if it in uses] for name, below in uses.items()}
 
 
