@@ -1,8 +1,8 @@
 -- What other crates cite.
 pub mod Receives
-pub mod PlanLanes
-pub mod ReceiveRun
 -- What this crate alone cites.
+mod LanesThere
 mod FileLanes
 mod Buffers
-mod LanesThere
+mod PlanLanes
+mod ReceiveRun

@@ -7,5 +7,4 @@ mod lanes_in;
 mod open_lanes;
 mod receive;
 
-pub use lanes::FileLanes;
-pub use receive::{PlanLanes, Receive, read_plan_lanes};
+pub use receive::Receive;

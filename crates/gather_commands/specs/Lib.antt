@@ -1,6 +1,0 @@
--- cited by public clauses
-pub mod Gather
-pub mod GatherLaws
--- needed by private functions and proofs alone
-pub mod Taking
-pub mod Lanes
