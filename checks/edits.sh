@@ -4,6 +4,7 @@
 set -u -o pipefail
 top=$(cd "$(dirname "${BASH_SOURCE[0]}")/.." && pwd)
 . "$top/checks/tally.bash"
+. "$top/tools/sources.bash" || gives_up 'there is no tools/sources.bash'
 if [ "${1:-}" != try ]; then
   wants python3 python3
   exec python3 -B "$top/checks/edits.py" "$top"
@@ -15,15 +16,16 @@ for crate in "${@:-none}"; do
 done
 room=$(mktemp -d)
 trap 'rm -rf "$room"' EXIT
-cp "$top/crates.txt" "$top/HANDLES" "$room/"
+cp "$top/HANDLES" "$room/"
 mkdir "$room/.git" "$room/crates"
-for folder in "$top"/crates/*/; do
-  crate=$(basename "$folder")
+# These crates and those that they stand on. Where the kit keeps what the gate proved only the edits are tried.
+for crate in "$@"; do lines_of_crates "$top" "$crate"; done | sort -u >"$room/crates.txt"
+while read -r crate _; do
+  crate=${crate%:}
   mkdir "$room/crates/$crate"
-  find "$folder" -mindepth 1 -maxdepth 1 ! -name out ! -name must-fail -exec cp -a {} "$room/crates/$crate/" \;
+  find "$top/crates/$crate" -mindepth 1 -maxdepth 1 ! -name out ! -name must-fail -exec cp -a {} "$room/crates/$crate/" \;
   case " $* " in
     *" $crate "*) cp -a "$top/checks/edits/$crate" "$room/crates/$crate/must-fail" || exit 1 ;;
   esac
-done
-# What the gate proved on this machine is kept there, so only the edits are tried.
-(cd "$room" && rt ci "$@") | sed -u '$ s/^/edits: /'
+done <"$room/crates.txt"
+(cd "$room" && rt ci) | sed -u '$ s/^/edits: /'

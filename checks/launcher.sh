@@ -29,8 +29,8 @@ program_of() { # NAME
 # The rt that is tried with: a crate whose source says wrong is not proved. A file `meanwhile` names one that is changed during the build.
 cat >"$folder/bin/rt" <<'RT'
 #!/usr/bin/env bash
-[ "$1" = ci ] || { echo a kit; exit; }
 here=$(dirname "$0")/..
+[ "$1" = ci ] || { echo a kit; [ "$1" != help ] || [ -f "$here/keeps nothing" ] || echo 'rt ci [--anew]'; exit; }
 echo "$* jobs=${RT_JOBS:-}" >>"$here/calls"
 [ ! -f "$here/meanwhile" ] || echo changed >>"$(cat "$here/meanwhile")"
 status=0
@@ -126,6 +126,10 @@ ran 'what was proved here, from then on' '5 built' without x
 settings=(INTERLAKEN_PROVE=anew)
 ran 'proved anew' '5 built' with x
 holds 'rt is told' "$(tail -n 1 "$folder/calls")" 'ci --anew jobs='
+touch "$folder/keeps nothing"
+ran 'proved anew by a kit that keeps nothing' '5 built' with x
+holds 'which is not told' "$(tail -n 1 "$folder/calls")" 'ci jobs='
+rm "$folder/keeps nothing"
 settings=()
 
 # Builds that fail, that change under way, and that are asked for twice.

@@ -1,8 +1,9 @@
 #!/usr/bin/env bash
 # Whether release/ is that of this tree: its program is whole, runs, and is byte for byte what the gate has built, and so is its archive
-# of the C library, but for running; its sums of sources are those of the sources, and its kit the one that is here. INTERLAKEN_BUILT
-# names the program that the gate has built, which then has to be there; without it, one that was built in this checkout counts where
-# it is not older than its sources, and so does the archive.
+# of the C library, but for running; and its sums of sources are those of the sources. Another kit than that of the release may build
+# other bytes of the same sources, so what it has built is not compared. INTERLAKEN_BUILT names the program that the gate has built,
+# which then has to be there; without it, one that was built in this checkout counts where it is not older than its sources, and so
+# does the archive.
 set -u
 top=$(cd "$(dirname "${BASH_SOURCE[0]}")/.." && pwd)
 . "$top/checks/tally.bash"
@@ -22,12 +23,13 @@ if [ -f "$library_release" ]; then
 else
   echo "release: not tried, no archive in the release: whether it is whole and of these sources"
 fi
-if command -v rt >/dev/null 2>&1; then
-  holds 'the version of the kit' "$(rt version)" "$(cat release/kit 2>&1)"
-else
-  echo "release: not tried, no rt (of the kit): the version of the kit"
-fi
-if [ -f "$library_release" ] && [ -f "$archive" ] && ! is_older "$archive" . "$library"; then
+kit=$(rt version 2>/dev/null) || kit=
+holds 'the kit that made the release has a name' "$(grep -c . release/kit 2>&1)" 1
+same_kit=
+[ -n "$kit" ] && [ "$kit" != "$(cat release/kit 2>&1)" ] || same_kit=yes
+if [ -z "$same_kit" ]; then
+  echo "release: not tried, no kit $(cat release/kit) but $kit: whether what was built here is the release byte for byte"
+elif [ -f "$library_release" ] && [ -f "$archive" ] && ! is_older "$archive" . "$library"; then
   holds 'the archive that was built, beside that of the release' "$(cmp "$archive" "$library_release" 2>&1)" ''
 else
   echo "release: not tried, no archive that the gate has built here, or none in the release: whether these are one"
@@ -38,7 +40,9 @@ if [ "$(uname -sm)" != 'Linux x86_64' ]; then
 fi
 text=$("$release" 2>&1 </dev/null)
 holds 'the program without words, which prints its usage' "$? ${text%%:*}" '2 usage'
-if [ -n "$built" ]; then
+if [ -z "$same_kit" ]; then
+  :
+elif [ -n "$built" ]; then
   holds 'the program that was built, beside that of the release' "$(cmp "$built" "$release" 2>&1)" ''
 else
   echo "release: not tried, no program that the gate has built here: whether the release is that program"
