@@ -241,6 +241,23 @@ def check_changed(results, folder):
             results.expect("lanes as sent", b"the lanes are as sent, without" in content(os.path.join(folder, "changed.lanes.svg")), True)
 
 
+def check_tables(results, folder):
+    """The events of lanes and the faults of words are drawn where `inspect` and `check` have told them."""
+    run([PROGRAM, "burst", "damaged.plan"], folder)
+    write_files(folder, {"printed": run([PROGRAM, "link", "damaged.plan"], folder).stdout.encode(),
+                         "damaged.events.csv": b"lane,bit,event\n0,6443,lock\n0,10664,diag\n1,6632,lock\n1,12126,bad\n1,12126,balance\n",
+                         "damaged.faults.csv": b"word,rule,channel\n257,crc,-\n"})
+    draw(results, folder, ["damaged.plan", "--text", "printed", "--to", "told"])
+    lanes, stream = (xml.parse(os.path.join(folder, "told.%s.svg" % kind)).getroot() for kind in ("lanes", "stream"))
+    results.expect("events", titles(lanes, "event"), ["word at bit 10664: diag", "word at bit 12126: bad, balance"])
+    results.expect("faults", [element.text for element in stream.iter(SVG + "text") if "breaks" in element.text], ["slot 257 breaks crc"])
+    write_files(folder, {"damaged.events.csv": b"lane,bit,event\n0,6443,lock\n"})
+    told = "picture: damaged.events.csv: its first lock of lane 1 is not that of damaged.lane.1"
+    results.expect("events of other lanes", run([TOOL, "damaged.plan", "--text", "printed"], folder).stderr[:len(told)], told)
+    for name in ("events", "faults"):
+        os.remove(os.path.join(folder, "damaged.%s.csv" % name))
+
+
 def check_joined(results, folder):
     """Spans and captures that `join` left beside damaged lanes: what the text of the lanes says is refused, and no damage is drawn."""
     write_files(folder, {"printed": run([PROGRAM, "link", "damaged.plan"], folder).stdout.encode()})
@@ -258,7 +275,7 @@ def main():
     results = Tally("pictures")
     with tempfile.TemporaryDirectory() as folder:
         shutil.copytree(os.path.join(TOP, "examples"), folder, dirs_exist_ok=True)
-        steps = [check_examples, check_spoiled, check_stale, check_changed, check_joined] + [partial(check_case, number=number) for number in CASES] + [check_wide_link, check_pictures, check_tour]
+        steps = [check_examples, check_spoiled, check_stale, check_changed, check_tables, check_joined] + [partial(check_case, number=number) for number in CASES] + [check_wide_link, check_pictures, check_tour]
         for step in steps:
             try:
                 step(results, folder)

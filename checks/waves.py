@@ -198,6 +198,34 @@ def check_damaged(tally, folder):
     tally.expect("damaged, differing words", [slot for slot, word in received_slots(waves, shape, skews) if word != sent[slot]], [230])
 
 
+# Tables of the example, by the rules: what `inspect` and `check` tell of its lanes, and of words with a fault in the word of slot 230.
+EVENTS = b"lane,bit,event\n0,6443,lock\n0,10664,diag\n1,6632,lock\n"
+FAULTS = b"word,rule,channel\n257,crc,-\n257,off,2\n"
+
+
+def check_tables(tally, folder):
+    """The events of lanes and the faults of words, where their tables are there."""
+    write_files(folder, {"damaged.events.csv": EVENTS, "damaged.faults.csv": FAULTS})
+    waves = made(tally, folder, "damaged", "damaged, with tables")
+    tally.expect("events of lane 0", waves.changes("lane_0.event"), [(0, "-"), (6443, "lock"), (6443 + CODE, "-"), (10664, "diag"), (10664 + CODE, "-")])
+    tally.expect("events of lane 1", waves.changes("lane_1.event"), [(0, "-"), (6632, "lock"), (6632 + CODE, "-")])
+    begin = waves.changes("stream.slot")[[slot for _, slot in waves.changes("stream.slot")].index(257)][0]
+    tally.expect("rules of slot 257", waves.changes("stream.rule")[1], (begin, "crc+off_of_channel_2"))
+    tally.expect("rules end with the slot", [value for _, value in waves.changes("stream.rule")], ["-", "crc+off_of_channel_2", "-"])
+    for name, data, told in (
+            ("events", EVENTS.replace(b"6443", b"6510"), "damaged.events.csv: its first lock of lane 0 is not that of damaged.lane.0"),
+            ("events", EVENTS.replace(b"10664", b"99999"), "damaged.events.csv: row 3: no word of the lanes"),
+            ("events", EVENTS.replace(b"diag", b"dial"), "damaged.events.csv: row 3: 'dial' is no event"),
+            ("faults", FAULTS.replace(b"257,off", b"392,off"), "damaged.faults.csv: row 3: word 392, and the words file has 392"),
+            ("faults", b"word,rule\n", "damaged.faults.csv: no table with the heading word,rule,channel")):
+        kept = {"events": EVENTS, "faults": FAULTS}[name]
+        write_files(folder, {"damaged.%s.csv" % name: data})
+        expect_refused(tally, folder, told, ["damaged.plan"], 1, told)
+        write_files(folder, {"damaged.%s.csv" % name: kept})
+    for name in ("events", "faults"):
+        os.remove(os.path.join(folder, "damaged.%s.csv" % name))
+
+
 def check_losses(tally, folder):
     """Links that lose locks in known ways, and others whose damage is drawn."""
     for shape in HARD:
@@ -298,6 +326,7 @@ def main():
         for shape in EXAMPLES:
             check_sent(tally, folder, shape)
         check_damaged(tally, folder)
+        check_tables(tally, folder)
         check_losses(tally, folder)
         check_refused(tally, folder)
     for reader in READERS:

@@ -13,6 +13,7 @@ from reading.files import Folder, Refused
 from reading.lane_bits import read_lanes
 from reading.kinds import read_plan
 from reading.plans import Plan, Schedule, Settings, are_settings
+from reading.tables import read_events, read_faults
 from reading.words import Stream, are_joined, read_spans
 
 
@@ -135,11 +136,19 @@ def draw_plan(work):
         lanes, as_sent = lanes_of(work, plan, schedule)
         damaged = damage_of({lane.number: lane.damaged_slots(plan) for lane in lanes})
         skew = lanes[0].front
+        take_events(folder, plan, lanes)
         work.save(lambda path: draw_lanes(lanes, plan, as_sent, path), plan.out, "lanes")
     elif all(folder.has("%s.lane.%d" % (plan.out, lane)) for lane in range(plan.lanes)):
         lanes_of(work, plan, schedule)
     if work.wants("stream"):
         draw_plan_stream(work, plan, schedule, lanes if work.wants("lanes") else None, damaged, skew)
+
+
+def take_events(folder, plan, lanes):
+    """The events of a table of the lanes, where there is one, but for the locks that are declared."""
+    for lane, events in zip(lanes, read_events(folder, plan, lanes) or []):
+        told = {bit: [kind for kind in kinds if kind != "lock"] for bit, kinds in events.items()}
+        lane.events = {bit: kinds for bit, kinds in told.items() if kinds}
 
 
 def draw_plan_stream(work, plan, schedule, lanes, damaged, skew):
@@ -155,7 +164,8 @@ def draw_plan_stream(work, plan, schedule, lanes, damaged, skew):
         must_be_in_lanes(stream, name, plan, lanes, spans)
     # What came of a words file came of no lanes.
     damaged = {slot: places for slot, places in damaged.items() if slot < stream.count and not are_joined(spans)}
-    work.save(lambda path: draw_stream(stream, plan, spans, damaged, came, path), plan.out, "stream")
+    faults = read_faults(folder, plan, stream.count)
+    work.save(lambda path: draw_stream(stream, plan, spans, damaged, came, faults, path), plan.out, "stream")
 
 
 def main(words):

@@ -21,7 +21,7 @@ def interesting(lanes, period):
     for lane in lanes:
         marks = [lane.lock] if lane.lock is not None else []
         damaged = merged([(first, end) for first, end, _ in lane.damaged()], period)
-        for bit in marks + [bit for part in damaged for bit in part]:
+        for bit in marks + [bit for part in damaged for bit in part] + list(lane.events):
             begin = lane.front + (bit - lane.front) // period * period
             keep.append((begin - period // 2, begin + period + period // 2))
     return keep
@@ -47,7 +47,7 @@ def axis_of(lanes, plan):
 
 
 def is_quiet(lane):
-    return lane.lock is not None and not lane.damaged() and not lane.note and not counts_text(lane)
+    return lane.lock is not None and not lane.damaged() and not lane.events and not lane.note and not counts_text(lane)
 
 
 def bands_of(lanes):
@@ -101,6 +101,27 @@ def place_text(first, end, count, what):
     return "%d bits of %d to %d are %s" % (count, first, end - 1, names[what])
 
 
+def events_of(lane, row):
+    """The events in drawn parts as (first bit, last bit, count, kinds), near ones together."""
+    apart = 6
+    while True:
+        found = []
+        for bit, kinds in sorted(lane.events.items()):
+            if found and row.x(bit) - row.x(found[-1][1]) < apart:
+                first, _, count, before = found[-1]
+                found[-1] = (first, bit, count + len(kinds), before + [kind for kind in kinds if kind not in before])
+            else:
+                found.append((bit, bit, len(kinds), list(kinds)))
+        if len(found) <= MOST_PLACES or apart > row.right:
+            return found
+        apart *= 2
+
+
+def event_text(first, last, count, kinds):
+    where = "word at bit %d" % first if first == last else "%d events of words at bits %d to %d" % (count, first, last)
+    return "%s: %s" % (where, ", ".join(kinds))
+
+
 def counts_text(lane):
     """What the program counted besides the first lock, where it is not 0."""
     usual = {"locks": "0" if lane.lock is None else "1"}
@@ -150,6 +171,8 @@ class Drawing:
             labels.place(self.row.x(lane.lock) + 2, "\u25c0 " + text)
         for first, end, count, what in places_of(lane, self.row):
             labels.place(self.row.x(first) + 12, place_text(first, end, count, what), FILLS[what])
+        for first, last, count, kinds in events_of(lane, self.row):
+            labels.place(self.row.x(first) + 12, event_text(first, last, count, kinds), COLOURS["lost"])
         if lane.note:
             labels.place(LEFT, lane.note, COLOURS["note"])
         return labels
@@ -190,6 +213,8 @@ class Drawing:
         for first, end, count, what in places_of(lane, row):
             if end - first > 1:
                 picture.box(row.x(first), top + TALL, max(row.x(end - 1) - row.x(first), 1.5), 3, FILLS[what], place_text(first, end, count, what))
+        for first, last, count, kinds in events_of(lane, row):
+            picture.box(row.x(first), top + TALL, max(row.x(last + CODE) - row.x(first), 1.5), 5, COLOURS["lost"], event_text(first, last, count, kinds), "event")
         drawn = None
         for first, end, what in lane.damaged():
             if what == "dark":
@@ -236,6 +261,8 @@ class Drawing:
             parts.append("red in the middle: no Sync word where one should begin")
         if any(lane.dark for lane in self.lanes):
             parts.append("violet: dark bits")
+        if any(lane.events for lane in self.lanes):
+            parts.append("red below a lane: what `inspect` tells of it besides locks")
         if not self.groups:
             parts.append("no groups: no Sync words of all lanes are within %d bits, the deskew depth" % (CODE * self.plan.deskew))
         if self.as_sent:
@@ -245,7 +272,9 @@ class Drawing:
 
 
 def draw_lanes(lanes, plan, as_sent, path):
-    """Draws the lanes of a plan; returns how many lanes, groups and damaged places the picture has."""
+    """Draws the lanes of a plan; returns how many lanes, groups and damaged places the picture has, and events, where there are some."""
     drawing = Drawing(lanes, plan, as_sent)
     drawing.draw().save(path)
-    return {"lanes": len(lanes), "groups": len(drawing.groups), "damaged": sum(len(lane.damaged()) for lane in lanes)}
+    counts = {"lanes": len(lanes), "groups": len(drawing.groups), "damaged": sum(len(lane.damaged()) for lane in lanes)}
+    events = sum(len(kinds) for lane in lanes for kinds in lane.events.values())
+    return {**counts, "events": events} if events else counts

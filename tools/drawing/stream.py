@@ -11,21 +11,22 @@ FEW = 900  # slots of a stream that is drawn whole but for such runs
 MOST_ROWS, LEAST_SCALE = 30, 3
 MOST_STRIPS = 6  # channels of a row that have strips of their own where none of their packets is lost
 STRIP, EDGE = 36, 5
+MOST_FAULTS = 6  # words of a row that break a rule and have texts of their own
 MOST_LINES = 3  # of texts of spans over a row
 MOST_NAMED = 4  # lanes that are named in the text of damaged slots
 
 
-def marks_of(stream, spans, damaged, lost):
+def marks_of(stream, spans, damaged, lost, faults=()):
     """The parts of a long stream that are drawn: around the ends of its packets, of fault spans and of packets that did not come."""
     ends = [(stream.packets[0].first - 4, stream.packets[0].first + 60)] if stream.packets else []
     ends += [(slot - 40, slot + 8) for slot in [max(packet.last or packet.first for packet in stream.packets)]] if stream.packets else []
-    keep = [(slot - 6, slot + 7) for slot in damaged]
+    keep = [(slot - 6, slot + 7) for slot in [*damaged, *faults]]
     keep += [(slot - 6, slot + 10) for span in spans for slot in (span.after, span.before) if slot is not None]
     keep += [(slot - 3, slot + 4) for packet in lost for slot in (packet.first, packet.last)]
     return keep + ends
 
 
-def parts_of(stream, spans, damaged, lost):
+def parts_of(stream, spans, damaged, lost, faults):
     """The axis, folded where the stream is quiet: long runs of idles and of data, and where it is long all that has no mark."""
     quiet = [(a, b) for a, b in stream.runs("i", IDLES)] + [(a, b) for a, b in stream.runs("d", DATA)]
     shown, at = [], 0
@@ -34,7 +35,7 @@ def parts_of(stream, spans, damaged, lost):
         at = last - 4
     shown.append((at, stream.count))
     shown = [(a if a == 0 else max(a, 0), b) for a, b in shown if not (b - a <= 4 and (a == 0 or b == stream.count))]
-    marks = marks_of(stream, spans, damaged, lost)
+    marks = marks_of(stream, spans, damaged, lost, faults)
     if sum(b - a for a, b in shown) > FEW:
         shown = []
     shown += [(max(a, 0), min(b, stream.count)) for a, b in marks]
@@ -49,11 +50,11 @@ class Strip:
 
 
 class Drawing:
-    def __init__(self, stream, plan, spans, damaged, came):
-        self.stream, self.spans, self.damaged, self.places, self.came = stream, spans, sorted(damaged), damaged, came
+    def __init__(self, stream, plan, spans, damaged, came, faults):
+        self.stream, self.spans, self.damaged, self.places, self.came, self.faults = stream, spans, sorted(damaged), damaged, came, faults
         self.lost = [packet for packet in stream.packets if any(meets(span, packet) for span in spans)]
         self.colours = channel_colours(plan.channels)
-        self.parts = parts_of(stream, spans, self.damaged, self.lost)
+        self.parts = parts_of(stream, spans, self.damaged, self.lost, faults)
         self.scale = best_scale(self.parts, ROOM, FOLD, LEAST_SCALE, MOST_ROWS)
         self.scale = min(self.scale, 12)
         self.rows = rows_of(self.parts, LEFT, LEFT + ROOM, self.scale, FOLD)
@@ -69,7 +70,13 @@ class Drawing:
             text = few.get(count, "%d of slots %d to %d are damaged" % (count, first, last))
             places = [place for slot in self.damaged if first <= slot <= last for place in self.places[slot]]
             under.place(row.x(first) + 4, "%s: %s" % (text, places_text(places)), COLOURS["lost"])
+        for slot in self.faults_in(row)[:MOST_FAULTS]:
+            under.place(row.x(slot) + 4, "slot %d breaks %s" % (slot, ", ".join(self.faults[slot])), COLOURS["flip"])
         return over, under, self.strips_of(row)
+
+    def faults_in(self, row):
+        """The slots of a row whose words break a rule."""
+        return [slot for slot in sorted(self.faults) if row.first <= slot < row.last]
 
     def shown_part(self, row, span):
         """The slots of a row that are in a span, or None."""
@@ -167,6 +174,9 @@ class Drawing:
             if row.first <= slot < row.last:
                 x = row.x(slot) + (self.scale / 2 if row.shows(slot) else 0)
                 self.picture.line(x, words - 6, x, words + 38, COLOURS["lost"])
+        for slot in self.faults_in(row):
+            x = row.x(slot) + (self.scale / 2 if row.shows(slot) else 0)
+            self.picture.line(x, words + 30, x, words + 42, COLOURS["flip"])
         under.draw(self.picture, words + 50)
         at = words + 62 + max(under.height() - LINE, 0)
         for strip in strips:
@@ -238,6 +248,8 @@ class Drawing:
         parts = ["tall: control words", "red boxes: the packets that meet a span, which did not come"] if self.lost else ["tall: control words"]
         if any(is_folded for _, _, is_folded in self.parts):
             parts.append("dotted: as many slots as are written there are left out")
+        if self.faults:
+            parts.append("marks below words: rules that `check` says they break")
         if any(packet.last is None for packet in self.stream.packets):
             parts.append("grey packets: no end word in the stream")
         if not all(span.exact for span in self.spans):
@@ -275,9 +287,11 @@ def spans_text(spans):
     return "spans %d to %d%s: %s" % (first, last, "".join(slots), ", ".join(sorted({span.why for _, span in spans})))
 
 
-def draw_stream(stream, plan, spans, damaged, came, path):
-    """Draws a stream; `damaged` has by slot its damaged places, (lane, first bit, last bit), and `came` the packets of the captures by
-    channel. Returns how many words, packets, lost packets and spans there are."""
-    drawing = Drawing(stream, plan, spans, damaged, came)
+def draw_stream(stream, plan, spans, damaged, came, faults, path):
+    """Draws a stream; `damaged` has by slot its damaged places, (lane, first bit, last bit), `came` the packets of the captures by
+    channel, and `faults` by slot the rules that its word breaks. Returns how many words, packets, lost packets and spans there are, and
+    faults, where there are some."""
+    drawing = Drawing(stream, plan, spans, damaged, came, faults)
     drawing.draw().save(path)
-    return {"words": stream.count, "packets": len(stream.packets), "lost": len(drawing.lost), "spans": len(spans)}
+    counts = {"words": stream.count, "packets": len(stream.packets), "lost": len(drawing.lost), "spans": len(spans)}
+    return {**counts, "faults": sum(map(len, faults.values()))} if faults else counts

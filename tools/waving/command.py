@@ -9,6 +9,7 @@ from reading.files import Folder, Refused
 from reading.kinds import read_plan
 from reading.lane_bits import read_lanes
 from reading.plans import Schedule
+from reading.tables import read_events, read_faults
 from reading.words import Stream, read_spans
 from waving.signals import LaneWaves, StreamWaves
 from waving.vcd import write_vcd
@@ -44,13 +45,18 @@ def write_waves(folder, name, path):
     plan = read_plan(folder, name)
     lanes = lanes_of(folder, plan, name)
     stream, spans = stream_of(folder, plan, lanes)
-    waves = [LaneWaves(lane, plan, stream) for lane in lanes]
-    scopes = [StreamWaves(stream, spans, plan, lanes[0].front).scope] if stream else []
+    events, faults = read_events(folder, plan, lanes), read_faults(folder, plan, stream.count) if stream else {}
+    waves = [LaneWaves(lane, plan, stream, events and events[lane.number]) for lane in lanes]
+    scopes = [StreamWaves(stream, spans, plan, lanes[0].front, faults).scope] if stream else []
     path = path or plan.out + ".vcd"
     write_file(folder, path, scopes + [wave.scope for wave in waves], max(len(lane.bits) for lane in lanes))
     counts = {"lanes": len(lanes), "locks": sum(wave.locks for wave in waves), "words": sum(wave.words for wave in waves)}
     if stream:
         counts.update(slots=stream.count, spans=len(spans))
+    if events is not None:
+        counts.update(events=sum(len(kinds) for found in events for kinds in found.values()))
+    if faults:
+        counts.update(faults=sum(map(len, faults.values())))
     return "%s %s" % (path, " ".join("%s=%d" % count for count in counts.items()))
 
 

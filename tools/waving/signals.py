@@ -15,18 +15,41 @@ LANE = [Signal("string", 1, "lock"), Signal("string", 1, "role"), Signal("intege
 SEARCH = ("search", NONE, None, None, None, None, None, 0)
 STREAM = [Signal("integer", 32, "slot"), Signal("string", 1, "kind"), Signal("wire", 64, "word"), Signal("integer", 32, "channel"), Signal("integer", 32, "span")]
 NO_SLOT = (None, NONE, None, None)
+EVENT, RULE = Signal("string", 1, "event"), Signal("string", 1, "rule")
 KINDS = {"i": "idle", "e": "idle", "b": "burst", "d": "data", "x": "bad"}
+
+
+def texts_of(kinds):
+    """Several in one text of a signal, in which no blank may stand."""
+    return "+".join(kinds).replace(" ", "_")
+
+
+def together(signals, others, before):
+    """The changes of signals and those of one other signal, which has the value `before` at first, as changes of all of them."""
+    values, other = None, before
+    for time, is_other, value in merge(((time, False, values) for time, values in signals), ((time, True, value) for time, value in others), key=itemgetter(0)):
+        values, other = (values, value) if is_other else (value, other)
+        if values is not None:
+            yield time, values + (other,)
 
 
 class LaneWaves:
     """The signals of a lane; `words` and `locks` count what was read when the changes have been taken. The stream, where there is one,
-    has to be that of the lane."""
+    has to be that of the lane. `events` are those of the lane by bit, where there is a table of them."""
 
-    def __init__(self, lane, plan, stream):
+    def __init__(self, lane, plan, stream, events=None):
         self.lane, self.plan, self.stream = lane, plan, stream
         self.words = self.locks = 0
         self.received = []
-        self.scope = Scope("lane_%d" % lane.number, LANE, self.changes())
+        told = events is not None
+        changes = together(self.changes(), self.event_changes(events), NONE) if told else self.changes()
+        self.scope = Scope("lane_%d" % lane.number, LANE + [EVENT] * told, changes)
+
+    def event_changes(self, events):
+        """The events of a word from its first bit up to its end."""
+        texts = {bit + CODE: NONE for bit in events}
+        texts.update((bit, texts_of(kinds)) for bit, kinds in events.items())
+        return sorted(texts.items())
 
     def changes(self):
         """Each word from its first bit on; between locks, and after the last whole word, a search."""
@@ -66,11 +89,18 @@ def values_of(word):
 
 class StreamWaves:
     """The signals of the sent stream and of the fault spans, at the words of lane 0: the words of a row, one of each lane, share the
-    67 bits of lane 0's. `front` is the first sent bit of lane 0."""
+    67 bits of lane 0's. `front` is the first sent bit of lane 0, and `faults` are the rules that words break, where there are some."""
 
-    def __init__(self, stream, spans, plan, front):
+    def __init__(self, stream, spans, plan, front, faults):
         self.stream, self.spans, self.plan, self.front = stream, spans, plan, front
-        self.scope = Scope("stream", STREAM, self.changes())
+        changes = together(self.changes(), self.fault_changes(faults), NONE) if faults else self.changes()
+        self.scope = Scope("stream", STREAM + [RULE] * bool(faults), changes)
+
+    def fault_changes(self, faults):
+        """The rules that a word breaks from where it begins up to where it ends."""
+        texts = {self.time(slot, after=1): NONE for slot in faults}
+        texts.update((self.time(slot), texts_of(rules)) for slot, rules in faults.items())
+        return sorted(texts.items())
 
     def time(self, slot, after=0):
         """Where a slot begins, or with 1 after it where it ends."""
@@ -78,18 +108,15 @@ class StreamWaves:
         return self.front + bit + CODE * (lane + after) // self.plan.lanes
 
     def changes(self):
-        values, span = NO_SLOT, None
-        for time, is_span, value in merge(self.word_changes(), self.span_changes(), key=itemgetter(0)):
-            values, span = (values, value) if is_span else (value, span)
-            yield time, values + (span,)
+        return together(self.word_changes(), self.span_changes(), None)
 
     def word_changes(self):
         """Each word; no slot in the framing words of lane 0."""
-        yield 0, False, NO_SLOT
+        yield 0, NO_SLOT
         for slot in range(self.stream.count):
-            yield self.time(slot), False, self.values_at(slot)
+            yield self.time(slot), self.values_at(slot)
             if (slot + 1) % self.plan.group == 0:
-                yield self.time(slot, after=1), False, NO_SLOT
+                yield self.time(slot, after=1), NO_SLOT
 
     def values_at(self, slot):
         kind = self.stream.kinds[slot]
@@ -99,6 +126,6 @@ class StreamWaves:
     def span_changes(self):
         """A span from the end of its first word up to its last word."""
         for number, span in enumerate(self.spans):
-            yield 0 if span.after is None else self.time(span.after, after=1), True, number
+            yield 0 if span.after is None else self.time(span.after, after=1), number
             if span.before is not None:
-                yield self.time(span.before), True, None
+                yield self.time(span.before), None
