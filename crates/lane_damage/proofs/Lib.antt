@@ -1,0 +1,3 @@
+mod Points
+mod RowSteps
+mod Joins
