@@ -20,9 +20,9 @@ include=$folder/library/include
 strict=(-Wall -Wextra -Werror -pedantic -O1 "-I$include")
 
 holds 'calls of the header and of the archive' "$(grep -o '^uint32_t interlaken_[a-z_]*' "$include/interlaken.h" | cut -d ' ' -f 2 | sort)" \
-  "$(nm -g --defined-only "$archive" 2>/dev/null | grep -o '\binterlaken_receiver_[a-z_]*$' | sort -u)"
+  "$(nm -g --defined-only "$archive" 2>/dev/null | grep -oE '\binterlaken_(receiver|damage)_[a-z_]*$' | sort -u)"
 holds 'calls of the shared library' "$(nm -D --defined-only library/lib/libinterlaken.so | awk '$2 == "T" { sub(/@.*/, "", $3); print $3 }' | sort)" \
-  "$(nm -g --defined-only "$archive" 2>/dev/null | grep -o '\binterlaken_receiver_[a-z_]*$' | sort -u)"
+  "$(nm -g --defined-only "$archive" 2>/dev/null | grep -oE '\binterlaken_(receiver|damage)_[a-z_]*$' | sort -u)"
 
 # The keys after `out` are of other files, and no plan of lanes lacks one.
 numbers=$(grep -oE '\bINTERLAKEN_[A-Z_]+ = [0-9]+' "$include/interlaken.h" | sed 's/^INTERLAKEN_//; s/ = / /' | LC_ALL=C sort)
@@ -131,6 +131,42 @@ with i.Receiver(open("drawn.plan", "rb").read(), "library/lib/libinterlaken.so")
     list(events)
     print(receiver.is_on(1), receiver.is_on(2), receiver.is_on(7))
 ' "$top/examples/python" 2>&1)" $'False True\nTrue False True'
+  # Rows are given at drawn times before their bits, and lanes pass in drawn pieces.
+  "$program" send drawn.plan >/dev/null || gives_up 'send fails'
+  python3 -c '
+import random
+random.seed(7)
+rows = ["%s,%d,%d" % (kind, random.randrange(2), random.randrange(60000)) + (",%d" % random.randrange(1, 900) if kind == "dark" else "")
+        for kind in random.choices(["flip", "dark"], [9, 1], k=300)]
+open("struck.schedule", "w").write("\n".join(rows + rows[:40]) + "\n")
+'
+  sed 's/^schedule,.*/schedule,struck.schedule/' drawn.plan >struck.plan
+  "$program" damage struck.plan >/dev/null || gives_up 'damage fails'
+  holds 'damage in Python, beside damage' "$(python3 -B -c '
+import random, sys
+sys.path.insert(0, sys.argv[1])
+import interlaken as i
+random.seed(8)
+rows = [[row.split(",")[0]] + [int(word) for word in row.split(",")[1:]] for row in open("struck.schedule")]
+with i.Damage(2, "library/lib/libinterlaken.so") as damage:
+    for lane in (0, 1):
+        data, out = open("drawn.lane.%d" % lane, "rb").read(), b""
+        mine = [(random.randrange(row[2] + 1), row) for row in rows if row[1] == lane]
+        while len(out) < len(data):
+            piece = data[len(out) : len(out) + random.choice([1, 2, 7, 64, 900])]
+            for first, row in [one for one in mine if one[0] < 8 * (len(out) + len(piece))]:
+                damage.flip(lane, row[2]) if row[0] == "flip" else damage.dark(lane, row[2], row[3])
+            mine = [one for one in mine if one[0] >= 8 * (len(out) + len(piece))]
+            out += damage.apply(lane, piece)
+        print(out == open("drawn.damaged.lane.%d" % lane, "rb").read(), out == data, damage.apply(lane, b"") == b"")
+    for wrong in (lambda: damage.flip(0, 7), lambda: damage.dark(1, 0, 8), lambda: damage.flip(0, -1), lambda: damage.dark(0, 1 << 44, 1),
+                  lambda: damage.flip(2, 1 << 20), lambda: damage.apply(-1, b"a"), lambda: i.Damage(0, "library/lib/libinterlaken.so"), damage.close,
+                  lambda: damage.apply(0, b"a")):
+        try:
+            wrong()
+        except i.Misuse as misuse:
+            print(misuse)
+' "$top/examples/python" 2>&1)" $'True False True\nTrue False True\nPASSED\nPASSED\nOUT_OF_RANGE\nOUT_OF_RANGE\nNO_LANE\nNO_LANE\nOUT_OF_RANGE\nNO_DAMAGE'
   holds 'examples/python' "$(python3 -B "$top/examples/python/packets.py" library/lib/libinterlaken.so damaged.plan damaged.lane.0 damaged.lane.1 2>&1)" "$printed"
 fi
 ends

@@ -191,7 +191,7 @@ def main():
         try_page(tally, folder + "/dpi")
         if not os.path.exists(folder + "/dpi/obj_dir/Vtb_live"):
             tally.give_up("the bench", "it is not built")
-        names = numbers_of(TOP + "/include/interlaken.h") + [("INTERLAKEN_NO_ROOM", "9")]
+        names = numbers_of(TOP + "/include/interlaken.h") + [("INTERLAKEN_NO_ROOM", "100")]
         tally.expect("names and numbers of the header and of the package", numbers_of(folder + "/dpi/interlaken_dpi.sv"), sorted(names))
         lint = run("verilator", "--lint-only", "-Wall", "--timing", "-f", "live.f", "--top-module", "tb_live", folder=folder + "/dpi")
         tally.expect("lint", lint, (0, ""))

@@ -1,4 +1,5 @@
-/* The receiving end of an Interlaken link, for C and C++: bytes of lanes in, packets, fault spans and control words out.
+/* The receiving end of an Interlaken link, for C and C++: bytes of lanes in, packets, fault spans and control words out; and damage of
+ * lanes on their way, so that a bench can injure a lane while it runs.
  *
  * A call returns one of `enum interlaken_result`, and is defined for every value of its numbers and every content of its bytes, as
  * long as
@@ -7,9 +8,10 @@
  * - a handle is all zeros, or as the last call on it left it, and is in one place: it may be moved, but of a copy and what it was
  *   copied of only one is used from then on;
  * - a handle is used by one call at a time: where threads share it, one call has returned before the next begins, as by a mutex.
- * Misuse of any other kind has a result, and leaves the receiver as it was. Where several results apply it is the first of
- * NO_RECEIVER, NO_LANE, FINISHED, TOO_MANY. What a call writes need not be initialised before, and is written whatever the result is.
- * After `interlaken_receiver_new` no call takes memory.
+ * Misuse of any other kind has a result, and leaves what the handle has as it was. Where several results apply it is the first of
+ * NO_RECEIVER or NO_DAMAGE, IN_USE, NO_LANE, FINISHED, TOO_MANY, OUT_OF_RANGE, PASSED, OUT_OF_MEMORY. What a call only writes need not be
+ * initialised before, and is written whatever the result is. After `interlaken_receiver_new` no call on a receiver takes memory; of those
+ * on damage `new`, `flip` and `dark` do.
  *
  * Memory comes from the three functions of interlaken_alloc.h. The libraries that tools/library makes have them over malloc, realloc
  * and free. */
@@ -24,19 +26,22 @@ extern "C" {
 #endif
 
 /* The version of these calls. The shared library has the first number in its name. */
-#define INTERLAKEN_VERSION "1.2.0"
+#define INTERLAKEN_VERSION "1.3.0"
 
 /* The results of calls. */
 enum interlaken_result {
   INTERLAKEN_DONE = 0,          /* the call did what it was asked */
-  INTERLAKEN_OUT_OF_MEMORY = 1, /* memory ran out: there is no receiver */
+  INTERLAKEN_OUT_OF_MEMORY = 1, /* memory ran out: there is no receiver, no damage, or no row more */
   INTERLAKEN_BAD_PLAN = 2,      /* the plan is refused: there is no receiver */
-  INTERLAKEN_NO_LANE = 3,       /* the link has no such lane */
+  INTERLAKEN_NO_LANE = 3,       /* there is no such lane */
   INTERLAKEN_FINISHED = 4,      /* the lane was finished before */
   INTERLAKEN_TOO_MANY = 5,      /* the lane has 2^40 bytes or more, or the piece has */
   INTERLAKEN_NO_PACKET = 6,     /* the last event was no packet */
   INTERLAKEN_NO_RECEIVER = 7,   /* the handle has no receiver: it is all zeros, or its receiver was freed */
-  INTERLAKEN_IN_USE = 8         /* the handle has a receiver already, and keeps it */
+  INTERLAKEN_IN_USE = 8,        /* the handle has a receiver, or damage, already, and keeps it */
+  INTERLAKEN_NO_DAMAGE = 9,     /* the handle has no damage: it is all zeros, or its damage was freed */
+  INTERLAKEN_OUT_OF_RANGE = 10, /* there is no such number of lanes, or a lane has no such bit */
+  INTERLAKEN_PASSED = 11        /* all bits that are named have passed: nothing happens to them any more */
 };
 
 /* A handle of a receiver, or of none. All zeros is a handle of none, as in `interlaken_receiver r = {0};`. Both members are the
@@ -45,6 +50,12 @@ typedef struct interlaken_receiver {
   void *at;
   uint8_t live;
 } interlaken_receiver;
+
+/* A handle of the damage of lanes, or of none. All zeros is a handle of none. Both members are the library's own. */
+typedef struct interlaken_damage {
+  void *at;
+  uint8_t live;
+} interlaken_damage;
 
 /* Causes of a refusal. Rows are counted from 1. */
 enum interlaken_cause {
@@ -189,6 +200,35 @@ uint32_t interlaken_receiver_lane_state(interlaken_receiver *receiver, uint32_t 
  * missing, no word counts up to the next with Reset Calendar.
  * Results: DONE, NO_RECEIVER; `on` is 0 where it is not DONE. */
 uint32_t interlaken_receiver_is_on(interlaken_receiver *receiver, uint16_t channel, uint32_t *on);
+
+/* Damage of lanes on their way. The bytes of each lane pass through `apply`, piece by piece, in pieces of any length; what comes out is
+ * fed to a receiver, or to a device. Bits of a lane are counted from 0, the highest bit of its first byte, over all its pieces, as in the
+ * rows of a schedule file: bit n is bit 7 - n % 8 of byte n / 8. A bit is 0 where a dark stretch covers it, else inverted where an odd
+ * number of flips names it; so two flips of one bit cancel each other. Rows may come at any time, also between pieces: the bytes of a lane
+ * that came out, joined, are those of the lane that went in, joined, with all rows that were accepted. */
+
+/* Opens the damage of 1 to 64 lanes behind a handle that has none. Nothing happens to them so far.
+ * Results: DONE, OUT_OF_MEMORY, IN_USE, OUT_OF_RANGE. */
+uint32_t interlaken_damage_new(interlaken_damage *damage, uint32_t lanes);
+
+/* Frees damage with all its memory. Its handle is one of none afterwards.
+ * Results: DONE, NO_DAMAGE. */
+uint32_t interlaken_damage_free(interlaken_damage *damage);
+
+/* Inverts a bit of a lane, counted from 0, once more. It is OUT_OF_RANGE from bit 2^44 on, and PASSED where the bit was in a piece before:
+ * nothing happens then, since its byte is gone.
+ * Results: DONE, OUT_OF_MEMORY, NO_LANE, NO_DAMAGE, OUT_OF_RANGE, PASSED. */
+uint32_t interlaken_damage_flip(interlaken_damage *damage, uint32_t lane, uint64_t bit);
+
+/* Makes `bits` bits of a lane, counted from 0, dark from bit `first` on: each is 0. Those of them that have passed stay as they came out.
+ * It is OUT_OF_RANGE where first + bits is above 2^44, and PASSED where all bits below first + bits have passed: nothing happens then.
+ * Results: DONE, OUT_OF_MEMORY, NO_LANE, NO_DAMAGE, OUT_OF_RANGE, PASSED. */
+uint32_t interlaken_damage_dark(interlaken_damage *damage, uint32_t lane, uint64_t first, uint64_t bits);
+
+/* Damages the next bytes of a lane, counted from 0, in place. Each byte of the lane passes once: what a receiver did not take of it is fed
+ * again as it is. Rows of which all bits have passed are forgotten: a call costs time for its bytes and for the rows that still lie ahead.
+ * Results: DONE, NO_LANE, TOO_MANY, NO_DAMAGE; the bytes stay as they are where it is not DONE. */
+uint32_t interlaken_damage_apply(interlaken_damage *damage, uint32_t lane, uint8_t *bytes, size_t count);
 
 #ifdef __cplusplus
 }

@@ -237,6 +237,161 @@ static void each_allocation(void) {
   want("it needs memory", refused > 10);
 }
 
+/* ---- damage */
+
+#define BYTES 3000
+#define ROWS 200
+
+struct rows {
+  uint64_t flips[ROWS], first[ROWS], end[ROWS];
+  int flip_count, dark_count;
+};
+
+/* A handle of the damage of some lanes, and what is known of two of them: rows that were accepted, and the bytes that went in and out. */
+struct injured {
+  interlaken_damage damage;
+  uint32_t lanes;
+  struct rows rows[2];
+  uint8_t in[2][BYTES], out[2][BYTES];
+  size_t passed[2];
+};
+
+static int bit_of(const uint8_t *bytes, uint64_t n) { return bytes[n / 8] >> (7 - n % 8) & 1; }
+
+/* Bit n as it is received, where b was sent. */
+static int received(const struct rows *rows, uint64_t n, int b) {
+  int i, dark = 0;
+  for (i = 0; i < rows->dark_count; i++) dark = dark || (rows->first[i] <= n && n < rows->end[i]);
+  for (i = 0; i < rows->flip_count; i++) b ^= rows->flips[i] == n;
+  return dark ? 0 : b;
+}
+
+static int is_damaged(const struct rows *rows, uint64_t start, const uint8_t *in, const uint8_t *out, size_t count) {
+  uint64_t n;
+  for (n = 0; n < 8 * (uint64_t)count; n++)
+    if (bit_of(out, n) != received(rows, start + n, bit_of(in, n))) return 0;
+  return 1;
+}
+
+static uint32_t damage_lane_result(const struct injured *k, uint32_t lane) {
+  if (k->lanes == 0) return INTERLAKEN_NO_DAMAGE;
+  return lane >= k->lanes ? INTERLAKEN_NO_LANE : INTERLAKEN_DONE;
+}
+
+/* A bit near the next one of the lane, most often. */
+static uint64_t some_bit(const struct injured *k, uint32_t lane) {
+  static const uint64_t far[] = {0, ((uint64_t)1 << 44) - 1, (uint64_t)1 << 44, ~(uint64_t)0};
+  uint64_t next = 8 * (uint64_t)k->passed[lane & 1];
+  if (below(12) == 0) return far[below(4)];
+  return next + below(800) < 40 ? 0 : next + below(800) - 40;
+}
+
+static uint32_t row_result(const struct injured *k, uint32_t lane, uint64_t end, int in_range) {
+  uint32_t result = damage_lane_result(k, lane);
+  if (result != INTERLAKEN_DONE) return result;
+  if (!in_range) return INTERLAKEN_OUT_OF_RANGE;
+  return end <= (lane < 2 ? 8 * (uint64_t)k->passed[lane] : 0) ? INTERLAKEN_PASSED : INTERLAKEN_DONE;
+}
+
+/* Where memory is to run out in the next call, the call may still do without it. */
+static int may_fail(void) {
+  failing = below(6) == 0 ? allocations : -1;
+  return failing >= 0;
+}
+
+static uint32_t settled(uint32_t result, uint32_t wanted, int fails) {
+  failing = -1;
+  return fails && wanted == INTERLAKEN_DONE && result == INTERLAKEN_OUT_OF_MEMORY ? result : wanted;
+}
+
+static void try_damage_new(struct injured *k) {
+  static const uint32_t few[] = {2, 2, 2, 1, 64, 0, 65, 0xffffffff};
+  uint32_t lanes = few[below(8)], wanted, result;
+  int fails = may_fail();
+  result = interlaken_damage_new(&k->damage, lanes);
+  wanted = k->lanes != 0 ? INTERLAKEN_IN_USE : lanes < 1 || lanes > 64 ? INTERLAKEN_OUT_OF_RANGE : INTERLAKEN_DONE;
+  want("damage new", result == settled(result, wanted, fails));
+  if (result == INTERLAKEN_DONE) memset(k->rows, 0, sizeof k->rows), k->passed[0] = k->passed[1] = 0, k->lanes = lanes;
+  want("damage is live", (k->damage.live != 0) == (k->lanes != 0));
+}
+
+static void try_flip(struct injured *k) {
+  uint32_t lane = some_lane(), result, wanted;
+  uint64_t bit = some_bit(k, lane);
+  struct rows *rows = &k->rows[lane & 1];
+  int fails;
+  if (rows->flip_count == ROWS) return;
+  if (rows->flip_count > 0 && below(4) == 0) bit = rows->flips[below((uint32_t)rows->flip_count)];
+  fails = may_fail();
+  wanted = row_result(k, lane, bit + 1, bit < (uint64_t)1 << 44);
+  result = interlaken_damage_flip(&k->damage, lane, bit);
+  want("flip", result == settled(result, wanted, fails));
+  if (result == INTERLAKEN_DONE && lane < 2) rows->flips[rows->flip_count++] = bit;
+}
+
+static void try_dark(struct injured *k) {
+  uint32_t lane = some_lane(), result, wanted;
+  uint64_t first = some_bit(k, lane), bits = below(10) == 0 ? ~(uint64_t)below(3) : below(3) == 0 ? below(2000) : below(60);
+  struct rows *rows = &k->rows[lane & 1];
+  int fails;
+  if (rows->dark_count == ROWS) return;
+  fails = may_fail();
+  wanted = row_result(k, lane, first + bits, first <= (uint64_t)1 << 44 && bits <= ((uint64_t)1 << 44) - first);
+  result = interlaken_damage_dark(&k->damage, lane, first, bits);
+  want("dark", result == settled(result, wanted, fails));
+  if (result != INTERLAKEN_DONE || lane >= 2) return;
+  /* What has passed stays as it came out. */
+  rows->end[rows->dark_count] = first + bits;
+  rows->first[rows->dark_count++] = first > 8 * (uint64_t)k->passed[lane] ? first : 8 * (uint64_t)k->passed[lane];
+}
+
+static void try_apply(struct injured *k) {
+  uint32_t lane = some_lane(), wanted = damage_lane_result(k, lane), result;
+  size_t passed = k->passed[lane & 1], count = below(3) == 0 ? below(300) : below(12), i;
+  uint8_t piece[300];
+  if (lane < 2 && count > BYTES - passed) count = BYTES - passed;
+  if (lane >= 2 && wanted == INTERLAKEN_DONE) return;
+  if (below(50) == 0 && long_piece != NULL) {
+    result = interlaken_damage_apply(&k->damage, lane, (uint8_t *)long_piece, LONG_PIECE);
+    if (wanted == INTERLAKEN_DONE) wanted = INTERLAKEN_TOO_MANY;
+    want("a long piece", result == wanted);
+    return;
+  }
+  for (i = 0; i < count; i++) piece[i] = (uint8_t)below(256);
+  if (wanted == INTERLAKEN_DONE) memcpy(k->in[lane] + passed, piece, count);
+  result = interlaken_damage_apply(&k->damage, lane, piece, count);
+  want("apply", result == wanted);
+  if (result != INTERLAKEN_DONE) return;
+  memcpy(k->out[lane] + passed, piece, count);
+  want("damaged", is_damaged(&k->rows[lane], 8 * (uint64_t)passed, k->in[lane] + passed, piece, count));
+  k->passed[lane] += count;
+}
+
+static void try_damage_free(struct injured *k) {
+  uint32_t lane, result = interlaken_damage_free(&k->damage);
+  want("damage free", result == (uint32_t)(k->lanes != 0 ? INTERLAKEN_DONE : INTERLAKEN_NO_DAMAGE));
+  want("damage freed", k->damage.live == 0);
+  for (lane = 0; lane < 2 && k->lanes != 0; lane++) want("damaged lane", is_damaged(&k->rows[lane], 0, k->in[lane], k->out[lane], k->passed[lane]));
+  k->lanes = 0;
+}
+
+static void damage_sequence(void) {
+  static struct injured one;
+  uint32_t calls = 20 + below(300);
+  while (calls-- > 0) {
+    long before = allocations;
+    switch (below(40)) {
+      case 0: case 1: case 2: try_damage_new(&one); break;
+      case 3: if (below(4) == 0) try_damage_free(&one); break;
+      case 4: case 5: case 6: case 7: case 8: case 9: try_flip(&one); break;
+      case 10: case 11: case 12: case 13: case 14: try_dark(&one); break;
+      default: try_apply(&one); want("no allocation of a piece", allocations == before); break;
+    }
+  }
+  try_damage_free(&one);
+  want("nothing of damage leaks", live == 0);
+}
+
 int main(int argc, char **argv) {
   long left;
   void *many = mmap(NULL, LONG_PIECE, PROT_READ, MAP_PRIVATE | MAP_ANONYMOUS | MAP_NORESERVE, -1, 0);
@@ -248,6 +403,7 @@ int main(int argc, char **argv) {
   for (left = atol(argv[4]); left > 0; left--) {
     state = (uint64_t)left * 2654435761u + 88172645463325252u;
     sequence();
+    damage_sequence();
   }
   printf("%ld tried, %ld wrong\n", tries, wrong);
   free(plan.at), free(lanes[0].at), free(lanes[1].at);

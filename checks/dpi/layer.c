@@ -10,7 +10,7 @@
 #include <stdlib.h>
 #include <string.h>
 
-enum { DONE, NO_LANE = 3, FINISHED = 4, TOO_MANY = 5, NO_PACKET = 6, NO_RECEIVER = 7, NO_ROOM = 9 };
+enum { DONE, NO_LANE = 3, FINISHED = 4, TOO_MANY = 5, NO_PACKET = 6, NO_RECEIVER = 7, NO_ROOM = 100 };
 enum { NONE, PACKET, DROPPED, SPAN, FLOW, ENDED };
 
 struct file {

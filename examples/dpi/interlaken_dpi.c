@@ -9,7 +9,7 @@
 
 #define LANES 64
 #define LONGEST 262144 /* bytes of a packet */
-#define NO_ROOM 9      /* one result more than those of interlaken.h: INTERLAKEN_NO_ROOM of the package */
+#define NO_ROOM 100    /* one result more than those of interlaken.h: INTERLAKEN_NO_ROOM of the package */
 
 /* The bits of a lane that the receiver has not taken: whole bytes, and fewer than eight bits after these. */
 struct lane {

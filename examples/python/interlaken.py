@@ -1,4 +1,5 @@
-"""The receiving end of an Interlaken link: bytes of lanes in, packets, fault spans and control words out.
+"""The receiving end of an Interlaken link: bytes of lanes in, packets, fault spans and control words out; and damage of lanes on their
+way.
 
     with Receiver(plan, library="lib/libinterlaken.so") as receiver:
         for event in receiver.feed_all(lanes):
@@ -6,8 +7,12 @@
 
 Where bytes come live, call `feed` and `finish` for each lane, and take `events()` after each.
 
+    with Damage(2, library="lib/libinterlaken.so") as damage:
+        damage.flip(0, 12345)
+        damaged = damage.apply(0, data)
+
 It calls the C library that tools/library makes. A call that is misused raises Misuse, and changes nothing; a plan that is refused
-raises BadPlan, with the row and the cause. A Receiver takes one call at a time. It needs Python 3.10.
+raises BadPlan, with the row and the cause. A Receiver takes one call at a time, and so does a Damage. It needs Python 3.10.
 """
 
 from __future__ import annotations
@@ -16,7 +21,7 @@ import ctypes
 import enum
 import weakref
 from dataclasses import dataclass
-from typing import Iterator, Optional, Sequence
+from typing import Iterator, Optional, Sequence, TypeVar
 
 
 class Result(enum.IntEnum):
@@ -31,6 +36,9 @@ class Result(enum.IntEnum):
     NO_PACKET = 6
     NO_RECEIVER = 7
     IN_USE = 8
+    NO_DAMAGE = 9
+    OUT_OF_RANGE = 10
+    PASSED = 11
 
 
 class Cause(enum.IntEnum):
@@ -214,9 +222,11 @@ class _Report(ctypes.Structure):
 
 _size = ctypes.c_size_t
 _u32 = ctypes.c_uint32
+_u64 = ctypes.c_uint64
 _handle = ctypes.POINTER(_Handle)
 _NO_LANE = 0xFFFFFFFF
-_CALLS = {
+_NO_BIT = 0xFFFFFFFFFFFFFFFF
+_RECEIVER_CALLS = {
     "new": (_handle, ctypes.c_char_p, _size, ctypes.POINTER(_Refusal)),
     "free": (_handle,),
     "feed": (_handle, _u32, ctypes.c_char_p, _size, ctypes.POINTER(_size)),
@@ -227,6 +237,13 @@ _CALLS = {
     "lane_state": (_handle, _u32, ctypes.POINTER(_u32)),
     "is_on": (_handle, ctypes.c_uint16, ctypes.POINTER(_u32)),
 }
+_DAMAGE_CALLS = {
+    "new": (_handle, _u32),
+    "free": (_handle,),
+    "flip": (_handle, _u32, _u64),
+    "dark": (_handle, _u32, _u64, _u64),
+    "apply": (_handle, _u32, ctypes.c_char_p, _size),
+}
 
 
 def _lane(number: int) -> int:
@@ -234,40 +251,63 @@ def _lane(number: int) -> int:
     return number if 0 <= number < _NO_LANE else _NO_LANE
 
 
-class Receiver:
-    """A receiver of the lanes of a plan. As a context manager it is closed at the end."""
+def _bit(number: int) -> int:
+    """The number of a bit, or a count of bits; one that C cannot have is that of no bit, which ctypes would cut to one that may be there."""
+    return number if 0 <= number < _NO_BIT else _NO_BIT
 
-    def __init__(self, plan: bytes, library: str = "libinterlaken.so"):
-        """`plan` is the text of a plan file, and `library` the path of the shared library."""
-        self._calls = ctypes.CDLL(library)
-        for name, types in _CALLS.items():
-            call = getattr(self._calls, "interlaken_receiver_" + name)
-            call.argtypes, call.restype = types, _u32
+
+_Self = TypeVar("_Self", bound="_Opened")
+
+
+class _Opened:
+    """What the library has behind a handle. As a context manager it is closed at the end."""
+
+    def __init__(self, library: str, prefix: str, calls: dict[str, tuple[type, ...]]):
+        loaded = ctypes.CDLL(library)
+        self._calls = {}
+        for name, types in calls.items():
+            self._calls[name] = getattr(loaded, prefix + name)
+            self._calls[name].argtypes, self._calls[name].restype = types, _u32
         self._handle = _Handle()
-        refusal = _Refusal()
-        result = Result(self._calls.interlaken_receiver_new(self._handle, plan, len(plan), refusal))
-        if result is Result.BAD_PLAN:
-            raise BadPlan(Cause(refusal.cause), refusal.row, Key(refusal.key))
+
+    def _result(self, name: str, *words: object) -> Result:
+        return Result(self._calls[name](self._handle, *words))
+
+    def _opened(self) -> None:
+        self._free = weakref.finalize(self, self._calls["free"], self._handle)
+
+    def _call(self, name: str, *words: object) -> None:
+        self._check(self._result(name, *words))
+
+    def _check(self, result: Result) -> None:
         if result is Result.OUT_OF_MEMORY:
             raise MemoryError
         if result is not Result.DONE:
             raise Misuse(result)
-        self._free = weakref.finalize(self, self._calls.interlaken_receiver_free, self._handle)
-
-    def _call(self, name: str, *words: object) -> None:
-        result = Result(getattr(self._calls, "interlaken_receiver_" + name)(self._handle, *words))
-        if result is not Result.DONE:
-            raise Misuse(result)
 
     def close(self) -> None:
-        """Frees the receiver, which else is freed with this object; a second time does nothing. Each further call raises Misuse."""
+        """Frees it, which else is done with this object; a second time does nothing. Each further call raises Misuse."""
         self._free()
 
-    def __enter__(self) -> "Receiver":
+    def __enter__(self: _Self) -> _Self:
         return self
 
     def __exit__(self, *error: object) -> None:
         self.close()
+
+
+class Receiver(_Opened):
+    """A receiver of the lanes of a plan. As a context manager it is closed at the end."""
+
+    def __init__(self, plan: bytes, library: str = "libinterlaken.so"):
+        """`plan` is the text of a plan file, and `library` the path of the shared library."""
+        super().__init__(library, "interlaken_receiver_", _RECEIVER_CALLS)
+        refusal = _Refusal()
+        result = self._result("new", plan, len(plan), refusal)
+        if result is Result.BAD_PLAN:
+            raise BadPlan(Cause(refusal.cause), refusal.row, Key(refusal.key))
+        self._check(result)
+        self._opened()
 
     def feed(self, lane: int, data: bytes) -> int:
         """Feeds a lane with the next of its bytes, as many as its ring of 4,096 bytes has room for, and returns how many."""
@@ -345,3 +385,29 @@ class Receiver:
         on = _u32()
         self._call("is_on", channel, on)
         return bool(on.value)
+
+
+class Damage(_Opened):
+    """Damage of 1 to 64 lanes on their way. The bytes of each lane pass through `apply`, piece by piece. Bits of a lane are counted from 0,
+    the highest bit of its first byte, over all its pieces. As a context manager it is closed at the end."""
+
+    def __init__(self, lanes: int, library: str = "libinterlaken.so"):
+        """Nothing happens to this many lanes so far; `library` is the path of the shared library."""
+        super().__init__(library, "interlaken_damage_", _DAMAGE_CALLS)
+        self._call("new", _lane(lanes))
+        self._opened()
+
+    def flip(self, lane: int, bit: int) -> None:
+        """Inverts a bit of a lane once more. Where it was in a piece before it raises Misuse, of PASSED, and nothing happens."""
+        self._call("flip", _lane(lane), _bit(bit))
+
+    def dark(self, lane: int, first: int, bits: int) -> None:
+        """Makes this many bits of a lane 0, from one on. Those that have passed stay as they came out; where all have it raises Misuse, of
+        PASSED."""
+        self._call("dark", _lane(lane), _bit(first), _bit(bits))
+
+    def apply(self, lane: int, data: bytes) -> bytes:
+        """The next bytes of a lane, damaged."""
+        damaged = ctypes.create_string_buffer(data, max(len(data), 1))
+        self._call("apply", _lane(lane), damaged, len(data))
+        return damaged.raw[: len(data)]

@@ -1,5 +1,5 @@
 -- The calendar of the far end has taken what the given events say, after any calls.
-use Rattle.std.proofs.Common.{rules, ℕ, ◌≡◌, ◌≤◌, refl, sym, ap, ◌∙◌, subst, Bool, All, Result, List, [], ◌∷◌, ◌++◌, Some, None, Ok, Err, lit≤}
+use Rattle.std.proofs.Common.{ℕ, ◌≡◌, ◌≤◌, refl, sym, ap, ◌∙◌, subst, All, List, [], ◌∷◌, ◌++◌, Some, None, Ok, Err, lit≤}
 use Rattle.std.proofs.lemmas.List.{append-nil}
 use Rattle.std.proofs.lemmas.List.Concat.{flat_map-append}
 use Rattle.std.proofs.lemmas.List.Elements.{All-nil, All-cons}

@@ -2,3 +2,4 @@ mod AsBox
 mod Feeding
 mod Following
 mod Hearing
+mod DamageBox

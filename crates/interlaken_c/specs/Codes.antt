@@ -1,5 +1,7 @@
 -- The results of calls.
 use Rattle.std.specs.Prelude.{ℕ}
+use Rattle.lane_damage.specs.declared.refused.Refused.{Refused}
+use Rattle.lane_damage.specs.declared.refused.Refused.TheVariants as refusals
 use Rattle.interlaken_c.specs.declared.misuse.Misuse.{Misuse}
 use Rattle.interlaken_c.specs.declared.misuse.Misuse.TheVariants as misuses
 use Rattle.lock_model.specs.declared.types.LaneState.{LaneState}
@@ -20,6 +22,12 @@ no_receiver = 7
 abbrev pub in_use : ℕ
 in_use = 8
 
+abbrev pub no_damage : ℕ
+no_damage = 9
+
+abbrev pub out_of_range : ℕ
+out_of_range = 10
+
 -- ---- the states of a lane
 
 abbrev pub state_code : LaneState → ℕ
@@ -32,3 +40,11 @@ code_of misuses.NoLane = 3
 code_of misuses.Finished = 4
 code_of misuses.TooMany = 5
 code_of misuses.NoPacket = 6
+
+-- of a call on damage that is refused
+abbrev pub damage_code : Refused → ℕ
+damage_code refusals.NoLane = 3
+damage_code refusals.OutOfRange = out_of_range
+damage_code refusals.Passed = 11
+damage_code refusals.TooMany = 5
+damage_code refusals.OutOfMemory = out_of_memory

@@ -8,6 +8,7 @@ use Rattle.interlaken_c.specs.Calls.{IsChannelState, IsFeed, IsFinish, IsLaneSta
 use Rattle.plan_errors.specs.declared.error.PlanError.{PlanError}
 use Rattle.plan_errors.specs.declared.error.PlanError.TheVariants as errors
 use Rattle.interlaken_c.specs.Codes.{bad_plan, code_of, done, in_use, no_receiver, out_of_memory, state_code}
+use Rattle.interlaken_c.specs.OnHeld.{OnHeld}
 use Rattle.interlaken_c.specs.Opens.{IsOfPlan, IsRefused}
 use Rattle.interlaken_c.specs.Refusals.{of_row, refusal_of}
 use Rattle.interlaken_c.specs.declared.refusal.Refusal.{Refusal}
@@ -17,13 +18,6 @@ use Rattle.interlaken_c.specs.declared.event.CEvent.{CEvent}
 use Rattle.interlaken_c.specs.declared.report.Report.{Report}
 use Rattle.interlaken_c.specs.declared.misuse.Misuse.{Misuse}
 use Rattle.interlaken_c.specs.declared.session.Session.{Session}
-
--- what holds where there is no session, before and after, and where there is one; none is made and none is lost
-abbrev pub OnSession : Type 0 → (Session → Session → Type 0) → Option Session → Option Session → Type 0
-OnSession absent present None None = absent
-OnSession absent present (Some s) (Some t) = present s t
-OnSession absent present None (Some t) = ⊥
-OnSession absent present (Some s) None = ⊥
 
 -- a count is given where the call did what it was asked, else 0
 abbrev pub GivesCount : Result ℕ Misuse → ℕ → ℕ → Type 0
@@ -67,28 +61,28 @@ Frees (Some s) new code = (new ≡ None) × (code ≡ done)
 
 abbrev pub Feeds : Option Session → Option Session → ℕ → List ℕ → ℕ → ℕ → Type 0
 Feeds old new lane bytes code taken =
-    OnSession ((code ≡ no_receiver) × (taken ≡ 0)) (λ s t. (result : Result ℕ Misuse) × IsFeed s t lane bytes result × GivesCount result code taken) old new
+    OnHeld ((code ≡ no_receiver) × (taken ≡ 0)) (λ (s t : Session). (result : Result ℕ Misuse) × IsFeed s t lane bytes result × GivesCount result code taken) old new
 
 abbrev pub Finishes : Option Session → Option Session → ℕ → ℕ → Type 0
-Finishes old new lane code = OnSession (code ≡ no_receiver) (λ s t. (result : Result (Unit {0}) Misuse) × IsFinish s t lane result × GivesCode result code) old new
+Finishes old new lane code = OnHeld (code ≡ no_receiver) (λ (s t : Session). (result : Result (Unit {0}) Misuse) × IsFinish s t lane result × GivesCode result code) old new
 
 abbrev pub GivesEvent : Option Session → Option Session → ℕ → CEvent → Type 0
 GivesEvent old new code event =
-    OnSession ((code ≡ no_receiver) × (event ≡ shown None)) (λ s t. (result : Option RxEvent) × IsNextOf s t result × (code ≡ done) × (event ≡ shown result)) old new
+    OnHeld ((code ≡ no_receiver) × (event ≡ shown None)) (λ (s t : Session). (result : Option RxEvent) × IsNextOf s t result × (code ≡ done) × (event ≡ shown result)) old new
 
 abbrev pub Reads : Option Session → Option Session → ℕ → List ℕ → List ℕ → ℕ → ℕ → Type 0
 Reads old new offset before after code count =
-    OnSession ((code ≡ no_receiver) × (count ≡ 0) × (after ≡ before)) (λ s t. (result : Result ℕ Misuse) × IsRead s offset before after result × GivesCount result code count × (t ≡ s)) old new
+    OnHeld ((code ≡ no_receiver) × (count ≡ 0) × (after ≡ before)) (λ (s t : Session). (result : Result ℕ Misuse) × IsRead s offset before after result × GivesCount result code count × (t ≡ s)) old new
 
 abbrev pub Reports : Option Session → Option Session → ℕ → ℕ → Report → Type 0
 Reports old new lane code report =
-    OnSession ((code ≡ no_receiver) × (report ≡ no_report)) (λ s t. (result : Result LaneReport Misuse) × IsReport s lane result × GivesReport result code report × (t ≡ s)) old new
+    OnHeld ((code ≡ no_receiver) × (report ≡ no_report)) (λ (s t : Session). (result : Result LaneReport Misuse) × IsReport s lane result × GivesReport result code report × (t ≡ s)) old new
 
 abbrev pub TellsState : Option Session → Option Session → ℕ → ℕ → ℕ → Type 0
 TellsState old new lane code state =
-    OnSession ((code ≡ no_receiver) × (state ≡ 0)) (λ s t. (result : Result LaneState Misuse) × IsLaneState s lane result × GivesState result code state × (t ≡ s)) old new
+    OnHeld ((code ≡ no_receiver) × (state ≡ 0)) (λ (s t : Session). (result : Result LaneState Misuse) × IsLaneState s lane result × GivesState result code state × (t ≡ s)) old new
 
 -- 1 where the channel is on, else 0; 0 where there is no receiver
 abbrev pub TellsChannel : Option Session → Option Session → ℕ → ℕ → ℕ → Type 0
 TellsChannel old new channel code on =
-    OnSession ((code ≡ no_receiver) × (on ≡ 0)) (λ s t. (result : Bool) × IsChannelState s channel result × (code ≡ done) × (on ≡ digit result) × (t ≡ s)) old new
+    OnHeld ((code ≡ no_receiver) × (on ≡ 0)) (λ (s t : Session). (result : Bool) × IsChannelState s channel result × (code ≡ done) × (on ≡ digit result) × (t ≡ s)) old new

@@ -10,3 +10,6 @@ pub mod Refusals
 pub mod Reports
 pub mod Runs
 pub mod Shown
+pub mod HeldDamage
+pub mod OnHeld
+pub mod OwnedDamage

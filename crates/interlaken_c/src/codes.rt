@@ -1,9 +1,10 @@
 //! The numbers that C sees, by the names of the header without its prefix: results, kinds of events, causes and keys of refusals, drops,
 //! faults and states of lanes.
 ghost use Rattle.std.specs.Prelude.{◌≡◌};
-ghost use Rattle.interlaken_c.specs.Codes.{code_of, state_code};
+ghost use Rattle.interlaken_c.specs.Codes.{code_of, damage_code, state_code};
 
 use crate::misuse::Misuse;
+use lane_damage::Refused;
 use lock_model::LaneState;
 
 // ---- results
@@ -32,8 +33,17 @@ pub const NO_PACKET: u32 = 6;
 /// There is no receiver behind the handle.
 pub const NO_RECEIVER: u32 = 7;
 
-/// There is a receiver behind the handle already.
+/// There is a receiver, or damage, behind the handle already.
 pub const IN_USE: u32 = 8;
+
+/// There is no damage behind the handle.
+pub const NO_DAMAGE: u32 = 9;
+
+/// There are no such numbers of lanes or of bits.
+pub const OUT_OF_RANGE: u32 = 10;
+
+/// All bits that a row names have passed.
+pub const PASSED: u32 = 11;
 
 // ---- kinds of events
 
@@ -196,5 +206,18 @@ pub fn code_of(why: Misuse) -> u32
         Misuse::Finished => FINISHED,
         Misuse::TooMany => TOO_MANY,
         Misuse::NoPacket => NO_PACKET,
+    }
+}
+
+/// The result of a call on damage that is refused.
+pub fn damage_code(why: Refused) -> u32
+    ensures { result ≡ damage_code why }
+{
+    match why {
+        Refused::NoLane => NO_LANE,
+        Refused::OutOfRange => OUT_OF_RANGE,
+        Refused::Passed => PASSED,
+        Refused::TooMany => TOO_MANY,
+        Refused::OutOfMemory => OUT_OF_MEMORY,
     }
 }

@@ -1,8 +1,11 @@
-//! Calls for C: a receiver of the lanes of a link, behind a handle.
+//! Calls for C: a receiver of the lanes of a link, and damage of lanes on their way, each behind a handle.
 #![tactic(auto)]
 
 mod calls;
 mod codes;
+mod damage_block;
+mod damage_calls;
+mod damage_handle;
 mod event;
 mod far_end;
 mod handle;

@@ -1,5 +1,5 @@
 -- The calendar takes the word.
-use Rattle.std.proofs.Common.{ℕ, List, sym, subst}
+use Rattle.std.proofs.Common.{sym, subst}
 use Rattle.calendar.specs.Incoming.{Stands}
 use Rattle.interlaken_c.proofs.far_end.FarEnd.take.Goals as goal
 
