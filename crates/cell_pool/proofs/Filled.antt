@@ -3,7 +3,7 @@ use Rattle.std.proofs.Common.{ℕ, zero, suc, ◌≡◌, ◌≢◌, ◌+◌, ◌
 use Rattle.std.specs.Int.{w64, to_be_bytes}
 use Rattle.std.proofs.Math.Seq.{take-add}
 use Rattle.std.proofs.lemmas.Grind.{flat_map-append}
-use Rattle.std.proofs.lemmas.List.{length-set, length-take-le, take_all, take_more, set-get_or}
+use Rattle.std.proofs.lemmas.List.{drop-set-lt, length-set, length-take-le, take_all, take_more, set-get_or, take-append-drop}
 use Rattle.std.proofs.lemmas.List.Sums.{sum_by-set}
 use Rattle.lk_base.proofs.Bits.{length-words}
 use Rattle.lk_index_lists.specs.Held.{Held, list_at, IsApart}
@@ -31,6 +31,26 @@ run_next words at xs k x h e =
 pub run_long : (words : List ℕ) (at : ℕ) (xs : List ℕ) → length (with_run words at xs) ≡ length words
 run_long words at [] = refl
 run_long words at (x ∷ xs) = run_long (set words at x) (at + 1) xs ∙ length-set words at x
+
+-- the words after a place that is written
+written_take : (xs : List ℕ) (n x : ℕ) → n < length xs → take (n + 1) (set xs n x) ≡ take n xs ++ x ∷ []
+written_take [] n x h = absurd (omega arith)
+written_take (y ∷ xs) zero x h = refl
+written_take (y ∷ xs) (suc n) x h = let e : suc n + 1 ≡ suc (n + 1) = omega arith in rw e (ap (λ (zs : List ℕ). y ∷ zs) (written_take xs n x (omega arith)))
+
+-- all of them at once
+pub run_at_once : (words : List ℕ) (at : ℕ) (xs : List ℕ) → at + length xs ≤ length words → take at words ++ (xs ++ drop (at + length xs) words) ≡ with_run words at xs
+run_at_once words at [] h = let e : at + 0 ≡ at = omega arith in rw e (take-append-drop at words)
+run_at_once words at (x ∷ xs) h =
+    let new : List ℕ = set words at x in
+    let e : at + 1 + length xs ≡ at + length (x ∷ xs) = omega arith in
+    let long : length new ≡ length words = length-set words at x in
+    let fits : at + 1 + length xs ≤ length new = omega (arith, long, h) in
+    let rest : drop (at + 1 + length xs) new ≡ drop (at + length (x ∷ xs)) words = drop-set-lt (at + 1 + length xs) words at x (omega arith) ∙ ap (λ (n : ℕ). drop n words) e in
+    sym (append_assoc (take at words) (x ∷ []) (xs ++ drop (at + length (x ∷ xs)) words))
+    ∙ ap (λ (ys : List ℕ). ys ++ (xs ++ drop (at + length (x ∷ xs)) words)) (sym (written_take words at x (omega arith)))
+    ∙ ap (λ (ys : List ℕ). take (at + 1) new ++ (xs ++ ys)) (sym rest)
+    ∙ run_at_once new (at + 1) xs fits
 
 -- ---- the bytes with more words in the last cell
 

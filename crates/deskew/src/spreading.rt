@@ -3,13 +3,15 @@ ghost use Rattle.deskew.specs.Spread.{spread};
 
 use lk_base::RxWord;
 
-/// Appends this many words, which are still to be written.
+/// Makes the block hold this many words, which are still to be written. Those that are there stay, so that a block of the same
+/// size is not filled again.
 pub fn make_places(count: usize, block: &mut Vec<RxWord>)
-    requires { length block.old.items + count ≤ vec_capacity block.old }
+    requires { count ≤ vec_capacity block.old }
     ensures capacity { vec_capacity block.new ≡ vec_capacity block.old }
-    ensures items { length block.new.items ≡ length block.old.items + count }
+    ensures items { length block.new.items ≡ count }
 {
-    for _place in 0..count {
+    block.truncate(count);
+    for _place in block.len()..count {
         block.push_reserved(RxWord::Bad);
     }
 }

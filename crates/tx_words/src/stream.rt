@@ -14,10 +14,7 @@ use word_list::WordList;
 fn push_block(words: &mut WordList, block: &[Word]) -> Result<(), OutOfMemory>
     ensures { OnOk result (words.new ≡ words.old ++ block.now) }
 {
-    for place in 0..block.len() {
-        words.push(block[place])?;
-    }
-    Ok(())
+    words.extend(block)
 }
 
 /// The whole payload stream of a source, and the channel that holds it. Each burst holds at least the lesser of the shape's

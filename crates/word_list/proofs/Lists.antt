@@ -1,5 +1,5 @@
 -- The words of as many numbers as marks.
-use Rattle.std.proofs.Common.{ℕ, zero, suc, ◌≡◌, refl, sym, ap, ◌∙◌, ◌<◌, Bool, List, [], ◌∷◌, ◌++◌, length, get_or, Result, Ok, Err, OnOk, arith}
+use Rattle.std.proofs.Common.{ℕ, zero, suc, ◌≡◌, refl, sym, ap, ap₂, ◌∙◌, ◌<◌, Bool, List, [], ◌∷◌, ◌++◌, length, map, get_or, Result, Ok, Err, OnOk, arith}
 use Rattle.lk_base.specs.declared.word.Word.{Word}
 use Rattle.lk_base.specs.declared.word.Word.TheVariants.{Data, Control}
 use Rattle.lk_base.specs.Words.{is_control, payload, word_at}
@@ -45,3 +45,15 @@ pub pushed : {E : Type 0} (r : Result (Unit {0}) E) (xs ys : List ℕ) (ms ns : 
 pushed (Err f) xs ys ms ns ws w x m is e number mark p q = tt
 pushed (Ok u) xs ys ms ns ws w x m is e number mark p q =
     rw (p, q, words_of-push xs ms x m e, is, number, mark, of_parts w) refl
+
+-- more of each
+pub words_of-more : (xs : List ℕ) (ms : List Bool) (ws : List Word) → length ms ≡ length xs → words_of (xs ++ map payload ws) (ms ++ map is_control ws) ≡ words_of xs ms ++ ws
+words_of-more [] [] [] e = refl
+words_of-more [] [] (w ∷ ws) e = ap₂ (λ (v : Word) (vs : List Word). v ∷ vs) (of_parts w) (words_of-more [] [] ws refl)
+words_of-more [] (n ∷ ms) ws e = absurd (omega arith)
+words_of-more (y ∷ xs) [] ws e = absurd (omega arith)
+words_of-more (y ∷ xs) (n ∷ ms) ws e = ap (λ vs. word_of y n ∷ vs) (words_of-more xs ms ws (omega arith))
+
+-- a list after more words
+pub extended : (xs ys : List ℕ) (ms ns : List Bool) (ws more : List Word) → words_of xs ms ≡ ws → length ms ≡ length xs → ys ≡ xs ++ map payload more → ns ≡ ms ++ map is_control more → words_of ys ns ≡ ws ++ more
+extended xs ys ms ns ws more is e p q = ap₂ words_of p q ∙ words_of-more xs ms more e ∙ ap (λ vs. vs ++ more) is

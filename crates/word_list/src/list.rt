@@ -1,4 +1,4 @@
-ghost use Rattle.std.specs.Prelude.{◌≡◌, ◌==◌, ◌+◌, ◌<◌, ◌≤◌, ◌^◌, ◌++◌, ◌∷◌, [], drop, length, take, OnOk, OnErr};
+ghost use Rattle.std.specs.Prelude.{◌≡◌, ◌==◌, ◌+◌, ◌<◌, ◌≤◌, ◌^◌, ◌++◌, ◌∷◌, [], drop, length, map, take, vec_capacity, vec_len, OnOk, OnErr};
 ghost use Rattle.lk_base.specs.Words.{is_control, payload, word_at};
 ghost use Rattle.word_list.specs.Parts.{word_of, words_of};
 
@@ -77,6 +77,19 @@ fn push_parts(
     Ok(())
 }
 
+// Puts the numbers and the kinds of these words after the others, for which there is room.
+fn push_all(numbers: &mut Vec<u64>, controls: &mut Vec<bool>, words: &[Word])
+    requires numbers { vec_len numbers.old + length words.now ≤ vec_capacity numbers.old }
+    requires controls { vec_len controls.old + length words.now ≤ vec_capacity controls.old }
+    ensures numbers { numbers.new.items ≡ numbers.old.items ++ map payload words.now }
+    ensures controls { controls.new.items ≡ controls.old.items ++ map is_control words.now }
+{
+    for word in words {
+        numbers.push_reserved(number_of(*word));
+        controls.push_reserved(is_control(*word));
+    }
+}
+
 // Copies the words of these numbers and kinds into the block, from number `first` on.
 fn read_parts(numbers: &[u64], controls: &[bool], first: usize, block: &mut [Word])
     requires parts { length controls.now ≡ length numbers.now }
@@ -114,6 +127,21 @@ impl WordList {
             number_of(word),
             is_control(word),
         )
+    }
+
+    /// Puts these words after the others, as a `push` of each would. After `OutOfMemory` the list is as it was.
+    ///
+    /// # Errors
+    ///
+    /// `OutOfMemory` where memory ran out, and nowhere else.
+    pub fn extend(&mut self, words: &[Word]) -> Result<(), OutOfMemory>
+        ensures ok { OnOk result (self.new ≡ self.old ++ words.now) }
+        ensures err { OnErr result (self.new ≡ self.old) }
+    {
+        self.numbers.reserve(words.len())?;
+        self.controls.reserve(words.len())?;
+        push_all(&mut self.numbers, &mut self.controls, words);
+        Ok(())
     }
 
     /// How many words it has: fewer than 2^60.

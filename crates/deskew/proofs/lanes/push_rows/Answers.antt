@@ -1,5 +1,5 @@
 -- One more lane writes its words.
-use Rattle.std.proofs.Common.{◌≡◌, ap, ◌∙◌, ◌+◌, ◌*◌, List, arith, drop, length}
+use Rattle.std.proofs.Common.{◌≡◌, ap, ◌∙◌, ◌+◌, ◌*◌, List, drop, length}
 use Rattle.lk_base.specs.declared.word.RxWord.{RxWord}
 use Rattle.deskew.specs.Spread.{column, spread_all}
 use Rattle.deskew.proofs.Spread.{all_spread, lane_more, length_spread}
@@ -7,9 +7,7 @@ use Rattle.deskew.proofs.lanes.push_rows.Goals as goal
 
 pub loop-i-init : goal.loop-i-init
 loop-i-init c =
-    let e = ap length c.requires.empty in
-    let m = c.make_places.ensures.items in
-    let long : length c.make_places.new.block.items ≡ c.args.rows * length c.args.lanes.now = omega (arith, e, m) in
+    let long : length c.make_places.new.block.items ≡ c.args.rows * length c.args.lanes.now = c.make_places.ensures.items in
     (c.make_places.ensures.capacity, long, all_spread c.args.after c.args.rows c.args.lanes.now c.make_places.new.block.items long)
 
 pub loop-i-preserved : goal.loop-i-preserved

@@ -14,7 +14,7 @@ invariant_of-self c =
     let link = c.self.inside.link in
     let index = c.args.index in
     let count = c.count_rows-count.result in
-    let phase : c.self.inside.phase ≡ phases.Inside index = ap (λ (d : State). d.phase) c.self.view_is ∙ c.requires.phase in
+    let phase : c.self.inside.phase ≡ phases.Inside index = ap (λ (d : State). d.phase) c.self.view_is ∙ c.requires in
     let turns : IsTurn link (phases.Inside index) c.self.inside.turn c.self.inside.after = subst (λ (p : Phase). IsTurn link p c.self.inside.turn c.self.inside.after) phase i.4 in
     let behind : c.after_sync-after.result ≡ link.skips + 2 + index / link.lanes = c.after_sync-after.ensures ∙ ap (λ (d : State). d.settings.skips + 2 + index / d.settings.lanes) (sym c.self.view_is) in
     let next = rows_place index link.lanes count i.2 in
@@ -40,7 +40,7 @@ returns-clause-rows c =
     let none = c.if-count-eq0.false in
     let held : State = record { settings = link; lanes = c.self.inside.lanes.items; phase = c.self.inside.phase; settled = c.self.inside.settled } in
     let after : State = record { settings = link; lanes = c.self.inside.lanes.items; phase = phases.Inside (index + count * c.lanes.result); settled = false } in
-    let phase : c.self.inside.phase ≡ phases.Inside index = ap (λ (d : State). d.phase) c.self.view_is ∙ c.requires.phase in
+    let phase : c.self.inside.phase ≡ phases.Inside index = ap (λ (d : State). d.phase) c.self.view_is ∙ c.requires in
     let behind : c.after_sync-after.result ≡ link.skips + 2 + index / link.lanes = c.after_sync-after.ensures ∙ ap (λ (d : State). d.settings.skips + 2 + index / d.settings.lanes) (sym c.self.view_is) in
     let counted : IsCount (vec_capacity c.args.block.now) count index held =
     subst (λ (n : ℕ). IsCount n count index held) c.capacity.ensures (subst (λ (d : State). IsCount c.capacity.result count index d) (sym c.self.view_is) c.count_rows-count.ensures.count) in
