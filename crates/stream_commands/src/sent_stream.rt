@@ -1,0 +1,83 @@
+//! The stream of a source with the packets that it sends, which are listed while its words are made.
+ghost use Rattle.std.specs.Prelude.{◌≡◌, ◌<◌, ◌^◌, ◌++◌, List, [], length, IfOk, OnOk};
+ghost use Rattle.lk_base.specs.declared.word.Word.{Word as SentWord};
+ghost use Rattle.stream_model.specs.BurstStream.{Source, IsBurstStream};
+ghost use Rattle.tx_words.specs.Sent.{AreSent};
+ghost use Rattle.stream_commands.specs.Listing.{Lists};
+ghost use Rattle.stream_commands.specs.Payload.{IsSentStreamOf};
+ghost use Rattle.stream_commands.specs.Stream.{stream_text};
+
+use crate::stream::PayloadStream;
+use crate::text::stream_lines;
+use lk_base::{OutOfMemory, Word};
+use std::alloc::Global;
+use tx_words::{Sent, SentList, StreamSource, WordMaker, count_listed};
+use word_list::WordList;
+
+// The words that are made at a time.
+const BLOCK: usize = 512;
+
+/// A stream with the packets that it sends.
+#[derive(Drop)]
+pub struct SentStream {
+    /// The stream, and what is reported of it.
+    pub stream: PayloadStream,
+    /// The packets whose SOP word is in the stream, in the order of these words.
+    pub sent: Vec<Sent>,
+}
+
+// Puts the words of a block after the others.
+fn push_block(words: &mut WordList, block: &[Word]) -> Result<(), OutOfMemory>
+    ensures { OnOk result (words.new ≡ words.old ++ block.now) }
+{
+    words.extend(block)
+}
+
+// Makes the words of a stream that are still to be made, and lists the packets that start in them.
+fn make_all(
+    maker: &mut WordMaker,
+    list: &mut SentList,
+    words: &mut WordList,
+) -> Result<(), OutOfMemory>
+    requires { (source : Source) × Lists maker.old list.old source words.old }
+    ensures { OnOk result ((source : Source) → Lists maker.old list.old source words.old → Lists maker.new list.new source words.new × IsBurstStream source words.new) }
+{
+    let mut block = [Word::Data(0); BLOCK];
+    while !maker.is_over() {
+        let count = maker.next_block(&mut block);
+        push_block(words, &block[..count])?;
+        list.pass_block(&block[..count]);
+    }
+    Ok(())
+}
+
+// The lines of the source's stream of this many words, which sends these packets.
+fn listed_lines(
+    alloc: Global,
+    source: &StreamSource,
+    sent: &[Sent],
+    slots: u64,
+) -> Result<Vec<u8>, OutOfMemory>
+    requires { (words : List SentWord) × AreSent words sent.now }
+    ensures { IfOk result (λ lines. (words : List SentWord) → IsBurstStream source.now words → AreSent words sent.now → slots ≡ length words → lines.items ≡ stream_text source.now words) }
+{
+    let counts = count_listed(alloc, source, sent)?;
+    stream_lines(alloc, &counts, slots)
+}
+
+/// The stream of a source, as `stream_of` gives it, with the packets whose SOP word is in it. Its channels are counted by these
+/// packets, so that its words are not gone over again.
+pub fn sent_stream_of(alloc: Global, source: &StreamSource) -> Result<SentStream, OutOfMemory>
+    requires few { length source.now.packets < 2 ^ 32 }
+    ensures { IfOk result (IsSentStreamOf source.now) }
+{
+    let mut maker = WordMaker::new(alloc, source)?;
+    let mut list = SentList::new(alloc, source.packet_count())?;
+    let mut words = WordList::new(alloc);
+    make_all(&mut maker, &mut list, &mut words)?;
+    let lines = listed_lines(alloc, source, list.sent(), words.len() as u64)?;
+    let held = maker.held();
+    let sent = list.into_sent();
+    let stream = PayloadStream { words, held, lines };
+    Ok(SentStream { stream, sent })
+}
