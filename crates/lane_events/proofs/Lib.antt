@@ -1,4 +1,6 @@
-mod EventsHold
+-- What other crates cite.
+pub mod EventsHold
+-- What this crate alone cites.
 mod Local
 mod OneMore
 mod Grow

@@ -47,7 +47,7 @@ end_begin (bytes ∷ lanes) (lane ∷ fed) zero at e n is h =
     (ends_here bytes lane le h.0, h.1)
 end_begin (bytes ∷ lanes) (lane ∷ fed) (suc i) at e n is h = (h.0, end_begin lanes fed i at e n is h.1)
 
-next_begin : (lanes : List (List ℕ)) (fed : List Fed) (i at : ℕ) (piece : List ℕ) → is_unfinished i fed ≡ true → bytes_at i fed ≡ at → IsPieceAt at piece (get_or lanes i []) → AllBegin fed lanes → AllBegin (fed_next i piece fed) lanes
+pub next_begin : (lanes : List (List ℕ)) (fed : List Fed) (i at : ℕ) (piece : List ℕ) → is_unfinished i fed ≡ true → bytes_at i fed ≡ at → IsPieceAt at piece (get_or lanes i []) → AllBegin fed lanes → AllBegin (fed_next i piece fed) lanes
 next_begin lanes fed i at [] e n is h = end_begin lanes fed i at e n is h
 next_begin lanes fed i at (byte ∷ piece) e n is h = more_begin (byte ∷ piece) lanes fed i at e n is h
 

@@ -1,7 +1,12 @@
 -- What other crates cite.
 pub mod Growths
+pub mod GivenBack
 -- What this crate alone cites.
 mod Examples
 mod Reading
 mod Epochs
 mod Clean
+mod Delivered
+mod Placeless
+mod Joined
+mod Fits

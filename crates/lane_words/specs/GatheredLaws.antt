@@ -1,5 +1,5 @@
 -- What is known of gathered words and places.
-use Rattle.std.specs.Prelude.{◌≡◌, ◌<◌, ◌*◌, ◌^◌, true, List, [], ◌∷◌, ◌++◌, All, drop, length, map, Ok}
+use Rattle.std.specs.Prelude.{◌≡◌, ◌<◌, ◌*◌, ◌^◌, ℕ, true, List, [], ◌∷◌, ◌++◌, All, drop, length, map, Ok}
 use Rattle.lk_base.specs.declared.fault.Why.TheVariants as whys
 use Rattle.lk_base.specs.declared.word.Aligned.{Aligned}
 use Rattle.lk_base.specs.declared.word.Aligned.TheVariants.{Group, Word, Break}
@@ -9,6 +9,8 @@ use Rattle.lk_base.specs.declared.word.Word.{Word as SentWord}
 use Rattle.lk_base.specs.Link.{Settings}
 use Rattle.lk_base.specs.Words.{as_sent}
 use Rattle.receive_model.specs.Positions.{Epoch}
+use Rattle.receive_model.specs.Pieces.{Packet}
+use Rattle.receive_model.specs.Events.{Event, Setting, delivered, events, word_events}
 use Rattle.epoch_model.specs.GroupLaw.{CleanLink, group_size, tracks_of_link}
 use Rattle.epoch_model.specs.Groups.{AreEpochs}
 use Rattle.epoch_model.specs.KnownLaw.{AreLanes, all_over}
@@ -16,7 +18,9 @@ use Rattle.epoch_model.specs.SoFar.{AreKnown, LaneSoFar, tracks_in}
 use Rattle.epoch_model.specs.StreamLaw.{Carries}
 use Rattle.words_files.specs.WordsOfFile.{words_of_file}
 use Rattle.lane_words.specs.WordsFile.{rx_number, rx_words_file}
+use Rattle.event_model.specs.Given.{AreEvents}
 use Rattle.lane_words.specs.Gathered.{epochs_in, gathered_words, words_of_epochs}
+use Rattle.lane_words.specs.Items.{AreAllItems}
 
 -- ---- more items only extend them
 
@@ -48,6 +52,26 @@ WordsAreOfEpochs = (s : Settings) (lanes : List LaneSoFar) (items : List Aligned
 abbrev pub CleanLanesGiveStream : Type 0
 CleanLanesGiveStream = (k : CleanLink) (stream : List SentWord) (lanes : List LaneSoFar) (items : List Aligned) → k.depth ≡ k.settings.deskew → tracks_in lanes ≡ tracks_of_link k →
     all_over lanes ≡ true → Carries k stream → AreKnown k.settings lanes items → gathered_words items ≡ map as_sent (drop (3 * group_size k) stream)
+
+-- ---- what they deliver
+
+-- the bytes of the packets that are delivered on a channel, in order
+abbrev pub bytes_on : ℕ → List Event → List (List ℕ)
+bytes_on channel outputs = map (λ (p : Packet). p.bytes) (delivered channel outputs)
+
+-- the words of epochs, as those of a words file, deliver on each channel what the epochs deliver
+abbrev pub WordsDeliverAsEpochs : Type 0
+WordsDeliverAsEpochs = (setting : Setting) (channel : ℕ) (epochs : List Epoch) →
+    bytes_on channel (word_events setting (words_of_epochs epochs)) ≡ bytes_on channel (events setting epochs)
+
+-- the words of all items of lanes are read as they were written, and deliver on each channel what the lanes deliver
+pub record AreGivenBack (setting : Setting) (items : List Aligned) (given : List Event) : Type 0 where
+  pub read : words_of_file (rx_words_file (gathered_words items)) ≡ Ok (gathered_words items)
+  pub delivered : (channel : ℕ) → bytes_on channel (word_events setting (gathered_words items)) ≡ bytes_on channel given
+
+abbrev pub LanesAreGivenBack : Type 0
+LanesAreGivenBack = (s : Settings) (setting : Setting) (lanes : List (List ℕ)) (items : List Aligned) (given : List Event) → 2 * s.deskew < s.metaframe →
+    AreAllItems s lanes items → AreEvents s setting lanes given → AreGivenBack setting items given
 
 -- ---- worked examples
 

@@ -1,5 +1,5 @@
 //! Laws on gathered words and places.
-ghost use Rattle.lane_words.specs.GatheredLaws.{CleanLanesGiveStream, WordsAreOfEpochs, WordsGrow, WorkedWords, WrittenIsRead};
+ghost use Rattle.lane_words.specs.GatheredLaws.{CleanLanesGiveStream, LanesAreGivenBack, WordsAreOfEpochs, WordsDeliverAsEpochs, WordsGrow, WorkedWords, WrittenIsRead};
 
 /// The words of more items begin with those of the first. A words file is read as the words that were written, the Bad ones among
 /// them.
@@ -13,6 +13,14 @@ pub fn words_grow()
 pub fn words_are_of_epochs()
     ensures epochs { WordsAreOfEpochs }
     ensures clean { CleanLanesGiveStream }
+{}
+
+/// The words of epochs, one Bad word between each two, deliver on each channel the packets that the epochs deliver, in order, where
+/// they are received as those of a words file. So the words of all items of lanes, which are read as they were written, deliver what
+/// the lanes deliver.
+pub fn words_deliver()
+    ensures epochs { WordsDeliverAsEpochs }
+    ensures lanes { LanesAreGivenBack }
 {}
 
 /// Worked examples: the words of two epochs, and the words file of two words.

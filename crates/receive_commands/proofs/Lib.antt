@@ -1,8 +1,8 @@
 -- What other crates cite.
 pub mod Receives
+pub mod LanesRead
+pub mod ReceiveRun
 -- What this crate alone cites.
-mod LanesThere
-mod FileLanes
+mod OpenFiles
 mod Buffers
-mod PlanLanes
-mod ReceiveRun
+mod LanesThere

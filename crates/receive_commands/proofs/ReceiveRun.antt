@@ -32,7 +32,7 @@ use Rattle.receive_commands.specs.declared.lane_buffer.LaneBuffer.{LaneBuffer}
 use Rattle.receive_commands.specs.Receive.{IsReceived, lanes_in}
 use Rattle.receive_commands.specs.ReadLanes.{AreFileLanes, IsFresh}
 use Rattle.receive_commands.proofs.Buffers.{fresh_hold}
-use Rattle.receive_commands.proofs.FileLanes.{lanes_count}
+use Rattle.receive_commands.proofs.OpenFiles.{lanes_count}
 use Rattle.receive_commands.proofs.Receives.{broken_fills, broken_leaves, none_fills}
 
 -- what an end fills, and that other files are as they were

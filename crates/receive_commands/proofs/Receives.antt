@@ -39,7 +39,7 @@ use Rattle.lane_receipts.proofs.Reports.{reports_are, same_reports, some_reports
 use Rattle.receipts.proofs.Making.{stopped_writes}
 use Rattle.lane_receipts.proofs.HeldLanes.{all_come, all_reported}
 use Rattle.lane_receipts.proofs.TakenLanes.{widened}
-use Rattle.receive_commands.proofs.FileLanes.{lanes_count}
+use Rattle.receive_commands.proofs.OpenFiles.{lanes_count}
 
 -- ---- the work
 
@@ -66,15 +66,19 @@ some_received plan lanes link some =
       record { link = link; setting = setting; is_setting = is_the_setting plan; events = events; are_events = are; reports = reports; are_reports = reported; is = refl },
     )
 
-lanes_there : (files : Files) (name : List ℕ) (i : PlanLanes) → plan_lanes_in files name ≡ Ok i → (o : Outcome) × IsReceived i o
-lanes_there files name i e =
+-- a plan and its lanes that were read: the plan keeps its limits, and there is a lane
+pub link_read : (files : Files) (name : List ℕ) (i : PlanLanes) → plan_lanes_in files name ≡ Ok i → IsLink i.plan.settings × (0 < length i.lanes)
+link_read files name i e =
     let (plan, had, more) = behind_ok (plan_in files name) (with_lanes files) i e in
     let (lanes, got, is) = behind_ok (lanes_in files (names_of_lanes plan)) (λ ls. Ok (record { plan = plan; lanes = ls })) i more in
     let same : record { plan = plan; lanes = lanes } ≡ i = cc in
     let link = plan_limits files name plan had in
     let low = link.lanes.0 in
     let count = lanes_count files plan.out plan.settings.lanes lanes got in
-    subst (λ (j : PlanLanes). (o : Outcome) × IsReceived j o) same (some_received plan lanes link (omega (arith, low, count)))
+    subst (λ (j : PlanLanes). IsLink j.plan.settings × (0 < length j.lanes)) same (link, omega (arith, low, count))
+
+lanes_there : (files : Files) (name : List ℕ) (i : PlanLanes) → plan_lanes_in files name ≡ Ok i → (o : Outcome) × IsReceived i o
+lanes_there files name i e = let (link, some) = link_read files name i e in some_received i.plan i.lanes link some
 
 work : (name : List ℕ) → IsWork (receive_work name)
 work name = record {
@@ -88,7 +92,7 @@ receive_means name = is_meaning (receive_work name) (work name)
 
 -- ---- more names
 
-fills_more : (of : Outcome → Type 0) (ns ms : List (List ℕ)) (r : Result Finished Stop) (x y : Option Files) → Fills of ns r x y → Fills of (ns ++ ms) r x y
+pub fills_more : (of : Outcome → Type 0) (ns ms : List (List ℕ)) (r : Result Finished Stop) (x y : Option Files) → Fills of ns r x y → Fills of (ns ++ ms) r x y
 fills_more of ns ms (Ok f) x y h = h
 fills_more of ns ms (Err s) x y h = record { by_store = widened (Contains ns) (Contains (ns ++ ms)) s (Contains-append_left ns ms) h.by_store; part = h.part }
 

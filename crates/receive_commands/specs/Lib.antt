@@ -1,5 +1,5 @@
 -- cited by public clauses
 pub mod Receive
--- needed by private functions and proofs alone
 pub mod ReadLanes
+-- needed by private functions and proofs alone
 pub mod OpenLanes

@@ -54,17 +54,21 @@ pub record IsReceived (i : PlanLanes) (o : Outcome) : Type 0 where
   pub are_reports : AreLaneReports i.plan.settings i.lanes reports
   pub is : o ≡ received_outcome setting i.plan.link_type i.plan.out (lane_lines 0 reports) events
 
--- The lanes of the plan become the captures of its channels by number, of its link type, and the span table, under names that
--- begin with its `out`. No stream is held.
-abbrev pub receive_work : List ℕ → Work
-receive_work name = record {
+-- A plan and its lanes are read, these are made of them, and files of these names are created. No stream is held.
+abbrev pub lanes_work : (PlanLanes → Outcome → Type 0) → (PlanValue → List (List ℕ)) → List ℕ → Work
+lanes_work IsMade names name = record {
   Inputs = PlanLanes;
   inputs_in = λ files. plan_lanes_in files name;
-  IsMade = IsReceived;
+  IsMade = IsMade;
   IsHeld = λ i. ⊥;
-  Creates = λ i q. Contains (plan_names i.plan) q;
+  Creates = λ i q. Contains (names i.plan) q;
   Names = IsReceiveInput name;
 }
+
+-- The lanes of the plan become the captures of its channels by number, of its link type, and the span table, under names that
+-- begin with its `out`.
+abbrev pub receive_work : List ℕ → Work
+receive_work name = lanes_work IsReceived plan_names name
 
 abbrev pub receive_meaning : List ℕ → Meaning
 receive_meaning name = meaning_by (receive_work name)

@@ -7,4 +7,5 @@ mod lanes_in;
 mod open_lanes;
 mod receive;
 
-pub use receive::Receive;
+pub use lanes::FileLanes;
+pub use receive::{PlanLanes, Receive, read_plan_lanes};

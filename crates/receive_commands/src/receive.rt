@@ -21,15 +21,22 @@ use run_shell::{FileCommand, Finished, lane_names};
 use run_stops::Stop;
 use std::alloc::Global;
 
-/// A plan and the names of its lanes' files, by number.
+/// A plan and the names of its lanes' files.
 #[derive(Drop)]
-struct PlanLanes {
-    plan: Plan,
-    names: Vec<String>,
+pub struct PlanLanes {
+    /// The plan.
+    pub plan: Plan,
+    /// The names of its lanes' files, by number.
+    pub names: Vec<String>,
 }
 
-// The plan of this name, whose lanes are there and no longer than their limit.
-fn read_plan_lanes<S: Store>(alloc: Global, store: &mut S, file: &str) -> Result<PlanLanes, Stop>
+/// The plan of this name, whose lanes are there and no longer than their limit. The first of these files that is absent, too large
+/// or refused is refused, unless the store fails or memory runs out. The files are as they were.
+pub fn read_plan_lanes<S: Store>(
+    alloc: Global,
+    store: &mut S,
+    file: &str,
+) -> Result<PlanLanes, Stop>
     requires { S.faults store.old < 2 ^ 60 }
     ensures cause { StopCount result (S.faults store.old) (S.faults store.new) }
     ensures unchanged { S.files store.new ≡ S.files store.old }

@@ -1,5 +1,5 @@
 -- The words file and the table are filled.
-use Rattle.std.proofs.Common.{◌≡◌, ℕ, false, List, [], refl, sym, ap, ◌∙◌, subst, Option, Result, Ok, Err, Contains}
+use Rattle.std.proofs.Common.{◌≡◌, ℕ, false, List, refl, ap, subst, Option, Ok, Err, Contains}
 use Rattle.lk_base.specs.declared.word.RxWord.{RxWord}
 use Rattle.lk_outside.specs.Files.{Files, Told}
 use Rattle.run_stops.specs.declared.stop.Stop.{Stop}
@@ -9,7 +9,7 @@ use Rattle.run_shell.specs.declared.finished.Finished.{Finished}
 use Rattle.run_shell.specs.Ends.{held_status}
 use Rattle.run_shell.specs.Outcome.{Holds, HoldsPart, Outcome}
 use Rattle.run_shell.specs.Outputs.{Closed, open_names, outs}
-use Rattle.run_shell.specs.Writing.{Begin, Writes}
+use Rattle.run_shell.specs.Writing.{Writes}
 use Rattle.run_shell.proofs.Writing.{done_writes, open_writes, stop_writes}
 use Rattle.lane_words.specs.declared.places.PlaceRow.{PlaceRow}
 use Rattle.word_gatherer.specs.declared.files.GatheredFiles.{GatheredFiles}

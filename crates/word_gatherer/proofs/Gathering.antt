@@ -1,5 +1,5 @@
 -- Items are gathered one after another.
-use Rattle.std.proofs.Common.{◌≡◌, ℕ, ◌+◌, ◌≤◌, Bool, true, false, List, [], ◌∷◌, ◌++◌, length, refl, sym, ap, ◌∙◌, subst, append-nil, append_assoc, Option, Result, Ok, Err}
+use Rattle.std.proofs.Common.{◌≡◌, ℕ, ◌+◌, ◌≤◌, Bool, false, List, [], ◌∷◌, ◌++◌, length, sym, ap, ◌∙◌, append-nil, append_assoc, Option, Result, Ok, Err}
 use Rattle.lk_base.specs.declared.word.Aligned.{Aligned}
 use Rattle.lk_base.specs.declared.word.RxWord.{RxWord}
 use Rattle.lk_base.specs.Positions.{words_from}
@@ -10,7 +10,7 @@ use Rattle.lane_words.specs.declared.places.PlaceRow.{PlaceRow}
 use Rattle.lane_words.specs.Gathered.{between, ends_broken, epochs_in, gathered_words, is_break, own_epochs, own_rows, own_words, places}
 use Rattle.lane_words.proofs.Growths.{broken_more, broken_run, epochs_more, epochs_run, places_more, places_run, words_more, words_run}
 use Rattle.word_gatherer.specs.declared.gathered.Gathered.{Gathered}
-use Rattle.word_gatherer.specs.Growing.{Gathers, HasPut, IsCutShort, IsGathered, IsStopped, Puts}
+use Rattle.word_gatherer.specs.Growing.{Gathers, IsCutShort, IsGathered, IsStopped, Puts}
 use Rattle.word_gatherer.proofs.Stops.{put_stopped, same_put, same_stopped, stopped_more}
 
 module _ (out : List ℕ) (items : List Aligned) (broken : Bool) (was now : Option Files) (e : broken ≡ ends_broken false items) where

@@ -1,4 +1,5 @@
-mod Stops
+-- What other crates cite.
+pub mod Stops
 -- What this crate alone cites.
 mod Tables
 mod Examples

@@ -1,5 +1,5 @@
 -- How the giving of words and rows ends.
-use Rattle.std.proofs.Common.{◌≡◌, ◌≢◌, ℕ, zero, suc, ◌+◌, ◌<◌, List, [], ◌∷◌, ◌++◌, length, refl, sym, ap, ap₂, ◌∙◌, subst, arith, append-nil, append_assoc, Option, Some, None, Result, Ok, Err, Contains}
+use Rattle.std.proofs.Common.{◌≡◌, ◌≢◌, ℕ, zero, suc, List, [], ◌∷◌, ◌++◌, length, refl, sym, ap, ◌∙◌, subst, arith, append-nil, Option, Result, Ok, Err, Contains}
 use Rattle.std.proofs.lemmas.List.{length-map}
 use lib.Chars.{codes}
 use Rattle.csv_rows.specs.Written.{rows_text}

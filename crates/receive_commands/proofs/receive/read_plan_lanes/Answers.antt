@@ -2,7 +2,7 @@ use Rattle.std.proofs.Common.{◌∙◌, ap, ap₂, map, string_bytes}
 use Rattle.std.proofs.lemmas.Result.{err_from_is_err_and}
 use Rattle.link_plan.specs.Views.{plan_value}
 use Rattle.run_shell.specs.Names.{lane_names}
-use Rattle.receive_commands.proofs.PlanLanes.{both_there, lanes_there, no_lanes, no_memory_there, no_plan}
+use Rattle.receive_commands.proofs.LanesRead.{both_there, lanes_there, no_lanes, no_memory_there, no_plan}
 use Rattle.receive_commands.proofs.receive.read_plan_lanes.Goals as goal
 
 pub returns-in_err-plan-clause-reads : goal.returns-in_err-plan-clause-reads

@@ -1,4 +1,4 @@
-use Rattle.std.proofs.Common.{◌≡◌, ◌++◌, ◌∙◌, [], List, ℕ, ap, sym, Some, refl, Vec, Global}
+use Rattle.std.proofs.Common.{◌≡◌, ◌++◌, ◌∙◌, [], List, ℕ, ap, sym, refl, Vec, Global}
 use Rattle.csv.specs.Writing.{row_text}
 use Rattle.csv_rows.specs.Written.{rows_writer}
 use Rattle.word_gatherer.specs.Table.{place_fields}

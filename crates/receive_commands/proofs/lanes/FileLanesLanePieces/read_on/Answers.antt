@@ -4,7 +4,7 @@ use Rattle.run_shell.proofs.Creating.{named}
 use Rattle.lane_receipts.specs.Taking.{ReadsOn}
 use Rattle.receive_commands.specs.declared.lane_buffer.LaneBuffer.{LaneBuffer}
 use Rattle.receive_commands.specs.ReadLanes.{AreFileLanes, AreBuffers, piece_in}
-use Rattle.receive_commands.proofs.FileLanes.{reads_on}
+use Rattle.receive_commands.proofs.OpenFiles.{reads_on}
 use Rattle.receive_commands.proofs.lanes.FileLanesLanePieces.read_on.Goals as goal
 
 pub returns-clause-reads : goal.returns-clause-reads

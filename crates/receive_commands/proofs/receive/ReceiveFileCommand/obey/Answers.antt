@@ -2,9 +2,10 @@ use Rattle.std.proofs.Common.{◌≡◌, sym, subst, List, ℕ, IfSome, Ok}
 use Rattle.std.proofs.lemmas.Result.{err_from_is_err_and}
 use Rattle.link_plan.specs.Views.{plan_value}
 use Rattle.run_shell.proofs.Works.{reading_ends}
-use Rattle.receive_commands.specs.Receive.{IsReceiveInput, PlanLanes, lanes_in, receive_work}
+use Rattle.receipts.specs.Settings.{plan_names}
+use Rattle.receive_commands.specs.Receive.{IsReceiveInput, IsReceived, PlanLanes, lanes_in, receive_work}
 use Rattle.lane_receipts.specs.LaneReports.{names_of_lanes}
-use Rattle.receive_commands.proofs.PlanLanes.{receive_comes, receive_leaves}
+use Rattle.receive_commands.proofs.LanesRead.{lanes_come, lanes_leave}
 use Rattle.receive_commands.proofs.Receives.{receive_means}
 use Rattle.receive_commands.proofs.receive.ReceiveFileCommand.obey.Goals as goal
 
@@ -25,8 +26,8 @@ returns-clause-lawful g c = receive_means c.args.file.now
 
 pub returns-clause-comes : goal.returns-clause-comes
 returns-clause-comes g c =
-    receive_comes c.args.file.now (plan_value c.in_ok-read.read.plan) c.receive_lanes.result _ _ _ c.in_ok-read.ensures.unchanged c.in_ok-read.ensures.plan c.in_ok-read.ensures.there c.receive_lanes.ensures.others c.receive_lanes.ensures.fills
+    lanes_come IsReceived plan_names c.args.file.now (plan_value c.in_ok-read.read.plan) c.receive_lanes.result _ _ _ c.in_ok-read.ensures.unchanged c.in_ok-read.ensures.plan c.in_ok-read.ensures.there c.receive_lanes.ensures.others c.receive_lanes.ensures.fills
 
 pub returns-clause-others : goal.returns-clause-others
 returns-clause-others g c =
-    receive_leaves c.args.file.now (plan_value c.in_ok-read.read.plan) _ _ _ c.in_ok-read.ensures.unchanged c.in_ok-read.ensures.plan c.in_ok-read.ensures.there c.receive_lanes.ensures.others
+    lanes_leave IsReceived plan_names c.args.file.now (plan_value c.in_ok-read.read.plan) _ _ _ c.in_ok-read.ensures.unchanged c.in_ok-read.ensures.plan c.in_ok-read.ensures.there c.receive_lanes.ensures.others

@@ -1,6 +1,5 @@
-use Rattle.std.proofs.Common.{◌≡◌, ◌∙◌, [], refl, sym, ap, subst, arith}
+use Rattle.std.proofs.Common.{◌∙◌, [], refl, arith}
 use Rattle.std.proofs.lemmas.Result.{err_from_is_err_and}
-use Rattle.run_shell.specs.Outputs.{IsOpen, blank}
 use Rattle.word_gatherer.proofs.Stops.{created_stopped, grown_put, grown_stopped, heading_given, none_stopped, opens_differ, two_opens}
 use Rattle.word_gatherer.proofs.files.GatheredFiles.create.Goals as goal
 

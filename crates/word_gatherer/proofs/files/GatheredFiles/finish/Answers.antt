@@ -1,4 +1,4 @@
-use Rattle.std.proofs.Common.{◌≡◌, refl}
+use Rattle.std.proofs.Common.{refl}
 use Rattle.std.proofs.lemmas.Result.{err_from_is_err_and}
 use Rattle.word_gatherer.proofs.Stops.{opens_differ}
 use Rattle.word_gatherer.proofs.Finishing.{all_written, part_written}

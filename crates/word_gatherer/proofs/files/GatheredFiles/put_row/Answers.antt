@@ -1,4 +1,4 @@
-use Rattle.std.proofs.Common.{◌≡◌, ◌∙◌, [], ◌∷◌, ◌++◌, refl, sym, ap, arith}
+use Rattle.std.proofs.Common.{◌∙◌, [], ◌∷◌, ◌++◌, refl, arith}
 use Rattle.std.proofs.lemmas.Result.{err_from_is_err_and}
 use Rattle.word_gatherer.proofs.Stops.{grown_puts, opens_differ, rows_given, rows_stopped, two_opens}
 use Rattle.word_gatherer.proofs.files.GatheredFiles.put_row.Goals as goal

@@ -1,4 +1,4 @@
-use Rattle.std.proofs.Common.{◌≡◌, ◌+◌, ◌∙◌, [], ◌++◌, ℕ, length, length-append, refl, sym, ap, arith}
+use Rattle.std.proofs.Common.{◌∙◌, ◌++◌, length-append, refl, arith}
 use Rattle.std.proofs.lemmas.Result.{err_from_is_err_and}
 use Rattle.word_gatherer.proofs.Stops.{grown_puts, opens_differ, two_opens, words_given, words_stopped}
 use Rattle.word_gatherer.proofs.files.GatheredFiles.put_words.Goals as goal

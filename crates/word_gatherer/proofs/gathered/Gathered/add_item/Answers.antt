@@ -1,4 +1,4 @@
-use Rattle.std.proofs.Common.{◌≡◌, ◌+◌, ℕ, ◌∙◌, refl, sym, ap}
+use Rattle.std.proofs.Common.{◌+◌, ℕ, ◌∙◌, ap}
 use Rattle.std.proofs.lemmas.Result.{err_from_is_err_and}
 use Rattle.lane_words.specs.Gathered.{own_epochs}
 use Rattle.word_gatherer.proofs.Gathering.{item_cut, item_gathers, item_memory}

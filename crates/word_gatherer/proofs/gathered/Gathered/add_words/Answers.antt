@@ -1,4 +1,4 @@
-use Rattle.std.proofs.Common.{◌≡◌, ◌∙◌, refl, sym, ap}
+use Rattle.std.proofs.Common.{refl}
 use Rattle.std.proofs.lemmas.Result.{err_from_is_err_and}
 use Rattle.word_gatherer.proofs.Gathering.{run_cut, run_gathers}
 use Rattle.word_gatherer.proofs.gathered.Gathered.add_words.Goals as goal

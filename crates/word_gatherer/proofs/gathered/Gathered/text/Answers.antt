@@ -1,4 +1,4 @@
-use Rattle.std.proofs.Common.{◌≡◌, ◌++◌, ◌∙◌, ℕ, List, length, ap, append_assoc}
+use Rattle.std.proofs.Common.{◌++◌, ◌∙◌, ℕ, List, length, ap, append_assoc}
 use lib.Chars.{codes}
 use Rattle.link_reports.specs.Lines.{count_line}
 use Rattle.lane_words.specs.Gathered.{gathered_words}

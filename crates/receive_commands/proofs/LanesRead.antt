@@ -1,4 +1,4 @@
--- `receive`: the reading before its outcome, and its ends.
+-- The reading of a plan and its lanes, and the ends of what they are read for.
 use Rattle.std.proofs.Common.{◌≡◌, ℕ, List, ◌++◌, refl, sym, ap, ◌∙◌, subst, inl, inr, Option, Some, None, IfSome, Result, Ok, Err, MatchResult, Contains}
 use Rattle.std.proofs.lemmas.List.Elements.{Contains-append_cases}
 use Rattle.lk_outside.specs.Files.{Files, Told}
@@ -9,16 +9,16 @@ use Rattle.plan_inputs.specs.Inputs.{plan_in}
 use Rattle.run_stops.specs.declared.stop.Stop.{Stop}
 use Rattle.run_stops.specs.declared.stop.Stop.TheVariants as stop
 use Rattle.run_shell.specs.declared.finished.Finished.{Finished}
-use Rattle.run_shell.specs.Outcome.{LeavesOthers}
+use Rattle.run_shell.specs.Outcome.{LeavesOthers, Outcome}
 use Rattle.run_shell.specs.Ends.{Comes}
+use Rattle.run_shell.specs.Work.{Work, meaning_by}
 use Rattle.run_stops.specs.Reading.{Reads, behind}
 use Rattle.run_shell.specs.Writing.{Fills}
 use Rattle.run_stops.proofs.Readings.{first_stops, second_reads}
 use Rattle.run_stops.proofs.Readings.{behind_stops}
 use Rattle.run_shell.proofs.Works.{made_of, names_by, store_stops}
 use Rattle.run_shell.proofs.Writing.{writes_comes}
-use Rattle.receipts.specs.Settings.{plan_names}
-use Rattle.receive_commands.specs.Receive.{IsReceiveInput, IsReceived, PlanLanes, lanes_in, plan_lanes_in, receive_meaning, receive_work, with_lanes}
+use Rattle.receive_commands.specs.Receive.{IsReceiveInput, PlanLanes, lanes_in, lanes_work, plan_lanes_in, with_lanes}
 use Rattle.lane_receipts.specs.LaneReports.{names_of_lanes}
 
 -- ---- reading
@@ -64,12 +64,16 @@ module _ (file : List ℕ) where
 
 -- ---- the ends
 
-module _ (file : List ℕ) (plan : PlanValue) where
+-- of any work that a plan and its lanes are read for
+module _ (Makes : PlanLanes → Outcome → Type 0) (names : PlanValue → List (List ℕ)) (file : List ℕ) (plan : PlanValue) where
   abbrev Filled : Result Finished Stop → Option Files → Option Files → Files → Type 0
-  Filled r y z files = (lanes : List (List ℕ)) → lanes_in files (names_of_lanes plan) ≡ Ok lanes → Fills (IsReceived (record { plan = plan; lanes = lanes })) (plan_names plan ++ names_of_lanes plan) r y z
+  Filled r y z files = (lanes : List (List ℕ)) → lanes_in files (names_of_lanes plan) ≡ Ok lanes → Fills (Makes (record { plan = plan; lanes = lanes })) (names plan ++ names_of_lanes plan) r y z
 
   abbrev Leaves : Option Files → Option Files → Type 0
-  Leaves y z = Told y z (LeavesOthers (λ files q. Contains (plan_names plan) q))
+  Leaves y z = Told y z (LeavesOthers (λ files q. Contains (names plan) q))
+
+  abbrev work : Work
+  work = lanes_work Makes names file
 
   module _ (u : Files) (had : plan_in u file ≡ Ok plan) (lanes : List (List ℕ)) (got : lanes_in u (names_of_lanes plan) ≡ Ok lanes) where
     abbrev i : PlanLanes
@@ -78,29 +82,29 @@ module _ (file : List ℕ) (plan : PlanValue) where
     is_in : plan_lanes_in u file ≡ Ok i
     is_in = ap (λ r. behind r (with_lanes u)) had ∙ ap (λ r. behind r (λ ls. Ok (record { plan = plan; lanes = ls }))) got
 
-    ends : (r : Result Finished Stop) (z : Option Files) → Leaves (Some u) z → Filled r (Some u) z u → Comes (receive_meaning file) (Some u) z r u
+    ends : (r : Result Finished Stop) (z : Option Files) → Leaves (Some u) z → Filled r (Some u) z u → Comes (meaning_by work) (Some u) z r u
     ends (Ok f) z leaves h =
-        writes_comes (receive_work file) i (plan_names plan) (λ q c. c) (Ok f) (Some u) (Some u) z refl is_in (record { fills = h lanes got; others = leaves })
+        writes_comes work i (names plan) (λ q c. c) (Ok f) (Some u) (Some u) z refl is_in (record { fills = h lanes got; others = leaves })
     ends (Err s) z leaves h =
-        store_stops (receive_meaning file) (Contains (plan_names plan ++ names_of_lanes plan)) s u (Some u) z (h lanes got).by_store names (λ o k. (h lanes got).part o (made_of (receive_work file) u i o is_in k))
+        store_stops (meaning_by work) (Contains (names plan ++ names_of_lanes plan)) s u (Some u) z (h lanes got).by_store named (λ o k. (h lanes got).part o (made_of work u i o is_in k))
       where
-        names : (q : List ℕ) → Contains (plan_names plan ++ names_of_lanes plan) q → (receive_meaning file).Names u q
-        names q c = elim (Contains-append_cases (plan_names plan) (names_of_lanes plan) q c) [
-          | inl made ↦ names_by (receive_work file) u i q is_in made
+        named : (q : List ℕ) → Contains (names plan ++ names_of_lanes plan) q → (meaning_by work).Names u q
+        named q c = elim (Contains-append_cases (names plan) (names_of_lanes plan) q c) [
+          | inl made ↦ names_by work u i q is_in made
           | inr lane ↦ inl (inr (subst (λ r. MatchResult r (λ p. Contains (names_of_lanes p) q) (λ e. ⊥)) (sym had) lane))
         ]
 
-  pub receive_comes : (r : Result Finished Stop) (x y z : Option Files) → y ≡ x → IfSome x (λ files. plan_in files file ≡ Ok plan) → IfSome x (λ files. (lanes : List (List ℕ)) × (lanes_in files (names_of_lanes plan) ≡ Ok lanes))
-      → Leaves y z → IfSome y (Filled r y z) → IfSome x (Comes (receive_meaning file) x z r)
-  receive_comes r None y z same had got leaves h = tt
-  receive_comes r (Some u) y z same had (lanes, got) leaves h =
+  pub lanes_come : (r : Result Finished Stop) (x y z : Option Files) → y ≡ x → IfSome x (λ files. plan_in files file ≡ Ok plan) → IfSome x (λ files. (lanes : List (List ℕ)) × (lanes_in files (names_of_lanes plan) ≡ Ok lanes))
+      → Leaves y z → IfSome y (Filled r y z) → IfSome x (Comes (meaning_by work) x z r)
+  lanes_come r None y z same had got leaves h = tt
+  lanes_come r (Some u) y z same had (lanes, got) leaves h =
       ends u had lanes got r z (subst (λ v. Leaves v z) same leaves) (subst (λ v. IfSome v (Filled r v z)) same h)
 
-  pub receive_leaves : (x y z : Option Files) → y ≡ x → IfSome x (λ files. plan_in files file ≡ Ok plan) → IfSome x (λ files. (lanes : List (List ℕ)) × (lanes_in files (names_of_lanes plan) ≡ Ok lanes)) → Leaves y z → Told x z (LeavesOthers (receive_meaning file).Creates)
-  receive_leaves x y z same had got leaves = by x z had got (subst (λ v. Leaves v z) same leaves)
+  pub lanes_leave : (x y z : Option Files) → y ≡ x → IfSome x (λ files. plan_in files file ≡ Ok plan) → IfSome x (λ files. (lanes : List (List ℕ)) × (lanes_in files (names_of_lanes plan) ≡ Ok lanes)) → Leaves y z → Told x z (LeavesOthers (meaning_by work).Creates)
+  lanes_leave x y z same had got leaves = by x z had got (subst (λ v. Leaves v z) same leaves)
     where
-      by : (a b : Option Files) → IfSome a (λ files. plan_in files file ≡ Ok plan) → IfSome a (λ files. (lanes : List (List ℕ)) × (lanes_in files (names_of_lanes plan) ≡ Ok lanes)) → Leaves a b → Told a b (LeavesOthers (receive_meaning file).Creates)
+      by : (a b : Option Files) → IfSome a (λ files. plan_in files file ≡ Ok plan) → IfSome a (λ files. (lanes : List (List ℕ)) × (lanes_in files (names_of_lanes plan) ≡ Ok lanes)) → Leaves a b → Told a b (LeavesOthers (meaning_by work).Creates)
       by None None k l t = tt
       by None (Some v) k l t = absurd t
       by (Some u) None k l t = absurd t
-      by (Some u) (Some v) k (lanes, got) t = λ q out. t q (λ c. out (subst (λ r. MatchResult r (λ j. Contains (plan_names j.plan) q) (λ e. ⊥)) (sym (is_in u k lanes got)) c))
+      by (Some u) (Some v) k (lanes, got) t = λ q out. t q (λ c. out (subst (λ r. MatchResult r (λ j. Contains (names j.plan) q) (λ e. ⊥)) (sym (is_in u k lanes got)) c))
