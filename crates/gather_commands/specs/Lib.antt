@@ -1,0 +1,7 @@
+-- cited by public clauses
+pub mod Gather
+pub mod GatherLaws
+pub mod JoinLaw
+-- needed by private functions and proofs alone
+pub mod Taking
+pub mod Lanes

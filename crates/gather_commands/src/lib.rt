@@ -1,0 +1,11 @@
+//! The command that gathers: the lanes of a plan become the words file of their words, and a table of where their groups and breaks
+//! stand.
+#![tactic(auto)]
+
+mod gather;
+mod gatherer;
+mod lanes;
+pub mod laws;
+mod open_lanes;
+
+pub use gather::Gather;
