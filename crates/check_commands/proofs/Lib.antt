@@ -6,3 +6,4 @@ mod Tallies
 mod Passing
 mod Telling
 mod Examples
+mod AfterBurst
