@@ -1,0 +1,86 @@
+-- Lanes that are there whole, as lanes so far.
+use Rattle.std.proofs.Common.{ℕ, ◌≡◌, ◌*◌, ◌<◌, Bool, true, false, List, [], ◌∷◌, length, map, refl, ap, ◌∙◌, subst, arith}
+use Rattle.std.specs.Prelude.{nat_lt}
+use Rattle.std.proofs.lemmas.Bool.{lt-ltb}
+use Rattle.std.proofs.lemmas.List.{take_all}
+use Rattle.lk_base.specs.Checksum.{bits_of_bytes}
+use Rattle.lk_base.specs.Link.{Settings}
+use Rattle.lk_base.specs.declared.word.Aligned.{Aligned}
+use Rattle.lk_base.proofs.Lists.{head_same, tail_same}
+use Rattle.receive_model.specs.Positions.{Epoch}
+use Rattle.lock_model.specs.Tracks.{Track}
+use Rattle.epoch_model.specs.Groups.{AreEpochs}
+use Rattle.epoch_model.specs.GroupLaw.{HasAttempts}
+use Rattle.epoch_model.specs.KnownLaw.{AreLanes, EachIsLane, all_over, epoch_of}
+use Rattle.epoch_model.proofs.AtEnd.{known_at_end}
+use Rattle.epoch_model.proofs.KnownDetermined.{tracks_are}
+use Rattle.event_model.specs.Fed.{clock_of, first_bits, whole}
+use Rattle.event_model.specs.Given.{bits_in, lanes_at}
+use Rattle.event_model.proofs.Clocks.{AreShort, all_whole, short_at_end}
+use Rattle.link_laws.specs.Received.{AreReceived}
+use Rattle.lane_words.specs.Gathered.{gathered_words, words_of_epochs}
+use Rattle.lane_words.specs.GatheredLaws.{WordsAreOfEpochs}
+use Rattle.lane_words.specs.Items.{AreAllItems}
+
+bits_joined : (t u : List Bool) (ts us : List (List Bool)) → t ≡ u → ts ≡ us → ◌≡◌ {A = List (List Bool)} (t ∷ ts) (u ∷ us)
+bits_joined t u ts us e f = cc
+
+not_none : (x : List Bool) (xs : List (List Bool)) → ◌≡◌ {A = List (List Bool)} (x ∷ xs) [] → ⊥
+not_none x xs e = cc e
+
+none_not : (x : List Bool) (xs : List (List Bool)) → ◌≡◌ {A = List (List Bool)} [] (x ∷ xs) → ⊥
+none_not x xs e = cc e
+
+not_both : (b : Bool) → b ≡ true → b ≡ false → ⊥
+not_both b e f = cc
+
+module _ (s : Settings) (clock : ℕ) where
+  whole_bits : (lanes : List (List ℕ)) → AreShort clock (map whole lanes) → map (first_bits clock) (map whole lanes) ≡ map bits_of_bytes lanes
+  whole_bits [] short = refl
+  whole_bits (bytes ∷ lanes) short =
+      bits_joined (first_bits clock (whole bytes)) (bits_of_bytes bytes) (map (first_bits clock) (map whole lanes)) (map bits_of_bytes lanes)
+      (take_all clock (bits_of_bytes bytes) (let lt = short.0 in omega (arith, lt))) (whole_bits lanes short.1)
+
+  whole_over : (lanes : List (List ℕ)) (received : List (HasAttempts s.metaframe)) → AreShort clock (map whole lanes) → all_over (lanes_at s clock (map whole lanes) received) ≡ true
+  whole_over [] received short = refl
+  whole_over (bytes ∷ lanes) [] short = refl
+  whole_over (bytes ∷ lanes) (x ∷ received) short = rw (lt-ltb (length (bits_of_bytes bytes)) clock short.0) (whole_over lanes received short.1)
+
+  whole_received : (lanes : List (List ℕ)) (received : List (HasAttempts s.metaframe)) → AreShort clock (map whole lanes) → bits_in s.metaframe received ≡ map bits_of_bytes lanes → EachIsLane s clock (lanes_at s clock (map whole lanes) received) received
+  whole_received [] [] short e = tt
+  whole_received [] (x ∷ received) short e = absurd (not_none x.bits (bits_in s.metaframe received) e)
+  whole_received (bytes ∷ lanes) [] short e = absurd (none_not (bits_of_bytes bytes) (map bits_of_bytes lanes) e)
+  whole_received (bytes ∷ lanes) (x ∷ received) short e =
+      let size : length x.bits ≡ length (bits_of_bytes bytes) = ap length (head_same x.bits (bits_of_bytes bytes) (bits_in s.metaframe received) (map bits_of_bytes lanes) e) in
+      let lt = short.0 in
+      let over : nat_lt (length (bits_of_bytes bytes)) clock ≡ true = lt-ltb (length (bits_of_bytes bytes)) clock lt in (
+        record { tracks = refl; within = omega (arith, size, lt); all = λ open_lane. absurd (not_both (nat_lt (length (bits_of_bytes bytes)) clock) over open_lane) },
+        whole_received lanes received short.1 (tail_same x.bits (bits_of_bytes bytes) (bits_in s.metaframe received) (map bits_of_bytes lanes) e),
+      )
+
+-- the epochs of lanes, and their words in order
+pub record HasEpochs (s : Settings) (lanes : List (List ℕ)) (items : List Aligned) : Type 0 where
+  pub epochs : List Epoch
+  pub are : AreReceived s (map bits_of_bytes lanes) epochs
+  pub words : gathered_words items ≡ words_of_epochs epochs
+
+-- the words of all items of lanes are those of the epochs that are received of their bits
+pub items_epochs : WordsAreOfEpochs → (s : Settings) (lanes : List (List ℕ)) (items : List Aligned) → 2 * s.deskew < s.metaframe → AreAllItems s lanes items → HasEpochs s lanes items
+items_epochs law s lanes items fits are =
+    let clock : ℕ = clock_of (map whole lanes) in
+    let short = short_at_end (map whole lanes) (all_whole lanes) in
+    let bits : bits_in s.metaframe are.received ≡ map bits_of_bytes lanes = are.bits ∙ whole_bits s clock lanes short in
+    let each = whole_received s clock lanes are.received short bits in
+    let over = whole_over s clock lanes are.received short in
+    let at_clock = lanes_at s clock (map whole lanes) are.received in
+    let (so_far, is, ends) = known_at_end s at_clock items over are.are in
+    let is_lanes : AreLanes s at_clock = record { clock = clock; received = are.received; are = each } in
+    record {
+      epochs = map (epoch_of s) so_far;
+      are = record {
+        lanes = are.received;
+        bits = bits;
+        are = subst (λ (ts : List (List Track)). AreEpochs s s.deskew ts (map (epoch_of s) so_far)) (tracks_are s clock at_clock are.received each) ends;
+      };
+      words = (law s at_clock items (map (epoch_of s) so_far) fits is_lanes over are.are ends).words;
+    }

@@ -1,0 +1,4 @@
+pub mod LaterWords
+pub mod PremisesMet
+pub mod AfterSend
+pub mod AfterSendMet

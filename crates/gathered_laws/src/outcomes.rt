@@ -1,0 +1,37 @@
+ghost use Rattle.gathered_laws.specs.AfterSend.{CheckAfterGather, GatherAfterSend};
+ghost use Rattle.gathered_laws.specs.AfterSendMet.{AfterSendMet};
+
+/// What `gather` after `send` of one plan makes, whose inputs were accepted: the words file has the words of the stream from the fourth
+/// group on, and no other.
+///
+/// The premises: the plan and its lanes are accepted by `gather`, and the lanes are those that `send` wrote.
+pub fn gather_after_send()
+    ensures { GatherAfterSend }
+{
+    // clean lanes have one epoch, and gathered words are those of the epochs
+    link_laws::laws::clean_lanes_law();
+    lane_words::laws::words_are_of_epochs();
+}
+
+/// `check` after `send` and `gather` of one plan, whose inputs were accepted and have no row of flow control, tells no fault: the words
+/// that `gather` wrote of the lanes that `send` wrote, within the limit of words files, break none of the rules of a sender by that
+/// plan.
+pub fn check_after_gather()
+    ensures { CheckAfterGather }
+{
+    gather_after_send();
+    // what was written is read, and the table of no fault is its heading
+    lane_words::laws::words_grow();
+    check_commands::laws::worked_examples();
+}
+
+/// The premises of both laws are met by a plan with its files, of two lanes and one packet: `send` makes 336 words of it, and of the 168
+/// that `gather` gives of its lanes `check` tells no fault.
+pub fn after_send_premises_are_met()
+    ensures { AfterSendMet }
+{
+    link_commands::laws::premises_are_met();
+    gather_after_send();
+    check_after_gather();
+    lane_words::laws::words_grow();
+}
