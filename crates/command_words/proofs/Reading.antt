@@ -74,9 +74,17 @@ module _ (x : ℕ) (xs : Text) (e : nat_eq x 45 ≡ false) where
   unfolding clap_on_literals rows
   stripe_read = record { simple = refl; taken = simp e; found = simp e }
 
+  gather_read : AreRead (codes "gather" ∷ (x ∷ xs) ∷ [])
+  unfolding clap_on_literals rows
+  gather_read = record { simple = refl; taken = simp e; found = simp e }
+
   damage_read : AreRead (codes "damage" ∷ (x ∷ xs) ∷ [])
   unfolding clap_on_literals rows
   damage_read = record { simple = refl; taken = simp e; found = simp e }
+
+  inspect_read : AreRead (codes "inspect" ∷ (x ∷ xs) ∷ [])
+  unfolding clap_on_literals rows
+  inspect_read = record { simple = refl; taken = simp e; found = simp e }
 
   check_read : AreRead (codes "check" ∷ (x ∷ xs) ∷ [])
   unfolding clap_on_literals rows
@@ -139,7 +147,7 @@ AllRead (row ∷ more) = Reads row × AllRead more
 
 all_read : AllRead rows
 unfolding rows
-all_read = (file_reads (codes "burst") burst_read, (file_reads (codes "join") join_read, (file_reads (codes "send") send_read, (file_reads (codes "receive") receive_read, (file_reads (codes "link") link_read, (number_reads (codes "generate") generate_read, (file_reads (codes "duplex") duplex_read, (file_reads (codes "oobwrite") oobwrite_read, (file_reads (codes "oobread") oobread_read, (file_reads (codes "resend") resend_read, (file_reads (codes "stripe") stripe_read, (file_reads (codes "damage") damage_read, (file_reads (codes "check") check_read, (file_reads (codes "list") list_read, (file_reads (codes "assemble") assemble_read, tt)))))))))))))))
+all_read = (file_reads (codes "burst") burst_read, (file_reads (codes "join") join_read, (file_reads (codes "send") send_read, (file_reads (codes "receive") receive_read, (file_reads (codes "link") link_read, (number_reads (codes "generate") generate_read, (file_reads (codes "duplex") duplex_read, (file_reads (codes "oobwrite") oobwrite_read, (file_reads (codes "oobread") oobread_read, (file_reads (codes "resend") resend_read, (file_reads (codes "stripe") stripe_read, (file_reads (codes "gather") gather_read, (file_reads (codes "damage") damage_read, (file_reads (codes "inspect") inspect_read, (file_reads (codes "check") check_read, (file_reads (codes "list") list_read, (file_reads (codes "assemble") assemble_read, tt)))))))))))))))))
 
 read_by : (row : Kind) (more : List Kind) (first : Text) (args : List Text) → Reads row → (is_some (option_and_then (λ k. arguments_of k.rule args) (row_in more first)) ≡ true → AreRead (first ∷ args))
     → (b : Bool) → bytes_eq first row.word ≡ b → is_some (option_and_then (λ k. arguments_of k.rule args) (if b then Some row else row_in more first)) ≡ true → AreRead (first ∷ args)

@@ -6,7 +6,7 @@ use Rattle.command_words.specs.declared.table.Row.{Row}
 use Rattle.command_words.specs.declared.table.Rule.{Rule}
 use Rattle.command_words.specs.declared.table.Rule.TheVariants.{File, NumberAndPrefix}
 use Rattle.command_words.specs.declared.table.Name.{Name}
-use Rattle.command_words.specs.declared.table.Name.TheVariants.{Burst, Join, Send, Receive, Link, Generate, Duplex, OobWrite, OobRead, Resend, Stripe, Damage, Check, Assemble}
+use Rattle.command_words.specs.declared.table.Name.TheVariants.{Burst, Join, Send, Receive, Link, Generate, Duplex, OobWrite, OobRead, Resend, Stripe, Gather, Damage, Inspect, Check, Assemble}
 use Rattle.command_words.specs.declared.table.Name.TheVariants as names
 
 pub record Kind : Type 0 where
@@ -31,7 +31,9 @@ rows =
     record { word = codes "oobread"; command = OobRead; rule = File } ∷
     record { word = codes "resend"; command = Resend; rule = File } ∷
     record { word = codes "stripe"; command = Stripe; rule = File } ∷
+    record { word = codes "gather"; command = Gather; rule = File } ∷
     record { word = codes "damage"; command = Damage; rule = File } ∷
+    record { word = codes "inspect"; command = Inspect; rule = File } ∷
     record { word = codes "check"; command = Check; rule = File } ∷
     record { word = codes "list"; command = names.List; rule = File } ∷
     record { word = codes "assemble"; command = Assemble; rule = File } ∷

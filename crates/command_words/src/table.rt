@@ -36,8 +36,12 @@ pub enum Name {
     Resend,
     /// The words file of a plan becomes lane files.
     Stripe,
+    /// The words of a plan's lanes are gathered in one order.
+    Gather,
     /// The schedule of a plan is applied to its lanes.
     Damage,
+    /// What each lane of a plan shows is told, and where.
+    Inspect,
     /// The words file of a plan is judged by the rules of a sender.
     Check,
     /// A words file or a lane file becomes its listing.
@@ -114,8 +118,18 @@ static ROWS: &[Row] = &[
         rule: Rule::File,
     },
     Row {
+        word: "gather",
+        command: Name::Gather,
+        rule: Rule::File,
+    },
+    Row {
         word: "damage",
         command: Name::Damage,
+        rule: Rule::File,
+    },
+    Row {
+        word: "inspect",
+        command: Name::Inspect,
         rule: Rule::File,
     },
     Row {

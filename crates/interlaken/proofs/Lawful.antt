@@ -12,11 +12,13 @@ use Rattle.duplex_commands.proofs.Works.{duplex_means}
 use Rattle.oob_commands.proofs.Works.{write_means, read_means}
 use Rattle.resend_commands.proofs.Work.{resend_means}
 use Rattle.lane_commands.proofs.StripeWork.{stripe_means}
+use Rattle.gather_commands.proofs.Gathers.{gather_means}
 use Rattle.damage_commands.proofs.Damages.{damage_means}
+use Rattle.inspect_commands.proofs.Inspects.{inspect_means}
 use Rattle.check_commands.proofs.Checks.{check_means}
 use Rattle.listing_commands.proofs.Conversions.{list_means, assemble_means}
 use Rattle.interlaken.specs.declared.request.Request.{Request}
-use Rattle.interlaken.specs.declared.request.Request.TheVariants.{BurstCapture, BurstPlan, JoinWords, JoinPlan, SendPlan, Receive, Link, Generate, Duplex, OobWrite, OobRead, Resend, Stripe, Damage, Check, ListFile, AssembleText}
+use Rattle.interlaken.specs.declared.request.Request.TheVariants.{BurstCapture, BurstPlan, JoinWords, JoinPlan, SendPlan, Receive, Link, Generate, Duplex, OobWrite, OobRead, Resend, Stripe, Gather, Damage, Inspect, Check, ListFile, AssembleText}
 use Rattle.interlaken.specs.Request.{request_of}
 use Rattle.interlaken.specs.Meanings.{meaning_of, meaning_by}
 use Rattle.interlaken.specs.Run.{meaning_of_words, IsAccepted}
@@ -37,7 +39,9 @@ request_lawful (OobWrite name) = write_means name
 request_lawful (OobRead name) = read_means name
 request_lawful (Resend name) = resend_means name
 request_lawful (Stripe name) = stripe_means name
+request_lawful (Gather name) = gather_means name
 request_lawful (Damage name) = damage_means name
+request_lawful (Inspect name) = inspect_means name
 request_lawful (Check name) = check_means name
 request_lawful (ListFile name) = list_means name
 request_lawful (AssembleText name) = assemble_means name

@@ -49,7 +49,7 @@ AllKeep (row ∷ more) = Keeps row × AllKeep more
 
 all_keep : AllKeep rows
 unfolding rows
-all_keep = ((λ words g e. tt), ((λ words g e. tt), ((λ words g e. tt), ((λ words g e. tt), ((λ words g e. tt), (short_by_rule, ((λ words g e. tt), ((λ words g e. tt), ((λ words g e. tt), ((λ words g e. tt), ((λ words g e. tt), ((λ words g e. tt), ((λ words g e. tt), ((λ words g e. tt), ((λ words g e. tt), tt)))))))))))))))
+all_keep = ((λ words g e. tt), ((λ words g e. tt), ((λ words g e. tt), ((λ words g e. tt), ((λ words g e. tt), (short_by_rule, ((λ words g e. tt), ((λ words g e. tt), ((λ words g e. tt), ((λ words g e. tt), ((λ words g e. tt), ((λ words g e. tt), ((λ words g e. tt), ((λ words g e. tt), ((λ words g e. tt), ((λ words g e. tt), ((λ words g e. tt), tt)))))))))))))))))
 
 keeps_if : (b : Bool) (row : Kind) (next : Option Kind) (found : Kind) → Keeps row → (next ≡ Some found → Keeps found) → (if b then Some row else next) ≡ Some found → Keeps found
 keeps_if true row next found this more e = let same : row ≡ found = cc in subst Keeps same this

@@ -14,12 +14,14 @@ use Rattle.oob_commands.specs.WriteSamples.{oob_write_meaning}
 use Rattle.oob_commands.specs.ReadRows.{oob_read_meaning}
 use Rattle.resend_commands.specs.Command.{resend_meaning}
 use Rattle.lane_commands.specs.Stripe.{stripe_meaning}
+use Rattle.gather_commands.specs.Gather.{gather_meaning}
 use Rattle.damage_commands.specs.Damage.{damage_meaning}
+use Rattle.inspect_commands.specs.Inspect.{inspect_meaning}
 use Rattle.check_commands.specs.Check.{check_meaning}
 use Rattle.listing_commands.specs.Listing.{list_meaning}
 use Rattle.listing_commands.specs.Assembling.{assemble_meaning}
 use Rattle.interlaken.specs.declared.request.Request.{Request}
-use Rattle.interlaken.specs.declared.request.Request.TheVariants.{BurstCapture, BurstPlan, JoinWords, JoinPlan, SendPlan, Receive, Link, Generate, Duplex, OobWrite, OobRead, Resend, Stripe, Damage, Check, ListFile, AssembleText}
+use Rattle.interlaken.specs.declared.request.Request.TheVariants.{BurstCapture, BurstPlan, JoinWords, JoinPlan, SendPlan, Receive, Link, Generate, Duplex, OobWrite, OobRead, Resend, Stripe, Gather, Damage, Inspect, Check, ListFile, AssembleText}
 
 -- one line for each command
 abbrev pub meaning_of : Request → Meaning
@@ -36,7 +38,9 @@ meaning_of (OobWrite name) = oob_write_meaning name
 meaning_of (OobRead name) = oob_read_meaning name
 meaning_of (Resend name) = resend_meaning name
 meaning_of (Stripe name) = stripe_meaning name
+meaning_of (Gather name) = gather_meaning name
 meaning_of (Damage name) = damage_meaning name
+meaning_of (Inspect name) = inspect_meaning name
 meaning_of (Check name) = check_meaning name
 meaning_of (ListFile name) = list_meaning name
 meaning_of (AssembleText name) = assemble_meaning name

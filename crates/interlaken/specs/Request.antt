@@ -6,7 +6,7 @@ use Rattle.case_commands.specs.Asked.{asked}
 use Rattle.command_words.specs.declared.table.Name.{Name}
 use Rattle.command_words.specs.declared.table.Name.TheVariants as names
 use Rattle.interlaken.specs.declared.request.Request.{Request}
-use Rattle.interlaken.specs.declared.request.Request.TheVariants.{BurstCapture, BurstPlan, JoinWords, JoinPlan, SendPlan, Receive, Link, Generate, Duplex, OobWrite, OobRead, Resend, Stripe, Damage, Check, ListFile, AssembleText}
+use Rattle.interlaken.specs.declared.request.Request.TheVariants.{BurstCapture, BurstPlan, JoinWords, JoinPlan, SendPlan, Receive, Link, Generate, Duplex, OobWrite, OobRead, Resend, Stripe, Gather, Damage, Inspect, Check, ListFile, AssembleText}
 use Rattle.command_words.specs.Given.{Given}
 use Rattle.command_words.specs.Arguments.{arguments_of}
 use Rattle.command_words.specs.Table.{Kind, rows, row_in}
@@ -36,7 +36,9 @@ request_for names.OobWrite a = OobWrite a.file
 request_for names.OobRead a = OobRead a.file
 request_for names.Resend a = Resend a.file
 request_for names.Stripe a = Stripe a.file
+request_for names.Gather a = Gather a.file
 request_for names.Damage a = Damage a.file
+request_for names.Inspect a = Inspect a.file
 request_for names.Check a = Check a.file
 request_for names.List a = ListFile a.file
 request_for names.Assemble a = AssembleText a.file
@@ -53,7 +55,9 @@ IsGivenTo names.OobWrite a = Unit {0}
 IsGivenTo names.OobRead a = Unit {0}
 IsGivenTo names.Resend a = Unit {0}
 IsGivenTo names.Stripe a = Unit {0}
+IsGivenTo names.Gather a = Unit {0}
 IsGivenTo names.Damage a = Unit {0}
+IsGivenTo names.Inspect a = Unit {0}
 IsGivenTo names.Check a = Unit {0}
 IsGivenTo names.List a = Unit {0}
 IsGivenTo names.Assemble a = Unit {0}

@@ -8,6 +8,8 @@ use check_commands::Check;
 use command_words::{Arguments, CommandLine, Name, arguments_of, line_of, read_line, row_in, rows};
 use damage_commands::Damage;
 use duplex_commands::DuplexFile;
+use gather_commands::Gather;
+use inspect_commands::Inspect;
 use join_commands::{JoinPlan, JoinWords};
 use lane_commands::Stripe;
 use link_commands::LinkPlan;
@@ -51,8 +53,12 @@ pub enum Request<'w> {
     Resend(WithFile<'w, ResendPlan>),
     /// The words file of a plan becomes lane files.
     Stripe(WithFile<'w, Stripe>),
+    /// The words of a plan's lanes are gathered in one order.
+    Gather(WithFile<'w, Gather>),
     /// The schedule of a plan is applied to its lanes.
     Damage(WithFile<'w, Damage>),
+    /// What each lane of a plan shows is told, and where.
+    Inspect(WithFile<'w, Inspect>),
     /// The words file of a plan is judged by the rules of a sender.
     Check(WithFile<'w, Check>),
     /// A words file or a lane file becomes its listing.
@@ -81,7 +87,9 @@ impl Command for Request<'_> {
             Request::OobRead(read) => read.obey(alloc, store),
             Request::Resend(resend) => resend.obey(alloc, store),
             Request::Stripe(stripe) => stripe.obey(alloc, store),
+            Request::Gather(gather) => gather.obey(alloc, store),
             Request::Damage(damage) => damage.obey(alloc, store),
+            Request::Inspect(inspect) => inspect.obey(alloc, store),
             Request::Check(check) => check.obey(alloc, store),
             Request::ListFile(list) => list.obey(alloc, store),
             Request::AssembleText(assemble) => assemble.obey(alloc, store),
@@ -135,7 +143,9 @@ fn request_for<'w>(command: Name, arguments: &Arguments<'w>) -> Request<'w>
         Name::OobRead => Request::OobRead(WithFile::new(arguments.file)),
         Name::Resend => Request::Resend(WithFile::new(arguments.file)),
         Name::Stripe => Request::Stripe(WithFile::new(arguments.file)),
+        Name::Gather => Request::Gather(WithFile::new(arguments.file)),
         Name::Damage => Request::Damage(WithFile::new(arguments.file)),
+        Name::Inspect => Request::Inspect(WithFile::new(arguments.file)),
         Name::Check => Request::Check(WithFile::new(arguments.file)),
         Name::List => Request::ListFile(WithFile::new(arguments.file)),
         Name::Assemble => Request::AssembleText(WithFile::new(arguments.file)),
