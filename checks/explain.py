@@ -135,6 +135,20 @@ MISTAKES = [
     ({"x.lane.0": "damaged.lane.1", "x.lane.1": "damaged.lane.0", "x.plan": LINK.replace("out,m", "out,x")}, "receive x.plan", [
         "x.lane.0: warning: it begins with the scrambler state of lane 1: are the files of lanes exchanged?",
         "x.lane.1: warning: it begins with the scrambler state of lane 0: are the files of lanes exchanged?"]),
+    ({}, "gather damaged.plan", []),
+    ({}, "gather x.plan", [
+        "x.lane.0: warning: it begins with the scrambler state of lane 1: are the files of lanes exchanged?",
+        "x.lane.1: warning: it begins with the scrambler state of lane 0: are the files of lanes exchanged?"]),
+    ({"x.lane.0": bytes(2000)}, "gather x.plan", [
+        "x.lane.0: warning: no lock: four Sync words, 32 words apart (metaframe,32), were not found",
+        "x: warning: a lane without a lock keeps all lanes from aligning: no word can come",
+        "x.lane.1: warning: it begins with the scrambler state of lane 0: are the files of lanes exchanged?"]),
+    ({"g.plan": LINK.replace("out,m", "out,g")}, "gather g.plan", ["g.lane.0: no such file; `interlaken link g.plan` writes it"]),
+    ({}, "inspect damaged.plan", []),
+    ({}, "inspect x.plan", [
+        "x.lane.0: warning: no lock: four Sync words, 32 words apart (metaframe,32), were not found",
+        "x.lane.1: warning: it begins with the scrambler state of lane 0: are the files of lanes exchanged?"]),
+    ({}, "inspect g.plan", ["g.lane.0: no such file; `interlaken link g.plan` writes it"]),
 ]
 
 

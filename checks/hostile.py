@@ -2,7 +2,7 @@
 
     python3 hostile.py PROGRAM [--write MODEL] [CASE..]
 
-`join`, `stripe` and `check` get words files, `receive` lanes, `damage` lanes and a schedule, `oobwrite` local rows, `oobread` samples, `resend` events, and `duplex` two ends. What
+`join`, `stripe` and `check` get words files, `receive`, `gather` and `inspect` lanes, `damage` lanes and a schedule, `oobwrite` local rows, `oobread` samples, `resend` events, and `duplex` two ends. What
 each case has to come to stands in hostile.txt: a line '== CASE -- WORDS', 'status N', the text, and a line 'NAME LENGTH SHA-256' for
 each file that is created. Of a text of more than 40 lines the line 'text LENGTH SHA-256' stands there, and of more than 40 files
 the line 'files LENGTH SHA-256' of their lines. --write makes that file anew by an independent model, MODEL, which is called as the
@@ -118,6 +118,9 @@ def on_one_lane(lane):
             damaged.invert(word, 10 + word % 50)
     cases["each third word damaged"] = damaged.bytes()
     found = {name: (["receive", "p.plan"], {"p.plan": ONE, "o.lane.0": data}) for name, data in cases.items()}
+    for name, data in cases.items():
+        found["%s, gathered" % name] = (["gather", "p.plan"], {"p.plan": ONE, "o.lane.0": data})
+        found["%s, inspected" % name] = (["inspect", "p.plan"], {"p.plan": ONE, "o.lane.0": data})
     found["no lane"] = (["receive", "p.plan"], {"p.plan": ONE})
     found["a smaller longest packet"] = (["receive", "p.plan"], {"p.plan": ONE + b"max_packet,100\n", "o.lane.0": lane})
     found["a channel that is not listed"] = (["receive", "p.plan"], {"p.plan": ONE.replace(b"channel,2,b.pcap\n", b""), "o.lane.0": lane})
@@ -138,7 +141,11 @@ def on_four_lanes(lanes):
         "a lane of zeros": lanes_with(lanes, lane3=bytes(len(lanes[3]))), "a longer lane": lanes_with(lanes, lane0=lanes[0] + lanes[0]),
         "one lane lost for a while": lanes_with(lanes, lane1=Bits(lanes[1]).put(67 * 150, 67 * 20, 0).bytes()),
     }
-    return {"%s of four" % name: (["receive", "p.plan"], {"p.plan": FOUR, **files}) for name, files in cases.items()}
+    found = {"%s of four" % name: (["receive", "p.plan"], {"p.plan": FOUR, **files}) for name, files in cases.items()}
+    for name, files in cases.items():
+        found["%s of four, gathered" % name] = (["gather", "p.plan"], {"p.plan": FOUR, **files})
+        found["%s of four, inspected" % name] = (["inspect", "p.plan"], {"p.plan": FOUR, **files})
+    return found
 
 
 def on_schedules(lane):

@@ -2,7 +2,7 @@
 
     python3 mutated.py PROGRAM [--count N] [--seed S] [--jobs J] [--model MODEL --sample N]
 
-The files that are mutated are the words files of `join`, `stripe` and `check`, the lanes of `receive` and `damage`, the samples of `oobread` and the events of `resend`,
+The files that are mutated are the words files of `join`, `stripe` and `check`, the lanes of `receive`, `gather`, `inspect` and `damage`, the samples of `oobread` and the events of `resend`,
 of the rows of rows/ that end well and have at most 20,000 bytes together. Each command has an equal part of the N runs, 400 by
 default. A run is right where it ends within 20 seconds with status 0, or 5 where the file can be one that is refused (every file is
 a lane), and nothing came on standard error. With --model, of the first --sample runs, or all, MODEL, which is called as the program
@@ -21,7 +21,7 @@ from runs import left_by
 from tally import Tally
 
 # The commands, and the statuses with which they may end.
-ANSWERS = {"join": (0, 5), "stripe": (0, 5), "check": (0, 5), "receive": (0,), "damage": (0,), "oobread": (0, 5), "resend": (0, 5)}
+ANSWERS = {"join": (0, 5), "stripe": (0, 5), "check": (0, 5), "receive": (0,), "gather": (0,), "inspect": (0,), "damage": (0,), "oobread": (0, 5), "resend": (0, 5)}
 COMMANDS = list(ANSWERS)
 SECONDS = 20
 LARGEST = 20000

@@ -9,10 +9,13 @@ a failing call has to end with status 0 and leave the files that are looked at:
     send    of eight lanes of 171,520 bytes: pieces of 65,536 bytes alone, then the rests in the order of creation, then the text
     stripe  of the words of this stream: the same
     damage  of these lanes, without a schedule: the same
+    gather  of a lane of 4,000 groups: pieces of the words and of the table alone, then the rests in the order of creation, then the text
     receive of a lane with a hundred packets: at the last read whose failing ends the run, the capture has a piece already
+    gather  of that of 4,000 groups: there the words and the table have a piece already
+    inspect of such a lane with a bad word in each: there the table has a piece already
     generate of a case: each of its files is written to its end before the next, pieces and then a rest
     duplex  of a hundred packets both ways: pieces of both captures alone, then the rests in the order of creation, then the text
-    check, oobwrite, oobread, resend of one large output each: pieces of it, a rest, and the text in one write
+    check, inspect, oobwrite, oobread, resend of one large output each: pieces of it, a rest, and the text in one write
 """
 
 import os
@@ -29,6 +32,7 @@ LANES = ["o.lane.%d" % lane for lane in range(8)]
 # Frames of 12 samples up to slot 150,000 and one more.
 STATUS = {"p.plan": b"lanes,1\nmetaframe,32\nchannel,1\nchannel,2\nlocal,p.local\noob,o.oob\nout,o\n", "p.local": b"150000,1,off\n"}
 RESENT = {"p.plan": b"lanes,1\nmetaframe,32\nwindow,255\nevents,p.events\nchannel,1,a.pcap\nout,o\n", "a.pcap": capture(["100x1514"]), "p.events": 9 * b"send,255\ntake,255\ntakeback,255\n"}
+IDLE = bytes.fromhex("0281FFFF0000188177")
 ENDS = {"d.csv": b"plan,p.plan\ndelay,1\nmark,100\nslots,30000\nback,1,a.pcap\nout,o\n", **RESENT}
 
 
@@ -66,17 +70,20 @@ class Checks:
             self.lengths(words, before, [name], at, [PIECE * (at - 1)], b"store fault: %s\n" % name.encode())
         self.lengths(words, before, [name], writes + 1, [length], b"")
 
-    def equal_outputs(self, words, before, names, length):
-        """The files of a command, all of one length, grow in pieces side by side; then come the rests in order, and then the text."""
-        pieces = len(names) * (length // PIECE)
+    def outputs(self, words, before, names, lengths):
+        """The files of a command, none of whole pieces, grow in pieces side by side; then come the rests in order, and then the text."""
+        pieces, whole = sum(length // PIECE for length in lengths), [length // PIECE * PIECE for length in lengths]
         for at in range(1, pieces + 1):
             got = self.failing(words, before, "write", at)
-            lengths = [len(got.files.get(name, b"")) for name in names]
-            self.holds("%s, write %d: pieces" % (words[0], at), all(n % PIECE == 0 for n in lengths) and sum(lengths) == PIECE * (at - 1))
+            found = [len(got.files.get(name, b"")) for name in names]
+            self.holds("%s, write %d: pieces" % (words[0], at), all(n % PIECE == 0 for n in found) and sum(found) == PIECE * (at - 1))
         for at, name in enumerate(names):
-            wanted = [length] * at + [length // PIECE * PIECE] * (len(names) - at)
-            self.lengths(words, before, names, pieces + 1 + at, wanted, b"store fault: %s\n" % name.encode())
-        self.lengths(words, before, names, pieces + 1 + len(names), [length] * len(names), b"")
+            self.lengths(words, before, names, pieces + 1 + at, lengths[:at] + whole[at:], b"store fault: %s\n" % name.encode())
+        self.lengths(words, before, names, pieces + 1 + len(names), lengths, b"")
+
+    def equal_outputs(self, words, before, names, length):
+        """The same of files that are all of one length."""
+        self.outputs(words, before, names, [length] * len(names))
 
     def burst(self):
         self.one_output(["burst", "a.pcap"], {"a.pcap": capture(["100x1514"])}, "a.pcap.words", 176427)
@@ -91,6 +98,28 @@ class Checks:
     def damage(self):
         before = self.files(["send", "p.plan"], SENT, LANES)
         self.equal_outputs(["damage", "p.plan"], before, [name.replace("o.", "o.damaged.") for name in LANES], 171520)
+
+    def gather(self):
+        # Idles in 4,000 groups of 28 words; the first group whose words are given is that of the declaring Sync.
+        before = self.files(["stripe", "p.plan"], {"p.plan": RECEIVED["p.plan"], "o.words": 4000 * 28 * IDLE}, ["o.lane.0"])
+        groups = range(3, 4000)
+        # A row has the words before its group, the bit of the group and a stroke; and the last is that of the break.
+        rows = ["%d,%d,0,-\n" % (28 * (group - 3), 67 * 32 * group) for group in groups] + ["%d,%d,0,end\n" % (28 * len(groups), 67 * 32 * 4000)]
+        lengths = [9 * 28 * len(groups), len("word,group,index,why\n") + sum(map(len, rows))]
+        self.outputs(["gather", "p.plan"], before, ["o.words", "o.places.csv"], lengths)
+        self.at_last_read(["gather", "p.plan"], before, ["o.words", "o.places.csv"])
+
+    def inspect(self):
+        # In each of 4,000 metaframes from the fifth on a header is wrong, of a word that carries payload, in turn by a one less and a one more.
+        before = self.files(["stripe", "p.plan"], {"p.plan": RECEIVED["p.plan"], "o.words": 4000 * 28 * IDLE}, ["o.lane.0"])
+        lane, words = bytearray(before["o.lane.0"]), [32 * metaframe + 8 for metaframe in range(4, 4000)]
+        for bit in (67 * word + 1 + at % 2 for at, word in enumerate(words)):
+            lane[bit // 8] ^= 128 >> bit % 8
+        rows = ["0,%d,lock\n" % (67 * 32 * 3)] + ["0,%d,bad\n0,%d,diag\n" % (67 * word, 67 * (word + 23)) for word in words]
+        length = len("lane,bit,event\n") + sum(map(len, rows))
+        before = {**before, "o.lane.0": bytes(lane)}
+        self.one_output(["inspect", "p.plan"], before, "o.events.csv", length)
+        self.at_last_read(["inspect", "p.plan"], before, ["o.events.csv"])
 
     def check(self):
         # Each word is bad, and its row has its number.
@@ -116,15 +145,20 @@ class Checks:
 
     def receive(self):
         before = self.files(["send", "p.plan"], RECEIVED, ["o.lane.0"])
-        right, last, at = self.files(["receive", "p.plan"], before, ["o.1.pcap"]), None, 1
-        got = self.failing(["receive", "p.plan"], before, "read", at)
+        self.at_last_read(["receive", "p.plan"], before, ["o.1.pcap"])
+
+    def at_last_read(self, words, before, names):
+        """At the last read whose failing ends the run these files have a piece already."""
+        right, last, at = self.files(words, before, names), None, 1
+        got = self.failing(words, before, "read", at)
         while got.status == 1 and at < 10000:
             last, at = got, at + 1
-            got = self.failing(["receive", "p.plan"], before, "read", at)
-        self.holds("receive, after its last read: it ends undisturbed", (got.status, got.files) == (0, right))
-        held = last.files.get("o.1.pcap", b"") if last else b""
-        self.holds("receive, the last read: a piece of the capture stands", PIECE <= len(held))
-        self.holds("receive, the last read: its lane is told", last and last.text == b"store fault: o.lane.0\n")
+            got = self.failing(words, before, "read", at)
+        self.holds("%s, after its last read: it ends undisturbed" % words[0], (got.status, got.files) == (0, right))
+        for name in names:
+            held = last.files.get(name, b"") if last else b""
+            self.holds("%s, the last read: a piece of %s stands" % (words[0], name), PIECE <= len(held) and right[name].startswith(held))
+        self.holds("%s, the last read: its lane is told" % words[0], last and last.text == b"store fault: o.lane.0\n")
 
     def generate(self):
         right = self.files(["generate", "7", "g"], {}, ["g.schedule", "g.plan"])
@@ -142,7 +176,7 @@ class Checks:
 def main():
     program, library = (os.path.abspath(name) for name in sys.argv[1:])
     checks = Checks(program, library)
-    for command in (checks.burst, checks.send, checks.stripe, checks.damage, checks.check, checks.receive, checks.generate, checks.duplex, checks.oobwrite, checks.oobread, checks.resend):
+    for command in (checks.burst, checks.send, checks.stripe, checks.damage, checks.gather, checks.inspect, checks.check, checks.receive, checks.generate, checks.duplex, checks.oobwrite, checks.oobread, checks.resend):
         command()
     return checks.tally.end()
 

@@ -15,7 +15,8 @@ import texts
 import words_file
 from accidents import Sent, accidents, missing
 from duplex import duplex_run
-from epochs import Epoch, epoch_of_words, epochs_of_lanes
+from epochs import Epoch, epoch_of_words, epochs_of_lanes, gathered
+from events import lane_events
 from fields import CONTROL, Word
 from files import CAPTURES_LIMIT, DONE, HELD, read_input, read_plan
 from link import Link, Shape
@@ -230,10 +231,34 @@ def receive(name: str) -> Answer:
     return Answer(DONE, made, received_lines(plan, front, outcome))
 
 
+def lane_lines(plan: Plan, found: Sequence[Sequence[locks.Lock]]) -> list[str]:
+    """A line for each lane, the report of its bits."""
+    return [texts.lane_line(lane, locks.report(part, plan.link)) for lane, part in enumerate(found)]
+
+
 def received_lines(plan: Plan, front: Front, outcome: Outcome) -> list[str]:
-    """A line for each lane, the report of its bits, before those of what came."""
-    reports = [texts.lane_line(lane, locks.report(found, plan.link)) for lane, found in enumerate(front.locks)]
-    return reports + outcome_lines(outcome, plan.settings)
+    """The lines of the lanes before those of what came."""
+    return lane_lines(plan, front.locks) + outcome_lines(outcome, plan.settings)
+
+
+def gather(name: str) -> Answer:
+    """The words that the lanes of a plan carry, and where they come from."""
+    plan = read_plan(name, plans.plan_of)
+    front = front_of(lanes_of_plan(plan, files.LANE_LIMIT), plan.link)
+    words, rows = gathered(front.epochs, plan.link)
+    made = [(plan.out + ".words", words_file.file_of_words(words)), (plan.out + ".places.csv", texts.places_table(rows))]
+    counts = [texts.count_line("words", len(words)), texts.count_line("epochs", len(front.epochs))]
+    return Answer(DONE, made, lane_lines(plan, front.locks) + counts)
+
+
+def inspect(name: str) -> Answer:
+    """What each lane of a plan does, and at which bit."""
+    plan = read_plan(name, plans.plan_of)
+    bits = [lanes.bits_of_file(data) for data in lanes_of_plan(plan, files.LANE_LIMIT)]
+    found = [locks.searches(part, plan.link) for part in bits]
+    shown = [lane_events(part, own, plan.link) for part, own in zip(bits, found)]
+    lines = [*lane_lines(plan, found), texts.count_line("events", sum(map(len, shown)))]
+    return Answer(DONE, [(plan.out + ".events.csv", texts.events_table(shown))], lines)
 
 
 def damages_of_plan(plan: Plan) -> list[lanes.Damage]:
@@ -347,6 +372,6 @@ def assemble(name: str) -> Answer:
 
 COMMANDS = {
     "burst": burst, "join": join, "send": send, "receive": receive, "link": link, "generate": generate, "duplex": duplex,
-    "oobwrite": oobwrite, "oobread": oobread, "resend": resend, "stripe": stripe, "damage": damage, "check": check, "list": list_file,
-    "assemble": assemble,
+    "oobwrite": oobwrite, "oobread": oobread, "resend": resend, "stripe": stripe, "gather": gather, "inspect": inspect,
+    "damage": damage, "check": check, "list": list_file, "assemble": assemble,
 }

@@ -4,9 +4,12 @@ received": Epoch."""
 from itertools import product
 from typing import Iterator, NamedTuple, Sequence
 
-from fields import Word
+from fields import BAD, Word
 from link import CODE_BITS, Link
 from locks import Lock
+
+
+NO_WORD = Word(BAD, 0)
 
 
 class Place(NamedTuple):
@@ -27,6 +30,15 @@ class Epoch(NamedTuple):
 def epoch_of_words(words: Sequence[Word]) -> Epoch:
     """The words of a words file are one epoch, at the places 0, 1 and so on of group 0, which ends for the end."""
     return Epoch([Place(0, index) for index in range(len(words))], list(words), "end")
+
+
+class GroupRow(NamedTuple):
+    """A row of the table of places: the words of the gathered file before it, a group, and, for the break that ends an epoch, the
+    index before which it stands and its cause; of a group itself the index is 0, without a cause."""
+    words: int
+    group: int
+    index: int
+    why: str | None
 
 
 class Sync(NamedTuple):
@@ -79,6 +91,27 @@ def epoch_from(group: tuple[Sync, ...], lanes: Sequence[Sequence[Lock]], link: L
         for sync in syncs:
             if not sync.lock.covers(sync.bit):
                 return epoch._replace(ends_for=why_absent(sync.lock))
+
+
+def break_place(epoch: Epoch, link: Link) -> Place:
+    """The break of an epoch of lanes stands at the place of the first word that is not there: where a group is whole, and a Sync after
+    it is not there, that is index 0 of the group a metaframe on."""
+    group, index = epoch.groups[-1][0], len(epoch.words) - link.group * (len(epoch.groups) - 1)
+    return Place(group, index) if index < link.group else Place(group + link.period, 0)
+
+
+def gathered(epochs: Sequence[Epoch], link: Link) -> tuple[list[Word], list[GroupRow]]:
+    """The received words of the epochs in order, with one Bad word for each break that another epoch follows; a bad word has a
+    payload of zeros. And a row for each group, with the number of words before its own, and then one for each break."""
+    words: list[Word] = []
+    rows: list[GroupRow] = []
+    for number, epoch in enumerate(epochs):
+        if number > 0:
+            words.append(NO_WORD)
+        rows += [GroupRow(len(words) + link.group * place, group[0], 0, None) for place, group in enumerate(epoch.groups)]
+        words += [NO_WORD if word.kind == BAD else word for word in epoch.words]
+        rows.append(GroupRow(len(words), *break_place(epoch, link), epoch.ends_for))
+    return words, rows
 
 
 def why_absent(lock: Lock) -> str:

@@ -25,12 +25,13 @@ class Cause(Enum):
 
 class Lock(NamedTuple):
     """A lock of a lane: the bit of its declaring Sync, if one declared it; the words that it covers, from there on and
-    up to the last before the losing word; the states of the key at its Scrambler State words; and why it was lost, if
-    it was."""
+    up to the last before the losing word; the states of the key at its Scrambler State words; and, if it was lost, why
+    and at which bit the losing word stands."""
     declared: int | None
     words: list[Word]
     states: list[int]
     cause: Cause | None
+    losing: int | None
 
     def covers(self, bit: int) -> bool:
         """Whether a word of the lock stands at this bit."""
@@ -75,7 +76,8 @@ def follow(bits: str, first: int, link: Link) -> tuple[Lock, int]:
         number += 1
     declared = None if watch.declared is None else first + CODE_BITS * watch.declared
     covered = watch.words if watch.cause is None else watch.words[:-1]
-    return Lock(declared, covered, watch.states, watch.cause), first + CODE_BITS * number
+    after = first + CODE_BITS * number
+    return Lock(declared, covered, watch.states, watch.cause, None if watch.cause is None else after - CODE_BITS), after
 
 
 class Watch:

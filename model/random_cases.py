@@ -344,6 +344,49 @@ def receive_case(r: Random) -> Case:
     return Case(["receive", "p.plan"], receive_files(r, d, bits), d.wide)
 
 
+def lanes_case(command: str) -> Callable[[Random], Case]:
+    """A command on lanes that come as those of `receive` and `link` do, on lanes that repeat themselves, on lanes of other bytes, and on
+    lanes some of which are not there."""
+    def make(r: Random) -> Case:
+        case = r.choice(LANES)(r)
+        found = dict(case.files)
+        names = sorted(name for name in found if ".lane." in name)
+        if names and r.randrange(6) == 0:
+            found[r.choice(names)] = r.choice([b"", b"\x78", r.randbytes(r.choice([9, 600, 3_000])), bytes(2_000)])
+        if r.randrange(8) == 0:
+            # A file of the name of an output lies there.
+            found[r.choice(["o.words", "o.places.csv", "o.events.csv"])] = b"old"
+        if r.randrange(30) == 0:
+            del found[r.choice(sorted(found))]
+        return Case([command, "p.plan"], found, case.wide)
+    return make
+
+
+def linked_case(r: Random) -> Case:
+    """The lanes of a stream as a link with drawn damage leaves them."""
+    d = Drawn(r)
+    words = payload_stream(d.source()).words
+    bits = struck(r, d, [lanes.lane_bits(words, d.plan.link, lane) for lane in range(d.plan.link.lanes)])
+    return Case(["receive", "p.plan"], receive_files(r, d, bits), d.wide)
+
+
+def begun_again_case(r: Random) -> Case:
+    """The lanes of a stream that begin again once or twice, all of them or some, with a gap between or none, so that locks are lost
+    and declared anew."""
+    d = Drawn(r)
+    words = payload_stream(d.source()).words
+    sent = [lanes.lane_bits(words, d.plan.link, lane) for lane in range(d.plan.link.lanes)]
+    bits = struck(r, d, sent) if r.randrange(2) else list(sent)
+    for _ in range(r.choice([1, 1, 2])):
+        gap = r.choice(["", "", "1", "0" * 67, "0" * 67 * 20, "01" * 600])
+        some = range(len(bits)) if r.randrange(3) else r.sample(range(len(bits)), r.randint(1, len(bits)))
+        for lane in some:
+            bits[lane] += gap + sent[lane][r.choice([0, 0, 0, 1, d.plan.link.period]):]
+    if r.randrange(3) == 0:
+        r.choice(SPOILS)(r, bits, r.randrange(len(bits)), d.plan.link)
+    return Case(["receive", "p.plan"], receive_files(r, d, bits), d.wide)
+
+
 def receive_files(r: Random, d: Drawn, bits: Sequence[str]) -> dict[str, bytes]:
     """A plan and its lanes; sometimes a lane is not there."""
     files = {"o.lane.%d" % lane: lanes.file_of_bits(part) for lane, part in enumerate(bits)}
@@ -355,7 +398,11 @@ def receive_files(r: Random, d: Drawn, bits: Sequence[str]) -> dict[str, bytes]:
 
 def struck(r: Random, d: Drawn, bits: Sequence[str]) -> list[str]:
     """Lanes that are damaged as by a schedule."""
-    rows = drawn.schedule_rows(r, d.plan, max(len(bits[0]), CODE_BITS))
+    return struck_by(drawn.schedule_rows(r, d.plan, max(len(bits[0]), CODE_BITS)), bits)
+
+
+def struck_by(rows: Sequence[Sequence], bits: Sequence[str]) -> list[str]:
+    """Lanes that are damaged by these rows of a schedule."""
     found = []
     for lane, part in enumerate(bits):
         own = [row for row in rows if row[1] == lane]
@@ -518,10 +565,22 @@ def forged_lock(r: Random, stream: Sequence[Word], link: Link) -> list[list]:
 def forged_diagnostic(r: Random, stream: Sequence[Word], link: Link) -> list[list]:
     """A payload of a metaframe is another, often that of the Diagnostic word, which has the right CRC32 again."""
     lane, turn = r.randrange(link.lanes), r.randrange(4, len(stream) // link.group)
+    place = r.choice([2, link.metaframe // 2, -1, -1])
+    return forged_metaframe(stream, link, lane, turn, place, 1 << r.choice([63, 58, 40, 33]))
+
+
+def forged_health(r: Random, stream: Sequence[Word], link: Link) -> list[list]:
+    """A Diagnostic word tells that the lane or the interface is not well, and has the right CRC32."""
+    lane, turn = r.randrange(link.lanes), r.randrange(4, len(stream) // link.group)
+    return forged_metaframe(stream, link, lane, turn, -1, r.choice([1, 2, 3]) << 32)
+
+
+def forged_metaframe(stream: Sequence[Word], link: Link, lane: int, turn: int, place: int, bits: int) -> list[list]:
+    """Bits of the payload at a place of a metaframe are inverted, and its Diagnostic word has the right CRC32 again."""
     payload = lanes.striped(stream, link.lanes, lane)[turn * link.rows:(turn + 1) * link.rows]
     sent = [word.number for word in lanes.framed(payload, link, 0)]
     wanted = list(sent)
-    wanted[r.choice([2, link.metaframe // 2, -1, -1])] ^= 1 << r.choice([63, 58, 40, 33])
+    wanted[place] ^= bits
     wanted[-1] += lanes.metaframe_crc(wanted) - fields.bits(wanted[-1], 31, 0)
     rows = []
     for position, (old, new) in enumerate(zip(sent, wanted)):
@@ -536,6 +595,23 @@ def apart(r: Random, stream: Sequence[Word], link: Link) -> list[list]:
 
 
 FORGERIES = (forged_words, forged_words, forged_words, forged_lock, forged_lock, forged_diagnostic, apart)
+
+
+def forged_case(r: Random) -> Case:
+    """The lanes of a stream that some damage makes others of which pass: other words, locks where none were, and Diagnostic words that
+    are right and tell that something is not well."""
+    d = Drawn(r)
+    words, link = payload_stream(d.source()).words, d.plan.link
+    rows: list[list] = []
+    for _ in range(r.choice([1, 2, 3])):
+        rows += r.choice([forged_words, forged_lock, forged_diagnostic, forged_health, forged_health])(r, words, link)
+    bits = struck_by(rows, [lanes.lane_bits(words, link, lane) for lane in range(link.lanes)])
+    return Case(["receive", "p.plan"], receive_files(r, d, bits), d.wide)
+
+
+LANES = (
+    receive_case, receive_case, regular_case, linked_case, linked_case, begun_again_case, begun_again_case, forged_case, forged_case,
+)
 
 
 # ---- listings
@@ -660,13 +736,14 @@ KINDS: dict[str, Callable[[Random], Case]] = {
     "capture": capture_case, "burst": plan_case("burst"), "join": join_case, "send": plan_case("send"), "receive": receive_case,
     "regular": regular_case, "link": link_case, "mimic": mimic_case, "channels": channels_case, "words": words_case,
     "generate": generate_case, "list": list_case, "assemble": assemble_case, "duplex": duplex_case, "oobwrite": oobwrite_case,
-    "oobread": oobread_case, "resend": resend_case, "stripe": stripe_case, "damage": damage_case, "check": check_case,
+    "oobread": oobread_case, "resend": resend_case, "stripe": stripe_case, "gather": lanes_case("gather"),
+    "inspect": lanes_case("inspect"), "damage": damage_case, "check": check_case,
 }
 # Kinds that have large cases, and kinds that have wide plans.
 LARGE = ("generate", "channels")
 WIDE = (
     "burst", "join", "send", "receive", "regular", "link", "mimic", "channels", "words", "duplex", "oobwrite", "oobread", "resend",
-    "stripe", "damage", "check",
+    "stripe", "gather", "inspect", "damage", "check",
 )
 
 

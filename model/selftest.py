@@ -12,6 +12,7 @@ import checksum
 import csv_rows
 import duplex
 import epochs
+import events
 import fields
 import flow
 import inputs
@@ -305,6 +306,51 @@ class ShownByLanes(unittest.TestCase):
         self.assertEqual((lock.declared, lock.cause), (None, locks.Cause.UNFRAMED))
         self.assertEqual(locks.report([lock], LINK).unframed, 1)
 
+    def events_of(self, damage):
+        """The events of the lane with this damage, each with the number of its word from bit 0."""
+        bits = lanes.received(self.bits, damage)
+        return [(event.bit // 67, event.name) for event in events.lane_events(bits, locks.searches(bits, LINK), LINK)]
+
+    def test_events_of_a_lane(self):
+        words = len(self.words) // 28 * 32
+        self.assertEqual(self.events_of(lanes.Damage()), [(96, "lock")])
+        flips = (67 * 128 + 9, 67 * 129 + 9, 67 * 130 + 9, 67 * 140 + 1, 67 * 159 + 40)
+        self.assertEqual(self.events_of(lanes.Damage(0, flips)), [(96, "lock"), (128, "sync"), (129, "state"), (130, "skip"), (140, "bad"), (159, "diag")])
+        framing = tuple(67 * at + 1 for at in (128, 129, 130, 159))
+        told = [(at, name) for at, names in ((128, "bad sync"), (129, "bad state"), (130, "bad"), (159, "bad diag")) for name in names.split()]
+        self.assertEqual(self.events_of(lanes.Damage(0, framing)), [(96, "lock"), *told])
+        # A Data word in place of a Skip word, and one in place of a Sync.
+        both = (67 * 130 + 1, 67 * 130 + 2, 67 * 128 + 1, 67 * 128 + 2)
+        self.assertEqual(self.events_of(lanes.Damage(0, both)), [(96, "lock"), (128, "sync"), (130, "skip")])
+        self.assertGreater(words, 192)
+
+    def test_events_of_lost_locks(self):
+        headers = tuple(67 * (128 + turn) + 1 for turn in range(16))
+        self.assertEqual(self.events_of(lanes.Damage(0, headers))[-3:], [(142, "bad"), (143, "lost-headers"), (256, "lock")])
+        self.assertEqual(self.events_of(lanes.Damage(0, (67 * 97 + 3,)))[:2], [(96, "lock"), (97, "lost-state")])
+        syncs = tuple(67 * 32 * turn + 20 for turn in (4, 5, 6, 7))
+        self.assertEqual([event for event in self.events_of(lanes.Damage(0, syncs)) if event[1] != "diag"][1:5],
+                         [(128, "sync"), (160, "sync"), (192, "sync"), (224, "lost-sync")])
+        # Wrong headers in the first block that lose the word lock, before a lock is declared; the next word lock declares one.
+        before = self.events_of(lanes.Damage(0, tuple(67 * (64 + turn) + 1 for turn in range(16))))
+        self.assertEqual(before[:1], [(79, "unframed")])
+
+    def test_health(self):
+        wanted = [word.number for word in lanes.framed(self.words[112:140], LINK, 0)]
+        sent = wanted[-1]
+        wanted[-1] ^= 1 << 33
+        other = wanted[-1] - fields.bits(wanted[-1], 31, 0) + lanes.metaframe_crc(wanted)
+        flips = tuple(67 * 159 + place for place, (a, b) in enumerate(zip(*(lanes.code(Word(CONTROL, n), False) for n in (sent, other)))) if a != b)
+        self.assertIn((159, "health"), self.events_of(lanes.Damage(0, flips)))
+        self.assertNotIn((159, "diag"), self.events_of(lanes.Damage(0, flips)))
+    def test_balance(self):
+        def unbalanced(*ones):
+            bits = "0" * 5 + "".join("1" * count + "0" * (67 - count) for count in ones)
+            return events.unbalanced_word(bits, locks.Lock(5, [Word(DATA, 0)] * len(ones), [], None, None))
+        # 65 ones are 63 more than zeros, and 67 are 67 more: together they are over 129 by one.
+        self.assertEqual([unbalanced(65, 67, 67), unbalanced(65, 66, 67), unbalanced(2, 0, 67), unbalanced(2, 1, 67)], [1, 2, 1, None])
+        self.assertEqual([unbalanced(66, 1, 66, 1, 66, 1), unbalanced(67, 0, 67, 67, 67)], [None, 3])
+
     def test_groups_and_epochs(self):
         two = LINK._replace(lanes=2)
         words = words_of((1, bytes(300)), shape=SHAPE._replace(group=56))
@@ -320,6 +366,23 @@ class ShownByLanes(unittest.TestCase):
         epoch = epochs.epochs_of_lanes([found], LINK)[0]
         # Fifteen dark words are covered, of which the first three are framing.
         self.assertEqual((epoch.ends_for, len(epoch.words)), ("lost", 28 + 12))
+
+    def test_gathered(self):
+        count, period = len(self.words) // 28, 67 * 32
+        words, rows = epochs.gathered(epochs.epochs_of_lanes([self.found(lanes.Damage())], LINK), LINK)
+        self.assertEqual(words, self.words[84:])
+        self.assertEqual(rows, [*((28 * turn, 6432 + period * turn, 0, None) for turn in range(count - 3)), (len(words), period * count, 0, "end")])
+        # The lane comes twice: in the second the third wrong state word loses the lock, and three metaframes later another is declared.
+        words, rows = epochs.gathered(epochs.epochs_of_lanes([locks.searches(2 * self.bits, LINK)], LINK), LINK)
+        lost = 28 * (count - 3 + 2)
+        self.assertEqual([row for row in rows if row.why], [(lost, period * (count + 2), 0, "lost"), (len(words), 2 * period * count, 0, "end")])
+        self.assertEqual((words[lost], rows[rows.index((lost, period * (count + 2), 0, "lost")) + 1]), (epochs.NO_WORD, (lost + 1, period * (count + 6), 0, None)))
+        self.assertEqual(words[lost + 1:], self.words[28 * 6:])
+
+    def test_a_group_without_words_has_its_row(self):
+        one = epochs.Epoch([], [], "lost", [(6432,)])
+        self.assertEqual(epochs.gathered([one, one], LINK), ([epochs.NO_WORD], [(0, 6432, 0, None), (0, 6432, 0, "lost"), (1, 6432, 0, None), (1, 6432, 0, "lost")]))
+        self.assertEqual(texts.places_table(epochs.gathered([one], LINK)[1]), b"word,group,index,why\n0,6432,0,-\n0,6432,0,lost\n")
 
     def test_accidents_and_missing_packets(self):
         sent = accidents.Sent(self.words, LINK, [0])
@@ -496,6 +559,37 @@ class Laws(unittest.TestCase):
             tried += bool(unmet)
         self.assertGreater(tried, 9)
 
+    def test_gathered_words_deliver_the_same(self):
+        """`join` of what `gather` writes delivers what `receive` delivers."""
+        several = 0
+        for seed in range(30):
+            d = random_inputs.Drawn(Random(seed))
+            words, link = stream.payload_stream(d.source()).words, d.plan.link
+            sent = [lanes.lane_bits(words, link, lane) for lane in range(link.lanes)]
+            rows = random_inputs.schedule_rows(d.r, d.plan, len(sent[0]))
+            damages = inputs.schedule(random_inputs.spelled(d.r, rows), link.lanes)
+            shown = epochs.epochs_of_lanes([locks.searches(lanes.received(2 * part, damage), link) for part, damage in zip(sent, damages)], link)
+            gathered = epochs.epoch_of_words(epochs.gathered(shown, link)[0])
+            came = [reassembly.reassembled(parts, d.plan.settings).packets for parts in (shown, [gathered])]
+            self.assertEqual(*([(packet.channel, packet.data) for packet in packets] for packets in came))
+            several += len(shown) > 1 and bool(came[0])
+        self.assertGreater(several, 9)
+
+    def test_events_are_those_that_a_lane_counts(self):
+        """The rows of a lane are as many as its line counts."""
+        for seed in range(30):
+            d = random_inputs.Drawn(Random(seed))
+            words, link = stream.payload_stream(d.source()).words, d.plan.link
+            sent = [lanes.lane_bits(words, link, lane) for lane in range(link.lanes)]
+            for part, damage in zip(sent, inputs.schedule(random_inputs.spelled(d.r, random_inputs.schedule_rows(d.r, d.plan, len(sent[0]))), link.lanes)):
+                bits = lanes.received(2 * part, damage)
+                found = locks.searches(bits, link)
+                counts = Counter(event.name for event in events.lane_events(bits, found, link))
+                report = locks.report(found, link)
+                lost = counts["lost-headers"] + counts["lost-sync"] + counts["lost-state"]
+                told = [report.locks, report.lost, report.unframed, report.bad, report.sync, report.state, report.diag]
+                self.assertEqual(told, [counts["lock"], lost, *(counts[name] for name in ("unframed", "bad", "sync", "state", "diag"))])
+
     def test_peaks_are_bounded(self):
         """No peak of a channel with a calendar entry is above mark + K (B + 1) + B + 2 delay + 2."""
         for seed in range(12):
@@ -595,6 +689,32 @@ class Runs(unittest.TestCase):
         no_sop, channel_7 = fields.sealed([], own & ~(1 << 61)), fields.sealed([], own | 7 << 32)
         self.assertEqual(judged(at, fields.Word(fields.CONTROL, no_sop)), (["faults 1", "rule open=1"], [b"%d,open,0" % at]))
         self.assertEqual(judged(at, fields.Word(fields.CONTROL, channel_7)), (["faults 1", "rule channel=1"], [b"%d,channel,7" % at]))
+
+    def test_gather(self):
+        self.write(p_plan=b"lanes,2\nmetaframe,32\nwarmup,4\nchannel,1,a.pcap\nout,o\n", a_pcap=pcap.written([bytes(60)], 1))
+        interlaken.run(["burst", "p.plan"])
+        words = self.read("o.words")
+        interlaken.run(["stripe", "p.plan"])
+        status, text = interlaken.run(["gather", "p.plan"])
+        self.assertEqual((status, text.splitlines()[2:]), (0, ["words %d" % (len(words) // 9 - 168), "epochs 1"]))
+        self.assertEqual(self.read("o.words"), words[9 * 168:])
+        self.assertEqual(self.read("o.places.csv").splitlines()[:3], [b"word,group,index,why", b"0,6432,0,-", b"56,8576,0,-"])
+        self.write(o_lane_0=b"\xff" * 1000)
+        status, text = interlaken.run(["gather", "p.plan"])
+        self.assertEqual((status, text.splitlines()[2:]), (0, ["words 0", "epochs 0"]))
+        self.assertEqual((self.read("o.words"), self.read("o.places.csv")), (b"", b"word,group,index,why\n"))
+
+    def test_inspect(self):
+        self.write(p_plan=b"lanes,2\nmetaframe,32\nwarmup,4\nchannel,1,a.pcap\nout,o\nschedule,s\n", a_pcap=pcap.written([bytes(60)], 1),
+                   s=b"skew,1,3\nflip,1,%d\n" % (67 * 140 + 1))
+        interlaken.run(["link", "p.plan"])
+        status, text = interlaken.run(["inspect", "p.plan"])
+        self.assertEqual((status, text.splitlines()), (0, [
+            "lane 0 locks=1 first=6432 lost=0 unframed=0 bad=0 sync=0 state=0 diag=0",
+            "lane 1 locks=1 first=6435 lost=0 unframed=0 bad=1 sync=0 state=0 diag=1", "events 4"]))
+        self.assertEqual(self.read("o.events.csv").splitlines(), [b"lane,bit,event", b"0,6432,lock", b"1,6435,lock", b"1,9383,bad", b"1,10656,diag"])
+        os.remove("o.lane.1")
+        self.assertEqual(interlaken.run(["inspect", "p.plan"]), (5, "input refused: o.lane.1: no file\n"))
 
     def test_damage(self):
         self.write(p_plan=b"lanes,2\nmetaframe,32\nwarmup,4\nchannel,1\nout,o\nschedule,s\n", o_lane_0=b"\x80\x01", o_lane_1=b"",

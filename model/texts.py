@@ -4,7 +4,8 @@ from collections import Counter
 from typing import Sequence
 
 from accidents import Accidents, Missing
-from epochs import Place
+from epochs import GroupRow, Place
+from events import Event
 from locks import Report
 from reassembly import DROPS, Packet
 from resend import Counts
@@ -14,6 +15,8 @@ from spans import Span
 USAGE = "usage: interlaken COMMAND FILE, or interlaken generate NUMBER PREFIX"
 SPANS_HEADING = "after_group,after_index,before_group,before_index,why"
 FAULTS_HEADING = "word,rule,channel"
+PLACES_HEADING = "word,group,index,why"
+EVENTS_HEADING = "lane,bit,event"
 
 
 def sent_line(channel: int, packets: Sequence[bytes], left: int) -> str:
@@ -85,7 +88,7 @@ def resend_line(counts: Counts) -> str:
 
 
 def count_line(name: str, count: int) -> str:
-    """A count of `samples`, `rows`, `lines` or `bytes`."""
+    """A count of `samples`, `rows`, `lines`, `bytes`, `words`, `epochs` or `events`."""
     return "%s %d" % (name, count)
 
 
@@ -99,6 +102,18 @@ def faults_table(faults: Sequence[Fault]) -> bytes:
     """A row for each fault: the number of its word, its rule, and its channel or a stroke."""
     rows = ["%d,%s,%s" % (fault.word, fault.rule, "-" if fault.channel is None else fault.channel) for fault in faults]
     return "".join(row + "\n" for row in [FAULTS_HEADING, *rows]).encode()
+
+
+def places_table(rows: Sequence[GroupRow]) -> bytes:
+    """A row for each group, with a stroke, and one for each break, with its cause."""
+    lines = ["%d,%d,%d,%s" % (row.words, row.group, row.index, row.why or "-") for row in rows]
+    return "".join(line + "\n" for line in [PLACES_HEADING, *lines]).encode()
+
+
+def events_table(shown: Sequence[Sequence[Event]]) -> bytes:
+    """A row for each event of each lane, by lane."""
+    rows = ["%d,%d,%s" % (lane, event.bit, event.name) for lane, events in enumerate(shown) for event in events]
+    return "".join(row + "\n" for row in [EVENTS_HEADING, *rows]).encode()
 
 
 def columns(place: Place | None) -> tuple[str, str]:

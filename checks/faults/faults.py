@@ -33,7 +33,7 @@ from tally import Tally
 CASES = {
     "burst": ["burst", "one.pcap"], "burst with a plan": ["burst", "p.plan"], "join": ["join", "one.pcap.words"],
     "join with a plan": ["join", "p.plan"], "send": ["send", "p.plan"], "receive": ["receive", "p.plan"],
-    "stripe": ["stripe", "p.plan"], "check": ["check", "p.plan"], "damage": ["damage", "s.plan"],
+    "stripe": ["stripe", "p.plan"], "check": ["check", "p.plan"], "damage": ["damage", "s.plan"], "gather": ["gather", "p.plan"], "inspect": ["inspect", "p.plan"],
     "link": ["link", "l.plan"], "list": ["list", "one.pcap.words"],
     "list of a lane": ["list", "p.lane.0"], "assemble": ["assemble", "one.txt"], "duplex": ["duplex", "d.csv"],
     "oobwrite": ["oobwrite", "p.plan"], "oobread": ["oobread", "r.plan"], "resend": ["resend", "r.plan"],

@@ -167,6 +167,8 @@ COMMANDS = {
     "join": Command("FILE", "a words file, or a plan where FILE ends in .plan", Inputs.take_join),
     "send": Command("FILE", "a plan", Inputs.take_plan_and_sources),
     "receive": Command("FILE", "a plan", Inputs.take_receive),
+    "gather": Command("FILE", "a plan", Inputs.take_receive),
+    "inspect": Command("FILE", "a plan", Inputs.take_receive),
     "link": Command("FILE", "a plan", Inputs.take_link),
     "generate": Command("NUMBER PREFIX", "a number below 2^64 and the prefix of the files that it writes", Inputs.take_nothing),
     "duplex": Command("FILE", "the settings of a run of two ends", Inputs.take_duplex),

@@ -88,7 +88,7 @@ def after(inputs, text):
         names = ["%s.lane.%d" % (inputs.plan.out, lane) for lane in range(inputs.plan.lanes)]
         lines += beyond_lanes(inputs.schedule, [8 * inputs.folder.size(name) for name in names])
     lines += held(inputs, text) + locks(inputs, text) + accidents(text)
-    return lines + (exchanged(inputs) if inputs.command == "receive" and inputs.plan else [])
+    return lines + (exchanged(inputs) if inputs.command in ("receive", "gather", "inspect") and inputs.plan else [])
 
 
 def beyond_lanes(schedule, lanes):
@@ -154,15 +154,18 @@ def held(inputs, text):
 
 
 def locks(inputs, text):
-    """Lanes that declared no lock, and locks that lie too far apart for a group."""
+    """Lanes that declared no lock, and locks that lie too far apart for a group, where the command forms some."""
     reports = re.findall(r"^lane (\d+) locks=(\d+) first=(\S+)", text, re.MULTILINE)
     if not reports or not inputs.plan:
         return []
     plan = inputs.plan
     told = "%s.lane.%s: warning: no lock: four Sync words, %d words apart (metaframe,%d), were not found"
     lines = [told % (plan.out, lane, plan.metaframe, plan.metaframe) for lane, count, _ in reports if count == "0"]
+    if inputs.command == "inspect":
+        return some(lines, "lanes have no lock")
     if lines:
-        return some(lines, "lanes have no lock") + ["%s: warning: a lane without a lock keeps all lanes from aligning: no packet can come" % plan.out]
+        kept = "%s: warning: a lane without a lock keeps all lanes from aligning: no %s can come"
+        return some(lines, "lanes have no lock") + [kept % (plan.out, "word" if inputs.command == "gather" else "packet")]
     if any(count != "1" for _, count, _ in reports):
         return []  # a later lock may align
     apart, room = least_spread([int(first) for _, _, first in reports], plan.period), CODE * plan.deskew
