@@ -1,19 +1,20 @@
--- `gather` after `send` gives the words from the fourth group on.
-use Rattle.std.proofs.Common.{◌≡◌, ◌*◌, ◌<◌, ◌≤◌, ℕ, List, [], ◌∷◌, cond, drop, get_or, length, map, sym, ap, ◌∙◌, subst, Some, Result, Ok, MatchResult}
-use Rattle.lk_base.specs.Checksum.{bits_of_bytes}
-use Rattle.lk_base.specs.Link.{Settings, group_of}
+-- `gather` after `send` gives the words from the fourth group on, as it does after any command that wrote the lanes of a stream.
+use Rattle.std.proofs.Common.{◌≡◌, ◌%◌, ℕ, List, [], ◌∷◌, cond, get_or, length, map, sym, ap, ◌∙◌, subst, Some, Result, Ok, MatchResult}
+use Rattle.std.proofs.lemmas.Option.{slice_get-get_or}
+use Rattle.lk_base.specs.Link.{IsLink, group_of}
 use Rattle.lk_base.specs.Words.{as_sent}
 use Rattle.lk_base.specs.declared.word.RxWord.{RxWord}
 use Rattle.lk_base.specs.declared.word.Word.{Word}
 use Rattle.lk_outside.specs.Files.{Files}
 use Rattle.lane_model.specs.LaneBits.{IsFileOf, stream_lane_bits}
-use Rattle.receive_model.specs.Positions.{Epoch}
-use Rattle.link_laws.specs.CleanLaw.{HaveOneEpoch}
-use Rattle.lane_words.specs.Gathered.{gathered_words, places, words_of_epochs}
-use Rattle.lane_words.specs.GatheredLaws.{WordsAreOfEpochs}
+use Rattle.stream_model.specs.BurstStream.{Source, IsBurstStream}
+use Rattle.tx_end.proofs.Shapes.{whole_groups}
+use Rattle.lane_words.specs.Gathered.{gathered_words, places}
+use Rattle.lane_words.specs.GatheredLaws.{CleanLanesGiveStream}
+use Rattle.lane_words.specs.Items.{AreAllItems}
 use Rattle.lane_words.specs.WordsFile.{rx_words_file}
 use Rattle.link_plan.specs.Plan.{PlanValue}
-use Rattle.plan_inputs.specs.Inputs.{Reading, plan_in}
+use Rattle.plan_inputs.specs.Inputs.{plan_in}
 use Rattle.run_stops.specs.Reading.{Refusal}
 use Rattle.run_stops.proofs.Readings.{behind_ok}
 use Rattle.run_shell.specs.Names.{words_name}
@@ -22,15 +23,14 @@ use Rattle.run_shell.specs.Outputs.{outs}
 use Rattle.run_shell.specs.Work.{refused_outcome}
 use Rattle.run_shell.proofs.Fills.{same}
 use Rattle.stream_commands.specs.Outputs.{AreLaneOutputs}
-use Rattle.stream_commands.specs.Plan.{IsOfPlan}
 use Rattle.lane_receipts.specs.LaneReports.{names_of_lanes}
 use Rattle.receive_commands.specs.Receive.{PlanLanes, lanes_in, plan_lanes_in, with_lanes}
-use Rattle.gather_commands.specs.Gather.{IsGathered}
+use Rattle.gather_commands.specs.Gather.{IsGathered, gather_meaning}
 use Rattle.word_gatherer.specs.Table.{places_name, places_table}
-use Rattle.gathered_laws.specs.AfterSend.{GatherAfterSend, later_words}
-use Rattle.gathered_laws.proofs.WholeLanes.{items_epochs}
+use Rattle.gathered_laws.specs.AfterSend.{GatherAfterSend, ReadsLanes, later_words}
+use Rattle.gathered_laws.proofs.CleanLanes.{AreSized}
 use Rattle.gathered_laws.proofs.LanesRead.{as_written, many_read}
-use Rattle.gathered_laws.proofs.CleanLanes.{clean, sent_on, words_of_one}
+use Rattle.gathered_laws.proofs.StreamGathered.{stream_gathered}
 
 -- ---- what was read
 
@@ -48,24 +48,6 @@ lanes_had files name read e =
 
 -- ---- the words
 
--- the lanes of the stream w give its words from the fourth group on
-stream_gathered : WordsAreOfEpochs → HaveOneEpoch → (i : Reading) (send gathered : Outcome) (read : PlanLanes) (w : List Word) (h : IsOfPlan (AreLaneOutputs i.plan.settings i.plan.out) i w send) (g : IsGathered read gathered)
-    → read.plan ≡ i.plan → length read.lanes ≡ i.plan.settings.lanes → ((lane : ℕ) → lane < i.plan.settings.lanes → IsFileOf (get_or read.lanes lane []) (stream_lane_bits i.plan.settings w lane))
-    → gathered_words g.items ≡ map as_sent (later_words i w)
-stream_gathered of_epochs one_epoch i send gathered read w h g plan many each =
-    let s : Settings = read.plan.settings in
-    let settings : s ≡ i.plan.settings = ap (λ (p : PlanValue). p.settings) plan in
-    let has = items_epochs of_epochs s read.lanes g.items g.link.deskew_below_half g.are_items in
-    let is = clean s w read.lanes h.source g.link h.of_stream.stream
-    (h.is_source.shape.group ∙ ap group_of (sym settings))
-    (h.is_source.shape.warmup ∙ ap (λ (x : Settings). x.warmup) (sym settings))
-    (many ∙ ap (λ (x : Settings). x.lanes) (sym settings))
-    (λ lane lt. subst (λ (x : Settings). IsFileOf (get_or read.lanes lane []) (stream_lane_bits x w lane)) (sym settings) (each lane (subst (λ (x : Settings). lane < x.lanes) settings lt))) in
-    has.words
-    ∙ ap (λ (es : List Epoch). words_of_epochs es) (one_epoch h.source (sent_on s w read.lanes) (map bits_of_bytes read.lanes) has.epochs is has.are)
-    ∙ words_of_one (sent_on s w read.lanes)
-    ∙ ap (λ (x : Settings). map as_sent (drop (3 * group_of x) w)) settings
-
 -- the content of the first of some outputs
 first_content : (name content : List ℕ) (rest : List Output) → content_of (record { name = name; content = content } ∷ rest) name ≡ Some content
 first_content name content rest = ap (λ b. cond b (Some content) (content_of rest name)) (same name)
@@ -75,20 +57,31 @@ words_content read gathered g =
     ap (λ (o : Outcome). content_of o.files (words_name read.plan.out)) g.is
     ∙ first_content (words_name read.plan.out) (rx_words_file (gathered_words g.items)) (outs (places_name read.plan.out ∷ []) (places_table (places g.items) ∷ []))
 
-pub gather_after_send : WordsAreOfEpochs → HaveOneEpoch → GatherAfterSend
-gather_after_send of_epochs one_epoch name i send gathered before files read are planned (w, h) r gathers =
-    let out = i.plan.out in
-    let lanes : ℕ = i.plan.settings.lanes in
+-- the words file of `gather` has the words of the stream whose lanes a command wrote
+pub lanes_gathered : CleanLanesGiveStream → (name : List ℕ) (plan : PlanValue) (written gathered : Outcome) (files : Files) (read : PlanLanes) (w : List Word) → AreLaneOutputs plan.settings plan.out w written.files → AreSized w
+    → length w % group_of plan.settings ≡ 0 → ReadsLanes name plan written files read → (gather_meaning name).IsOutcome files gathered
+    → content_of gathered.files (words_name plan.out) ≡ Some (rx_words_file (map as_sent (later_words plan.settings w)))
+lanes_gathered law name plan written gathered files read w (contents, are_files, wrote) sized whole r gathers =
     let g : IsGathered read gathered = subst (λ (x : Result PlanLanes Refusal). MatchResult x (λ j. IsGathered j gathered) (λ why. gathered ≡ refused_outcome why)) r.is_read gathers in
-    let few : lanes ≤ 64 = subst (λ (p : PlanValue). p.settings.lanes ≤ 64) r.plan g.link.lanes.1 in
-    let (contents, are_files, wrote) = h.of_stream.files in
-    let had : lanes_in files (names_of_lanes i.plan) ≡ Ok read.lanes = subst (λ (p : PlanValue). lanes_in files (names_of_lanes p) ≡ Ok read.lanes) r.plan (lanes_had files name read r.is_read) in
-    let same_lane = as_written out lanes few files read.lanes contents send.files had are_files.one_each wrote r.sent in
-    let many = many_read out lanes few files read.lanes had in
-    let words = stream_gathered of_epochs one_epoch i send gathered read w h g r.plan many
-    (λ lane lt. subst (λ (bytes : List ℕ). IsFileOf bytes (stream_lane_bits i.plan.settings w lane)) (sym (same_lane lane lt)) (are_files.each lane lt)) in
-    record {
-      stream = w;
-      is_stream = h;
-      words = ap (λ (p : PlanValue). content_of gathered.files (words_name p.out)) (sym r.plan) ∙ words_content read gathered g ∙ ap (λ (ws : List RxWord). Some (rx_words_file ws)) words;
-    }
+    let link : IsLink plan.settings = subst (λ (p : PlanValue). IsLink p.settings) r.plan g.link in
+    let had : lanes_in files (names_of_lanes plan) ≡ Ok read.lanes = subst (λ (p : PlanValue). lanes_in files (names_of_lanes p) ≡ Ok read.lanes) r.plan (lanes_had files name read r.is_read) in
+    let same_lane = as_written plan.out plan.settings.lanes link.lanes.1 files read.lanes contents written.files had are_files.one_each wrote r.sent in
+    let words : gathered_words g.items ≡ map as_sent (later_words plan.settings w) =
+    stream_gathered law plan.settings w read.lanes g.items link sized whole (many_read plan.out plan.settings.lanes link.lanes.1 files read.lanes had)
+    (λ lane lt. subst (λ (bytes : List ℕ). IsFileOf bytes (stream_lane_bits plan.settings w lane)) (sym (same_lane lane lt)) (are_files.each lane lt))
+    (subst (λ (p : PlanValue). AreAllItems p.settings read.lanes g.items) r.plan g.are_items)
+    in
+    ap (λ (p : PlanValue). content_of gathered.files (words_name p.out)) (sym r.plan) ∙ words_content read gathered g ∙ ap (λ (ws : List RxWord). Some (rx_words_file ws)) words
+
+-- ---- after `send`
+
+stream_sized : (source : Source) (w : List Word) → IsBurstStream source w → AreSized w
+stream_sized source w stream = λ k d lt. stream.sized k (get_or w k d) (slice_get-get_or w k d lt)
+
+pub gather_after_send : CleanLanesGiveStream → GatherAfterSend
+gather_after_send law name i send gathered before files read are planned (w, h) r gathers = record {
+  stream = w;
+  is_stream = h;
+  words = lanes_gathered law name i.plan send gathered files read w h.of_stream.files (stream_sized h.source w h.of_stream.stream)
+      (whole_groups h.source w (group_of i.plan.settings) h.of_stream.stream h.is_source.shape.group) r gathers;
+}

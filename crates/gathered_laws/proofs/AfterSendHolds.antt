@@ -50,7 +50,7 @@ use Rattle.gather_commands.specs.Gather.{gather_meaning}
 use Rattle.gather_commands.proofs.Gathers.{gather_means}
 use Rattle.check_commands.specs.AfterBurst.{TellsNoFault}
 use Rattle.check_commands.specs.Check.{CheckInputs, IsChecked, check_meaning, faults_found, told_outcome}
-use Rattle.gathered_laws.specs.AfterSend.{CheckAfterGather, GatherAfterSend, GathersStream, ReadsGathered, ReadsSent, later_words}
+use Rattle.gathered_laws.specs.AfterSend.{CheckAfterGather, GatherAfterSend, GathersStream, ReadsGathered, ReadsLanes, later_words}
 use Rattle.gathered_laws.specs.AfterSendMet.{AfterSendMet, one_reading}
 use Rattle.gathered_laws.proofs.LanesRead.{was_written}
 use Rattle.gathered_laws.proofs.CheckGathered.{all_read, read_within, words_there}
@@ -161,10 +161,10 @@ module _ (a b : List ℕ) where
 
 -- ---- the words
 
-words_few : length (rx_words_file (map as_sent (later_words one_reading wide_words))) ≤ words_limit
+words_few : length (rx_words_file (map as_sent (later_words one_reading.plan.settings wide_words))) ≤ words_limit
 words_few = lit≤ tt
 
-many_later : length (later_words one_reading wide_words) ≡ 168
+many_later : length (later_words one_reading.plan.settings wide_words) ≡ 168
 many_later = refl
 
 -- ---- what stands after `send`
@@ -203,7 +203,7 @@ module _ (planned : planned_in skewed_files plan_name ≡ Ok one_reading) where
     gathered : Outcome
     lanes : Files
     read : PlanLanes
-    reads : ReadsSent plan_name one_reading send lanes read
+    reads : ReadsLanes plan_name one_reading.plan send lanes read
     gathers : (gather_meaning plan_name).IsOutcome lanes gathered
 
   gathering : (send : Outcome) → LanesSent send → Gathering send
@@ -226,7 +226,7 @@ module _ (planned : planned_in skewed_files plan_name ≡ Ok one_reading) where
   -- ---- what stands after `gather`
 
   abbrev content_for : List Word → List ℕ
-  content_for w = rx_words_file (map as_sent (later_words one_reading w))
+  content_for w = rx_words_file (map as_sent (later_words one_reading.plan.settings w))
 
   abbrev word_files : List Word → Files
   word_files w = from_entries (word_entries (content_for w))
@@ -249,7 +249,7 @@ module _ (planned : planned_in skewed_files plan_name ≡ Ok one_reading) where
   checks_it written send gathered g =
       let c = gathered_read send gathered g in
       let words = words_there written (word_files g.stream) (words_name one_reading.plan.out) (3 * group_of one_reading.plan.settings) g.stream g.is_stream.of_stream.stream.sized c.there c.fits in
-      let read : CheckInputs = record { plan = one_reading.plan; flow = []; words = map as_sent (later_words one_reading g.stream) } in
+      let read : CheckInputs = record { plan = one_reading.plan; flow = []; words = map as_sent (later_words one_reading.plan.settings g.stream) } in
       let check : Outcome = told_outcome (codes "o") (length read.words) (faults_found read) in
       let all = all_read (word_files g.stream) plan_name one_reading.plan [] read.words c.plan c.flow words in
       (check, subst (λ x. MatchResult x (λ j. IsChecked j check) (λ e. check ≡ refused_outcome e)) (sym all) refl)
@@ -276,7 +276,7 @@ module _ (planned : planned_in skewed_files plan_name ≡ Ok one_reading) where
         gathers = m.gathers;
         reads_gathered = c;
         checks = k.1;
-        tells = subst (λ (n : ℕ). TellsNoFault (codes "o") n k.0) (ap (λ (x : List Word). length (later_words one_reading x)) (wide_is_sent told.0 send told.1) ∙ many_later) told.2;
+        tells = subst (λ (n : ℕ). TellsNoFault (codes "o") n k.0) (ap (λ (x : List Word). length (later_words one_reading.plan.settings x)) (wide_is_sent told.0 send told.1) ∙ many_later) told.2;
       }
 
 pub after_send_met : SkewedLinkMeets → GatherAfterSend → CheckAfterGather → WrittenIsRead → AfterSendMet

@@ -129,7 +129,7 @@ check_after_gather after_send written tables name i send gathered check before l
     let g = after_send name i send gathered before lanes read are planned sends r gathers in
     let w = g.stream in
     let h = g.is_stream in
-    let later : List Word = later_words i w in
+    let later : List Word = later_words i.plan.settings w in
     let stream = h.of_stream.stream in
     let warm = three_in_warmup h.source (long_warmup before name i.plan i.inputs h.source had h.is_source) in
     let none : faults (rules_of i.plan i.inputs.flow) (map as_sent later) ≡ [] =

@@ -7,7 +7,10 @@ mod Warmup
 mod PremisesHold
 mod WholeLanes
 mod CleanLanes
+mod FewGroups
+mod StreamGathered
 mod LanesRead
 mod AfterSend
+mod AfterStripe
 mod CheckGathered
 mod AfterSendHolds

@@ -1,5 +1,5 @@
 -- Lanes that are there whole, as lanes so far.
-use Rattle.std.proofs.Common.{ℕ, ◌≡◌, ◌*◌, ◌<◌, Bool, true, false, List, [], ◌∷◌, length, map, refl, ap, ◌∙◌, subst, arith}
+use Rattle.std.proofs.Common.{ℕ, ◌≡◌, Bool, true, false, List, [], ◌∷◌, length, map, refl, ap, ◌∙◌, arith}
 use Rattle.std.specs.Prelude.{nat_lt}
 use Rattle.std.proofs.lemmas.Bool.{lt-ltb}
 use Rattle.std.proofs.lemmas.List.{take_all}
@@ -7,19 +7,13 @@ use Rattle.lk_base.specs.Checksum.{bits_of_bytes}
 use Rattle.lk_base.specs.Link.{Settings}
 use Rattle.lk_base.specs.declared.word.Aligned.{Aligned}
 use Rattle.lk_base.proofs.Lists.{head_same, tail_same}
-use Rattle.receive_model.specs.Positions.{Epoch}
-use Rattle.lock_model.specs.Tracks.{Track}
-use Rattle.epoch_model.specs.Groups.{AreEpochs}
-use Rattle.epoch_model.specs.GroupLaw.{HasAttempts}
-use Rattle.epoch_model.specs.KnownLaw.{AreLanes, EachIsLane, all_over, epoch_of}
-use Rattle.epoch_model.proofs.AtEnd.{known_at_end}
+use Rattle.epoch_model.specs.GroupLaw.{HasAttempts, tracks_received}
+use Rattle.epoch_model.specs.KnownLaw.{EachIsLane, all_over}
+use Rattle.epoch_model.specs.SoFar.{AreKnown, LaneSoFar, tracks_in}
 use Rattle.epoch_model.proofs.KnownDetermined.{tracks_are}
 use Rattle.event_model.specs.Fed.{clock_of, first_bits, whole}
 use Rattle.event_model.specs.Given.{bits_in, lanes_at}
 use Rattle.event_model.proofs.Clocks.{AreShort, all_whole, short_at_end}
-use Rattle.link_laws.specs.Received.{AreReceived}
-use Rattle.lane_words.specs.Gathered.{gathered_words, words_of_epochs}
-use Rattle.lane_words.specs.GatheredLaws.{WordsAreOfEpochs}
 use Rattle.lane_words.specs.Items.{AreAllItems}
 
 bits_joined : (t u : List Bool) (ts us : List (List Bool)) → t ≡ u → ts ≡ us → ◌≡◌ {A = List (List Bool)} (t ∷ ts) (u ∷ us)
@@ -58,29 +52,25 @@ module _ (s : Settings) (clock : ℕ) where
         whole_received lanes received short.1 (tail_same x.bits (bits_of_bytes bytes) (bits_in s.metaframe received) (map bits_of_bytes lanes) e),
       )
 
--- the epochs of lanes, and their words in order
-pub record HasEpochs (s : Settings) (lanes : List (List ℕ)) (items : List Aligned) : Type 0 where
-  pub epochs : List Epoch
-  pub are : AreReceived s (map bits_of_bytes lanes) epochs
-  pub words : gathered_words items ≡ words_of_epochs epochs
+-- lanes whose bits are over, with all that is known of them
+pub record AreWhole (s : Settings) (lanes : List (List ℕ)) (items : List Aligned) : Type 0 where
+  pub so_far : List LaneSoFar
+  pub received : List (HasAttempts s.metaframe)
+  pub bits : bits_in s.metaframe received ≡ map bits_of_bytes lanes
+  pub tracks : tracks_in so_far ≡ map (tracks_received s) received
+  pub over : all_over so_far ≡ true
+  pub known : AreKnown s so_far items
 
--- the words of all items of lanes are those of the epochs that are received of their bits
-pub items_epochs : WordsAreOfEpochs → (s : Settings) (lanes : List (List ℕ)) (items : List Aligned) → 2 * s.deskew < s.metaframe → AreAllItems s lanes items → HasEpochs s lanes items
-items_epochs law s lanes items fits are =
+pub are_whole : (s : Settings) (lanes : List (List ℕ)) (items : List Aligned) → AreAllItems s lanes items → AreWhole s lanes items
+are_whole s lanes items are =
     let clock : ℕ = clock_of (map whole lanes) in
     let short = short_at_end (map whole lanes) (all_whole lanes) in
     let bits : bits_in s.metaframe are.received ≡ map bits_of_bytes lanes = are.bits ∙ whole_bits s clock lanes short in
-    let each = whole_received s clock lanes are.received short bits in
-    let over = whole_over s clock lanes are.received short in
-    let at_clock = lanes_at s clock (map whole lanes) are.received in
-    let (so_far, is, ends) = known_at_end s at_clock items over are.are in
-    let is_lanes : AreLanes s at_clock = record { clock = clock; received = are.received; are = each } in
     record {
-      epochs = map (epoch_of s) so_far;
-      are = record {
-        lanes = are.received;
-        bits = bits;
-        are = subst (λ (ts : List (List Track)). AreEpochs s s.deskew ts (map (epoch_of s) so_far)) (tracks_are s clock at_clock are.received each) ends;
-      };
-      words = (law s at_clock items (map (epoch_of s) so_far) fits is_lanes over are.are ends).words;
+      so_far = lanes_at s clock (map whole lanes) are.received;
+      received = are.received;
+      bits = bits;
+      tracks = tracks_are s clock (lanes_at s clock (map whole lanes) are.received) are.received (whole_received s clock lanes are.received short bits);
+      over = whole_over s clock lanes are.received short;
+      known = are.are;
     }

@@ -9,7 +9,7 @@ use Rattle.receive_commands.specs.Receive.{PlanLanes}
 use Rattle.gather_commands.specs.Gather.{gather_meaning}
 use Rattle.check_commands.specs.AfterBurst.{TellsNoFault}
 use Rattle.check_commands.specs.Check.{check_meaning}
-use Rattle.gathered_laws.specs.AfterSend.{ReadsGathered, ReadsSent}
+use Rattle.gathered_laws.specs.AfterSend.{ReadsGathered, ReadsLanes}
 
 abbrev pub one_reading : Reading
 one_reading = skewed_reading.reading
@@ -27,7 +27,7 @@ pub record AfterSendMet : Type 0 where
   pub planned : planned_in skewed_files plan_name ≡ Ok one_reading
   pub no_flow : one_reading.inputs.flow ≡ []
   pub sends : (send_plan_work plan_name).IsMade one_reading send
-  pub reads_sent : ReadsSent plan_name one_reading send lanes read
+  pub reads_sent : ReadsLanes plan_name one_reading.plan send lanes read
   pub gathers : (gather_meaning plan_name).IsOutcome lanes gathered
   pub reads_gathered : ReadsGathered plan_name one_reading gathered words
   pub checks : (check_meaning plan_name).IsOutcome words check

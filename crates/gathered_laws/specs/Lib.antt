@@ -1,4 +1,5 @@
 pub mod LaterWords
 pub mod PremisesMet
 pub mod AfterSend
+pub mod AfterStripe
 pub mod AfterSendMet

@@ -1,5 +1,6 @@
 ghost use Rattle.gathered_laws.specs.AfterSend.{CheckAfterGather, GatherAfterSend};
 ghost use Rattle.gathered_laws.specs.AfterSendMet.{AfterSendMet};
+ghost use Rattle.gathered_laws.specs.AfterStripe.{GatherAfterStripe};
 
 /// What `gather` after `send` of one plan makes, whose inputs were accepted: the words file has the words of the stream from the fourth
 /// group on, and no other.
@@ -8,8 +9,19 @@ ghost use Rattle.gathered_laws.specs.AfterSendMet.{AfterSendMet};
 pub fn gather_after_send()
     ensures { GatherAfterSend }
 {
-    // clean lanes have one epoch, and gathered words are those of the epochs
-    link_laws::laws::clean_lanes_law();
+    // the words of clean lanes are those of the stream
+    lane_words::laws::words_are_of_epochs();
+}
+
+/// What `gather` after `stripe` of one plan makes, whose words were accepted: the words file has the words of the stream from the fourth
+/// group on, and no other; none, where the stream has three groups or fewer. The stream is the words filled up to whole groups, whatever
+/// words they are.
+///
+/// The premises: the plan and its lanes are accepted by `gather`, and the lanes are those that `stripe` wrote.
+pub fn gather_after_stripe()
+    ensures { GatherAfterStripe }
+{
+    // the words of clean lanes are those of the stream
     lane_words::laws::words_are_of_epochs();
 }
 
