@@ -1,79 +1,39 @@
 -- The premises of the laws on `gather` and `check` after `send` hold of a plan of two lanes.
-use Rattle.std.proofs.Common.{◌≡◌, ℕ, zero, suc, ◌*◌, ◌/◌, ◌<◌, ◌≤◌, ◌^◌, true, false, cond, All, List, [], ◌∷◌, length, map, get_or, refl, sym, ap, ◌∙◌, subst, arith, lit≤, nat_cmp, nat_lt, Some, Result, Ok, MatchResult}
-use Rattle.std.specs.Fmt.{digits}
-use Rattle.std.specs.List.{AllByRecursion}
-use Rattle.std.specs.Ordering.{eq_by_cmp}
-use Rattle.std.specs.Cmp.Lexicographic.{slice_cmp, nat_list_cmp_total}
-use Rattle.std.specs.FinMap.{find, from_entries, get-from_entries}
-use Rattle.std.proofs.lemmas.Bool.{ltb-true}
-use Rattle.std.proofs.lemmas.List.Sums.{AllPass-from_list_all}
+use Rattle.std.proofs.Common.{◌≡◌, ℕ, ◌*◌, ◌≤◌, List, [], length, map, refl, sym, ap, ◌∙◌, subst, lit≤, Result, Ok, MatchResult}
+use Rattle.std.specs.FinMap.{from_entries}
 use lib.Chars.{codes}
-use Rattle.lk_base.specs.Limits.{lane_limit, plan_limit, words_limit}
+use Rattle.lk_base.specs.Limits.{words_limit}
 use Rattle.lk_base.specs.Link.{group_of}
 use Rattle.lk_base.specs.Words.{as_sent}
 use Rattle.lk_base.specs.declared.word.Word.{Word}
-use Rattle.lk_outside.specs.Files.{Files, AreBytes, file}
-use Rattle.lane_model.specs.LaneBits.{IsFileOf, lane_bits, stream_lane_bits}
-use Rattle.lane_model.specs.LaneWords.{lane_words}
-use Rattle.lane_model.specs.Striping.{lane_payload}
+use Rattle.lk_outside.specs.Files.{Files, AreBytes}
 use Rattle.stream_model.specs.BurstStream.{Source, IsBurstStream}
 use Rattle.stream_model.proofs.OneStream.{one_stream}
-use Rattle.tx_end.proofs.FewBytes.{carried_few}
-use Rattle.link_laws.specs.PremisesMet.{behind_warmup, two_lanes, wide_words}
+use Rattle.link_laws.specs.PremisesMet.{behind_warmup, wide_words}
 use Rattle.link_laws.proofs.WideStream.{wide_stream}
 use Rattle.lane_words.specs.GatheredLaws.{WrittenIsRead}
 use Rattle.lane_words.specs.WordsFile.{rx_words_file}
 use Rattle.link_plan.specs.Listing.{channels_in_order}
-use Rattle.link_plan.specs.Plan.{plan_of}
-use Rattle.link_plan.specs.Schedules.{ScheduleValue}
-use Rattle.csv_rows.specs.Rows.{rows_of}
-use Rattle.plan_inputs.specs.Inputs as inputs
-use Rattle.plan_inputs.specs.Inputs.{Reading, plan_in, planned_in, schedule_in}
+use Rattle.plan_inputs.specs.Inputs.{Reading, planned_in}
 use Rattle.plan_inputs.specs.Sources.{IsSourceOf}
-use Rattle.plan_inputs.proofs.ListedFiles.{file_at, then_at}
-use Rattle.plan_inputs.proofs.PlanStream.{planned_parts}
+use Rattle.plan_inputs.proofs.ListedFiles.{file_at}
 use Rattle.plan_inputs.proofs.SameSource.{same_source}
-use Rattle.run_stops.specs.Reading as reading
-use Rattle.run_stops.specs.Reading.{Refusal, behind, bytes_by, bytes_in}
-use Rattle.run_stops.proofs.Readings.{behind_ok}
-use Rattle.run_shell.specs.Names.{lane_name, words_name}
-use Rattle.run_shell.specs.Outcome.{Outcome, Output, content_of}
+use Rattle.run_stops.specs.Reading.{Refusal}
+use Rattle.run_shell.specs.Names.{words_name}
+use Rattle.run_shell.specs.Outcome.{Outcome}
 use Rattle.run_shell.specs.Work.{refused_outcome}
 use Rattle.stream_commands.specs.Outputs.{AreLaneOutputs}
 use Rattle.stream_commands.specs.Plan.{HasPlanStream, IsOfPlan}
 use Rattle.stream_commands.proofs.PlanWork.{send_means}
-use Rattle.link_commands.specs.Inputs.{LinkReading, linked_in, with_schedule}
-use Rattle.link_commands.specs.PremisesMet.{SkewedLinkMeets, plan_name, skewed_entries, skewed_files, skewed_reading, skewed_text}
-use Rattle.lane_receipts.specs.LaneReports.{names_of_lanes}
-use Rattle.receive_commands.specs.Receive.{PlanLanes, lanes_in, plan_lanes_in, with_lanes}
-use Rattle.gather_commands.specs.Gather.{gather_meaning}
-use Rattle.gather_commands.proofs.Gathers.{gather_means}
+use Rattle.link_commands.specs.PremisesMet.{SkewedLinkMeets, plan_name, skewed_files, skewed_reading}
 use Rattle.check_commands.specs.AfterBurst.{TellsNoFault}
 use Rattle.check_commands.specs.Check.{CheckInputs, IsChecked, check_meaning, faults_found, told_outcome}
-use Rattle.gathered_laws.specs.AfterSend.{CheckAfterGather, GatherAfterSend, GathersStream, ReadsGathered, ReadsLanes, later_words}
+use Rattle.gathered_laws.specs.AfterSend.{CheckAfterGather, GatherAfterSend, GathersStream, ReadsGathered, later_words}
 use Rattle.gathered_laws.specs.AfterSendMet.{AfterSendMet, one_reading}
-use Rattle.gathered_laws.proofs.LanesRead.{was_written}
-use Rattle.gathered_laws.proofs.CheckGathered.{all_read, read_within, words_there}
+use Rattle.gathered_laws.proofs.CheckGathered.{all_read, words_there}
+use Rattle.gathered_laws.proofs.TwoLanes.{LanesSent, gathering, lanes_written, plan_there, planned_had, word_entries}
 
 -- ---- the plan
-
-same_reading : (r : Reading) (s : ScheduleValue) (i : LinkReading) → ◌≡◌ {A = Result LinkReading Refusal} (Ok (record { reading = r; schedule = s })) (Ok i) → r ≡ i.reading
-same_reading r s i e =
-    let is : ◌≡◌ {A = LinkReading} (record { reading = r; schedule = s }) i = cc in
-    ap (λ (x : LinkReading). x.reading) is
-
--- a plan that is read for a link is read without its schedule
-planned_had : (files : Files) (name : List ℕ) (i : LinkReading) → linked_in files name ≡ Ok i → planned_in files name ≡ Ok i.reading
-unfolding linked_in
-planned_had files name i e =
-    let (r, is, more) = behind_ok (planned_in files name) (with_schedule files) i e in
-    let (schedule, is_schedule, all) = behind_ok (schedule_in files r.plan) (λ (s : ScheduleValue). Ok (record { reading = r; schedule = s })) i more in
-    is ∙ ap Ok (same_reading r schedule i all)
-
--- it is the same where its file is
-same_plan : (old new : Files) (name : List ℕ) → file new name ≡ file old name → plan_in new name ≡ plan_in old name
-unfolding plan_in
-same_plan old new name e = ap (λ o. behind (reading.plan_by plan_limit o) (λ bytes. inputs.plan_by (plan_of (rows_of bytes)))) e
 
 is_wide : IsSourceOf one_reading.plan one_reading.inputs behind_warmup
 unfolding channels_in_order
@@ -85,80 +45,6 @@ wide_is_sent w send h =
     let source : h.source ≡ behind_warmup = same_source one_reading.plan one_reading.inputs h.source behind_warmup h.is_source is_wide in
     one_stream behind_warmup w wide_words (subst (λ (x : Source). IsBurstStream x w) source h.of_stream.stream) wide_stream
 
--- ---- files that are told one by one
-
-abbrev AreOfBytes : List (List ℕ × List ℕ) → Type 0
-AreOfBytes = AllByRecursion (λ (e : List ℕ × List ℕ). All (λ b. b < 256) e.1)
-
-entry_bytes : (es : List (List ℕ × List ℕ)) (q bytes : List ℕ) → AreOfBytes es → find (slice_cmp nat_cmp) q es ≡ Some bytes → All (λ b. b < 256) bytes
-entry_bytes [] q bytes all e = absurd cc
-entry_bytes (x ∷ es) q bytes all e = elim (eq_by_cmp (slice_cmp nat_cmp) q x.0) as (λ t. cond t (Some x.1) (find (slice_cmp nat_cmp) q es) ≡ Some bytes → All (λ b. b < 256) bytes) [
-  | true ↦ λ is. (let same : x.1 ≡ bytes = cc in subst (λ (bs : List ℕ). All (λ b. b < 256) bs) same all.0)
-  | false ↦ λ is. entry_bytes es q bytes all.1 is
-] e
-
-files_of_bytes : (es : List (List ℕ × List ℕ)) → AreOfBytes es → AreBytes (from_entries es)
-files_of_bytes es all q bytes e = entry_bytes es q bytes all (sym (get-from_entries nat_list_cmp_total es q) ∙ e)
-
--- the plan and its lanes
-abbrev lane_entries : List ℕ → List ℕ → List (List ℕ × List ℕ)
-lane_entries a b = (plan_name, skewed_text) ∷ (codes "o.lane.0", a) ∷ (codes "o.lane.1", b) ∷ []
-
--- the plan and its words file
-abbrev word_entries : List ℕ → List (List ℕ × List ℕ)
-word_entries content = (plan_name, skewed_text) ∷ (codes "o.words", content) ∷ []
-
-first_name : lane_name (codes "o") 0 ≡ codes "o.lane.0"
-unfolding digits
-first_name = refl
-
-second_name : lane_name (codes "o") 1 ≡ codes "o.lane.1"
-unfolding digits
-second_name = refl
-
-lane_names_are : names_of_lanes one_reading.plan ≡ codes "o.lane.0" ∷ codes "o.lane.1" ∷ []
-unfolding digits
-lane_names_are = refl
-
--- ---- the lanes
-
--- the file of a lane of 336 words
-lane_few : (lane : ℕ) (bytes : List ℕ) → IsFileOf bytes (stream_lane_bits two_lanes wide_words lane) → length bytes ≤ lane_limit
-unfolding lane_bits lane_words
-lane_few lane bytes is =
-    let few : length bytes ≤ 9 * (length wide_words / group_of two_lanes * two_lanes.metaframe) = carried_few two_lanes lane (length wide_words / group_of two_lanes * two_lanes.metaframe) (lane_payload two_lanes.lanes wide_words lane) bytes is in
-    let so : 9 * (length wide_words / group_of two_lanes * two_lanes.metaframe) ≤ lane_limit = lit≤ tt in
-    omega (arith, few, so)
-
-byte_low : (bytes : List ℕ) → All (λ b. b < 2 ^ 8) bytes → All (λ b. b < 256) bytes
-byte_low bytes h = h
-
-module _ (a b : List ℕ) where
-  abbrev lane_files : Files
-  lane_files = from_entries (lane_entries a b)
-
-  bytes_had : (name bytes : List ℕ) → find (slice_cmp nat_cmp) name (lane_entries a b) ≡ Some bytes → length bytes ≤ lane_limit → bytes_in lane_files name lane_limit ≡ Ok bytes
-  bytes_had name bytes there le = ap (bytes_by name lane_limit) (file_at (lane_entries a b) name ∙ there) ∙ read_within name lane_limit bytes le
-
-  both_read : length a ≤ lane_limit → length b ≤ lane_limit → lanes_in lane_files (codes "o.lane.0" ∷ codes "o.lane.1" ∷ []) ≡ Ok (a ∷ b ∷ [])
-  unfolding lanes_in
-  both_read la lb =
-      then_at (bytes_in lane_files (codes "o.lane.0") lane_limit) a (λ x. behind (lanes_in lane_files (codes "o.lane.1" ∷ [])) (λ ls. Ok (x ∷ ls))) (bytes_had (codes "o.lane.0") a refl la)
-      ∙ ap (λ r. behind r (λ ls. Ok (a ∷ ls))) (then_at (bytes_in lane_files (codes "o.lane.1") lane_limit) b (λ x. behind (lanes_in lane_files []) (λ ls. Ok (x ∷ ls))) (bytes_had (codes "o.lane.1") b refl lb))
-
-  lanes_read : plan_in lane_files plan_name ≡ Ok one_reading.plan → length a ≤ lane_limit → length b ≤ lane_limit → plan_lanes_in lane_files plan_name ≡ Ok (record { plan = one_reading.plan; lanes = a ∷ b ∷ [] })
-  lanes_read planned la lb =
-      then_at (plan_in lane_files plan_name) one_reading.plan (with_lanes lane_files) planned
-      ∙ ap (λ names. behind (lanes_in lane_files names) (λ ls. Ok (record { plan = one_reading.plan; lanes = ls }))) lane_names_are
-      ∙ then_at (lanes_in lane_files (codes "o.lane.0" ∷ codes "o.lane.1" ∷ [])) (a ∷ b ∷ []) (λ ls. Ok (record { plan = one_reading.plan; lanes = ls })) (both_read la lb)
-
-  lane_there : (contents : List (List ℕ)) (outputs : List Output) → get_or contents 0 [] ≡ a → get_or contents 1 [] ≡ b
-      → ((lane : ℕ) → lane < 2 → content_of outputs (lane_name (codes "o") lane) ≡ Some (get_or contents lane []))
-      → (lane : ℕ) → lane < 2 → file lane_files (lane_name (codes "o") lane) ≡ content_of outputs (lane_name (codes "o") lane)
-  lane_there contents outputs is_a is_b wrote zero lt = ap (file lane_files) first_name ∙ file_at (lane_entries a b) (codes "o.lane.0") ∙ ap Some (sym is_a) ∙ sym (wrote 0 lt)
-  lane_there contents outputs is_a is_b wrote (suc zero) lt = ap (file lane_files) second_name ∙ file_at (lane_entries a b) (codes "o.lane.1") ∙ ap Some (sym is_b) ∙ sym (wrote 1 lt)
-  lane_there contents outputs is_a is_b wrote (suc (suc lane)) lt = absurd (omega arith)
-
 -- ---- the words
 
 words_few : length (rx_words_file (map as_sent (later_words one_reading.plan.settings wide_words))) ≤ words_limit
@@ -169,60 +55,15 @@ many_later = refl
 
 -- ---- what stands after `send`
 
-record LanesSent (send : Outcome) : Type 0 where
-  contents : List (List ℕ)
-  wrote : (lane : ℕ) → lane < 2 → content_of send.files (lane_name (codes "o") lane) ≡ Some (get_or contents lane [])
-  few : (lane : ℕ) → lane < 2 → length (get_or contents lane []) ≤ lane_limit
-  low : (lane : ℕ) → lane < 2 → All (λ b. b < 256) (get_or contents lane [])
-
 abbrev IsSent : Outcome → Type 0
 IsSent send = HasPlanStream (AreLaneOutputs one_reading.plan.settings one_reading.plan.out) one_reading send
 
 lanes_sent : (send : Outcome) → IsSent send → LanesSent send
 lanes_sent send (w, h) =
-    let (contents, are, wrote) = h.of_stream.files in
-    let is : (lane : ℕ) → lane < 2 → IsFileOf (get_or contents lane []) (stream_lane_bits two_lanes wide_words lane) =
-    λ lane lt. subst (λ (x : List Word). IsFileOf (get_or contents lane []) (stream_lane_bits two_lanes x lane)) (wide_is_sent w send h) (are.each lane lt) in
-    record {
-      contents = contents;
-      wrote = was_written (codes "o") 2 (lit≤ tt) contents send.files are.one_each wrote;
-      few = λ lane lt. lane_few lane (get_or contents lane []) (is lane lt);
-      low = λ lane lt. byte_low (get_or contents lane []) (is lane lt).each;
-    }
-
-text_low : All (λ b. b < 256) skewed_text
-text_low = λ k d lt. ltb-true (get_or skewed_text k d) 256 (AllPass-from_list_all (λ (b : ℕ). nat_lt b 256) skewed_text refl k d lt)
+    lanes_written wide_words send (lit≤ tt)
+    (subst (λ (x : List Word). AreLaneOutputs one_reading.plan.settings one_reading.plan.out x send.files) (wide_is_sent w send h) h.of_stream.files)
 
 module _ (planned : planned_in skewed_files plan_name ≡ Ok one_reading) where
-  plan_there : (entries : List (List ℕ × List ℕ)) → find (slice_cmp nat_cmp) plan_name entries ≡ Some skewed_text → plan_in (from_entries entries) plan_name ≡ Ok one_reading.plan
-  plan_there entries is =
-      same_plan skewed_files (from_entries entries) plan_name (file_at entries plan_name ∙ is ∙ sym (file_at skewed_entries plan_name))
-      ∙ (planned_parts skewed_files plan_name one_reading planned).0
-
-  record Gathering (send : Outcome) : Type 0 where
-    gathered : Outcome
-    lanes : Files
-    read : PlanLanes
-    reads : ReadsLanes plan_name one_reading.plan send lanes read
-    gathers : (gather_meaning plan_name).IsOutcome lanes gathered
-
-  gathering : (send : Outcome) → LanesSent send → Gathering send
-  gathering send l =
-      let a : List ℕ = get_or l.contents 0 [] in
-      let b : List ℕ = get_or l.contents 1 [] in
-      let has = (gather_means plan_name).some_outcome (lane_files a b) (files_of_bytes (lane_entries a b) (text_low, (l.low 0 (lit≤ tt), (l.low 1 (lit≤ tt), tt)))) in
-      record {
-        gathered = has.0;
-        lanes = lane_files a b;
-        read = record { plan = one_reading.plan; lanes = a ∷ b ∷ [] };
-        reads = record {
-          is_read = lanes_read a b (plan_there (lane_entries a b) refl) (l.few 0 (lit≤ tt)) (l.few 1 (lit≤ tt));
-          plan = refl;
-          sent = lane_there a b l.contents send.files refl refl l.wrote;
-        };
-        gathers = has.1;
-      }
-
   -- ---- what stands after `gather`
 
   abbrev content_for : List Word → List ℕ
@@ -236,7 +77,7 @@ module _ (planned : planned_in skewed_files plan_name ≡ Ok one_reading) where
 
   gathered_read : (send gathered : Outcome) (g : GathersStream one_reading send gathered) → ReadsGathered plan_name one_reading gathered (word_files g.stream)
   gathered_read send gathered g = record {
-    plan = plan_there (word_entries (content_for g.stream)) refl;
+    plan = plan_there planned (word_entries (content_for g.stream)) refl;
     flow = refl;
     content = content_for g.stream;
     given = g.words;
@@ -256,7 +97,7 @@ module _ (planned : planned_in skewed_files plan_name ≡ Ok one_reading) where
 
   met : AreBytes skewed_files → GatherAfterSend → CheckAfterGather → WrittenIsRead → (send : Outcome) → IsSent send → AfterSendMet
   met bytes after_send after_gather written send sends =
-      let m = gathering send (lanes_sent send sends) in
+      let m = gathering planned send (lanes_sent send sends) in
       let g = after_send plan_name one_reading send m.gathered skewed_files m.lanes m.read bytes planned sends m.reads m.gathers in
       let c = gathered_read send m.gathered g in
       let k = checks_it written send m.gathered g in

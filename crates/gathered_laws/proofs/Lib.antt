@@ -13,4 +13,6 @@ mod LanesRead
 mod AfterSend
 mod AfterStripe
 mod CheckGathered
+mod TwoLanes
 mod AfterSendHolds
+mod AfterStripeHolds

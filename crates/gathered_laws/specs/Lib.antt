@@ -3,3 +3,4 @@ pub mod PremisesMet
 pub mod AfterSend
 pub mod AfterStripe
 pub mod AfterSendMet
+pub mod AfterStripeMet

@@ -1,6 +1,7 @@
 ghost use Rattle.gathered_laws.specs.AfterSend.{CheckAfterGather, GatherAfterSend};
 ghost use Rattle.gathered_laws.specs.AfterSendMet.{AfterSendMet};
 ghost use Rattle.gathered_laws.specs.AfterStripe.{GatherAfterStripe};
+ghost use Rattle.gathered_laws.specs.AfterStripeMet.{AfterStripeMet};
 
 /// What `gather` after `send` of one plan makes, whose inputs were accepted: the words file has the words of the stream from the fourth
 /// group on, and no other.
@@ -46,4 +47,14 @@ pub fn after_send_premises_are_met()
     gather_after_send();
     check_after_gather();
     lane_words::laws::words_grow();
+}
+
+/// The premises of the law on `gather` after `stripe` are met by the same plan, with 170 data words, as the stream of no source begins:
+/// of the four groups that `stripe` makes of them `gather` gives the fourth, the last two words and 54 fillers.
+pub fn after_stripe_premises_are_met()
+    ensures { AfterStripeMet }
+{
+    link_commands::laws::premises_are_met();
+    lane_commands::laws::striped_streams();
+    gather_after_stripe();
 }
