@@ -1,10 +1,11 @@
--- The events of some bytes are found one byte after another.
-use Rattle.std.proofs.Common.{ℕ, ◌≡◌, sym, ap, ◌∙◌, subst, ◌+◌, ◌<◌, ◌≤◌, Bool, List, [], ◌∷◌, ◌++◌, length, filter, take, get_or, arith, append_assoc}
-use Rattle.std.proofs.lemmas.List.{append-nil, length-append, length-map, take_all, take_more}
+-- The events of some bytes are found one piece after another.
+use Rattle.std.proofs.Common.{ℕ, ◌≡◌, sym, ap, ◌∙◌, subst, ◌+◌, ◌*◌, ◌≤◌, Bool, List, ◌++◌, length, filter, take, drop, arith, append_assoc}
+use Rattle.std.proofs.Math.Seq.{take-add}
+use Rattle.std.proofs.lemmas.List.{append-nil, length-append, length-map, take_all}
+use Rattle.std.proofs.lemmas.List.Concat.{flat_map-append}
 use Rattle.std.proofs.lemmas.List.Sums.{count_by-le-length, length-filter}
 use Rattle.lk_base.specs.Checksum.{bits_of, bits_of_bytes}
 use Rattle.lk_base.specs.Link.{Settings}
-use Rattle.lk_base.proofs.Bits.{bits-byte}
 use Rattle.lane_events.specs.declared.types.LaneEvent.{LaneEvent}
 use Rattle.lane_events.specs.declared.word_events.WordEvents.{WordEvents}
 use Rattle.lane_events.specs.Events.{AreLaneEvents, all_kinds}
@@ -27,20 +28,20 @@ found_none v bytes before s bits given k are =
     let nil = append-nil bits in
     (subst (λ (bs : List Bool). Inspects v s bs) (sym nil) k, subst (λ (bs : List Bool). AreLaneEvents s bs (given ++ before)) (sym nil) are)
 
--- a byte more
-pub found_more : (v u w : InspectorView) (bytes : List ℕ) (i byte : ℕ) (word : WordEvents) (before now after : List LaneEvent) → i < length bytes → byte ≡ get_or bytes i 0 →
-    Finds v u (bits_of_bytes (take i bytes)) before now →
-    ((s : Settings) (bits : List Bool) → Inspects u s bits → Inspects w s (bits ++ bits_of 8 byte)) →
-    ((s : Settings) (bits : List Bool) (events : List LaneEvent) → Inspects u s bits → AreLaneEvents s bits events → AreLaneEvents s (bits ++ bits_of 8 byte) (events ++ events_in word)) →
-    after ≡ now ++ events_in word → Finds v w (bits_of_bytes (take (i + 1) bytes)) before after
-found_more v u w bytes i byte word before now after lt is finds inspects events e s bits given k are =
-    let cut : bits ++ bits_of_bytes (take (i + 1) bytes) ≡ (bits ++ bits_of_bytes (take i bytes)) ++ bits_of 8 byte =
-    ap (λ bs. bits ++ bits_of_bytes bs) (take_more bytes i 0 lt ∙ ap (λ b. take i bytes ++ b ∷ []) (sym is)) ∙ ap (λ bs. bits ++ bs) (bits-byte (take i bytes) byte)
-    ∙ sym (append_assoc bits (bits_of_bytes (take i bytes)) (bits_of 8 byte)) in
+-- the next bytes more
+pub found_more : (v u w : InspectorView) (bytes : List ℕ) (i count number : ℕ) (word : WordEvents) (before now after : List LaneEvent) →
+    bits_of (8 * count) number ≡ bits_of_bytes (take count (drop i bytes)) → Finds v u (bits_of_bytes (take i bytes)) before now →
+    ((s : Settings) (bits : List Bool) → Inspects u s bits → Inspects w s (bits ++ bits_of (8 * count) number)) →
+    ((s : Settings) (bits : List Bool) (events : List LaneEvent) → Inspects u s bits → AreLaneEvents s bits events → AreLaneEvents s (bits ++ bits_of (8 * count) number) (events ++ events_in word)) →
+    after ≡ now ++ events_in word → Finds v w (bits_of_bytes (take (i + count) bytes)) before after
+found_more v u w bytes i count number word before now after is finds inspects events e s bits given k are =
+    let cut : bits ++ bits_of_bytes (take (i + count) bytes) ≡ (bits ++ bits_of_bytes (take i bytes)) ++ bits_of (8 * count) number =
+    ap (λ bs. bits ++ bits_of_bytes bs) (take-add i count bytes) ∙ ap (λ bs. bits ++ bs) (flat_map-append (bits_of 8) (take i bytes) (take count (drop i bytes)))
+    ∙ ap (λ bs. bits ++ (bits_of_bytes (take i bytes) ++ bs)) (sym is) ∙ sym (append_assoc bits (bits_of_bytes (take i bytes)) (bits_of (8 * count) number)) in
     let front = finds s bits given k are in (
       subst (λ (bs : List Bool). Inspects w s bs) (sym cut) (inspects s (bits ++ bits_of_bytes (take i bytes)) front.0),
       subst (λ (bs : List Bool). AreLaneEvents s bs (given ++ after)) (sym cut)
-          (subst (λ (es : List LaneEvent). AreLaneEvents s ((bits ++ bits_of_bytes (take i bytes)) ++ bits_of 8 byte) es) (append_assoc given now (events_in word) ∙ ap (λ es. given ++ es) (sym e))
+          (subst (λ (es : List LaneEvent). AreLaneEvents s ((bits ++ bits_of_bytes (take i bytes)) ++ bits_of (8 * count) number) es) (append_assoc given now (events_in word) ∙ ap (λ es. given ++ es) (sym e))
           (events s (bits ++ bits_of_bytes (take i bytes)) (given ++ now) front.0 front.1)),
     )
 

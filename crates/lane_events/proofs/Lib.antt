@@ -13,5 +13,6 @@ mod Telling
 mod Balances
 mod Walking
 mod Inspecting
+mod Pieces
 mod Appending
 mod SendersBalance

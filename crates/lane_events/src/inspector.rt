@@ -8,13 +8,16 @@ ghost use Rattle.lane_events.specs.Inspection.{Finds, Inspects, IsShown, events_
 
 use crate::told::{balance_after, balance_before, told};
 use crate::types::LaneEvent;
-use crate::windows::{code_in, pushed};
+use crate::windows::{code_in, number_of, pushed};
 use crate::word_events::WordEvents;
 use lane_lock::{Completed, LaneLock};
-use lk_base::{Link, OutOfMemory};
+use lk_base::{Link, OutOfMemory, head, tail};
 use lock_model::LaneReport;
 use std::alloc::Global;
 use std::marker::Model;
+
+// How many bytes are taken at once: a word has 67 bits, so at most one ends within the 56 of seven bytes.
+const PIECE: usize = 7;
 
 /// What shows the events of one lane as its bytes come. It takes memory when it is made, and none after.
 #[derive(Drop)]
@@ -118,9 +121,13 @@ impl LaneInspector {
         ensures finds { OnOk result (Finds self.old self.new (bits_of_bytes bytes.now) found.old.items found.new.items) }
         ensures few { OnOk result (length found.new.items ≤ length found.old.items + 12 * length bytes.now) }
     {
-        for byte in bytes {
-            let word = self.byte(*byte);
+        let mut at = 0;
+        while at < bytes.len() {
+            let count = (bytes.len() - at).min(PIECE);
+            let piece = head(tail(bytes, at), count);
+            let word = self.take(number_of(piece), count as u32);
             word.append_to(found)?;
+            at += count;
         }
         Ok(())
     }

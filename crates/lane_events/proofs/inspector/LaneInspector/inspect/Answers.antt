@@ -1,23 +1,31 @@
--- Byte by byte.
-use Rattle.std.proofs.Common.{refl, get_or, arith}
+-- Piece by piece.
+use Rattle.std.proofs.Common.{◌+◌, ◌≤◌, length, arith}
 use Rattle.lane_events.proofs.Appending.{found_all, found_more}
+use Rattle.lane_events.proofs.Pieces.{piece_numbered}
 use Rattle.lane_events.proofs.inspector.LaneInspector.inspect.Goals as goal
 
-pub loop-byte-preserved : goal.loop-byte-preserved
-loop-byte-preserved c =
-    let before = c.loop-byte.invariant.taken in
-    let taken = c.byte-word.ensures.taken in
-    let few = c.loop-byte.invariant.few in
+pub loop-at-preserved : goal.loop-at-preserved
+loop-at-preserved c =
+    let count = c.min-count.result in
+    let bytes = c.args.bytes.now in
+    let at = c.loop-at.at in
+    let least = c.min-count.ensures in
+    let before = c.loop-at.invariant.taken in
+    let taken = c.take-word.ensures.taken in
+    let few = c.loop-at.invariant.few in
     let more = c.in_ok-append_to.ensures.few in
+    let some = c.loop-at-test.true in
+    let there : at + count ≤ length bytes = omega (arith, least, some) in
     record {
+      there = there;
       taken = omega (arith, before, taken);
-      finds = found_more c.args.self.now c.loop-byte.self c.byte-word.new.self c.args.bytes.now c.loop-byte.byte-index (get_or c.args.bytes.now c.loop-byte.byte-index 0) c.byte-word.result
-          c.args.found.now.items c.loop-byte.found.items c.append_to.new.found.items c.loop-byte-test.true refl c.loop-byte.invariant.finds
-          c.byte-word.ensures.inspects c.byte-word.ensures.events (c.in_ok-append_to.ensures.appended);
-      few = omega (arith, few, more);
+      finds = found_more c.args.self.now c.loop-at.self c.take-word.new.self bytes at count c.number_of.result c.take-word.result c.args.found.now.items c.loop-at.found.items c.append_to.new.found.items
+          (piece_numbered bytes c.tail.result.now c.head-piece.result.now at count c.number_of.result there c.tail.ensures c.head-piece.ensures c.number_of.ensures.bits) c.loop-at.invariant.finds
+          c.take-word.ensures.inspects c.take-word.ensures.events c.in_ok-append_to.ensures.appended;
+      few = omega (arith, least, some, few, more);
     }
 
 pub returns-clause-finds : goal.returns-clause-finds
 returns-clause-finds c =
-    let past = c.loop-byte-test.false in
-    found_all c.args.self.now c.loop-byte.self c.args.bytes.now c.loop-byte.byte-index c.args.found.now.items c.loop-byte.found.items (omega (arith, past)) c.loop-byte.invariant.finds
+    let past = c.loop-at-test.false in
+    found_all c.args.self.now c.loop-at.self c.args.bytes.now c.loop-at.at c.args.found.now.items c.loop-at.found.items (omega (arith, past)) c.loop-at.invariant.finds
