@@ -5,5 +5,6 @@ metaframe_lock.sv
 scrambler58.sv
 crc.sv
 disparity.sv
+lane_receiver.sv
 lane_checker.sv
 tb_check.sv
