@@ -27,6 +27,18 @@ def capture(sizes):
     return b"".join(parts)
 
 
+def packets_of(capture):
+    """The packets of a capture that the program wrote."""
+    with open(capture, "rb") as file:
+        data = file.read()
+    found, at = [], 24
+    while at < len(data):
+        length = struct.unpack_from("<I", data, at + 8)[0]
+        found.append(data[at + 16:at + 16 + length])
+        at += 16 + length
+    return found
+
+
 def main():
     with open(sys.argv[1], "wb") as file:
         file.write(capture(sys.argv[2:]))

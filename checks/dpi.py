@@ -4,11 +4,11 @@ import os
 import random
 import re
 import shutil
-import struct
 import subprocess
 import sys
 import tempfile
 
+from captures import packets_of
 import documents
 from tally import Tally
 
@@ -39,18 +39,6 @@ def try_page(tally, folder):
 def numbers_of(path):
     with open(path, encoding="utf-8") as file:
         return sorted(re.findall(r"\b(INTERLAKEN_[A-Z_]+) = (\d+)", file.read()))
-
-
-def packets_of(capture):
-    """The packets of a capture that `receive` wrote."""
-    with open(capture, "rb") as file:
-        data = file.read()
-    found, at = [], 24
-    while at < len(data):
-        length = struct.unpack_from("<I", data, at + 8)[0]
-        found.append(data[at + 16:at + 16 + length])
-        at += 16 + length
-    return found
 
 
 class Received:

@@ -58,8 +58,9 @@ class Tally:
         sys.exit(77)
 
     def not_tried(self, tool, package, what):
-        """A part cannot be tried on this machine."""
-        print("%s: not tried, no %s (Debian package %s): %s" % (self.name, tool, package, what), flush=True)
+        """A part cannot be tried on this machine; `package` is the Debian package of the tool, or none where there is none."""
+        source = " (Debian package %s)" % package if package else ""
+        print("%s: not tried, no %s%s: %s" % (self.name, tool, source, what), flush=True)
 
     def end(self):
         """Prints the last line, and gives the exit status."""

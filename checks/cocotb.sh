@@ -1,0 +1,13 @@
+#!/usr/bin/env bash
+# The Python receiver as the test of cocotb feeds it, a bit of each lane at a time, beside `receive` of the same lanes; and the test
+# itself where cocotb is there, with iverilog or verilator. Needs gcc, and an archive of these sources.
+set -u
+. "$(dirname "$0")/program.bash"
+wants python3 python3
+wants cc gcc
+. "$top/tools/archive.bash"
+if ! find_archive "$top" >/dev/null; then
+  echo "$name: skipped, no archive of these sources (rt lib in crates/interlaken_c makes it)"
+  exit 77
+fi
+exec python3 -B "$top/checks/cocotb_test.py" "$program" "$top"
