@@ -4,9 +4,9 @@ ghost use Rattle.std.specs.Result.{result_err};
 ghost use Rattle.words_files.specs.WordsOfFile.{words_of_file};
 
 use crate::error::WordsError;
+use crate::format::WORD_BYTES;
 use crate::reader::{first_refusal, word_in};
 use crate::tags::Tags;
-use crate::writer::WORD_BYTES;
 use lk_base::{RxWord, tail};
 use std::marker::Model;
 

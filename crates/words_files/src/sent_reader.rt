@@ -3,9 +3,9 @@ ghost use Rattle.std.specs.Result.{result_err};
 ghost use Rattle.words_files.specs.WordsOfFile.{has_unsent_tag, refusal_at, sent_word_in, sent_words_of_file};
 
 use crate::error::WordsError;
+use crate::format::{DATA_TAG, WORD_BYTES};
 use crate::reader::first_refusal;
 use crate::tags::Tags;
-use crate::writer::WORD_BYTES;
 use byteorder::{BigEndian, ByteOrder};
 use lk_base::{OutOfMemory, Word, tail};
 use std::alloc::Global;
@@ -18,7 +18,7 @@ fn word_in(bytes: &[u8]) -> Word
 {
     let number = BigEndian::read_u64(&bytes[1..]);
     match bytes[0] {
-        1 => Word::Data(number),
+        DATA_TAG => Word::Data(number),
         _ => Word::Control(number),
     }
 }

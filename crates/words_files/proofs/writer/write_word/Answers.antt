@@ -1,5 +1,5 @@
 -- The tag comes before the eight bytes of the number.
-use Rattle.std.proofs.Common.{◌≡◌, ◌∙◌, ◌+◌, ◌-◌, ◌++◌, ◌∷◌, [], ℕ, List, ap, length, take, set, append_assoc, arith}
+use Rattle.std.proofs.Common.{◌≡◌, ◌∙◌, ◌+◌, ◌-◌, ◌++◌, ◌∷◌, [], ℕ, List, ap, length, take, set, append_assoc, arith, rules}
 use Rattle.std.specs.Int.{bytes_high_first}
 use Rattle.std.proofs.lemmas.List.{length-set, take_more_set}
 use Rattle.std.proofs.lemmas.Slice.{take-put_mid}
@@ -11,8 +11,8 @@ returns-clause-put c =
     let at = c.args.at in
     let bytes = c.args.bytes.now in
     let tag = c.tag_of.result in
-    let number = c.copy_from_slice.new.self in
-    let same : number ≡ bytes_high_first 8 (payload c.args.word) = c.copy_from_slice.ensures.after ∙ c.to_be_bytes.ensures ∙ ap (bytes_high_first 8) c.payload_of.ensures in
+    let number = c.write_u64.new.buf in
+    let same : number ≡ bytes_high_first 8 (payload c.args.word) = search rules in
     let eight : length number ≡ 8 = ap length same in
     let long : length (set bytes at tag) ≡ length bytes = length-set bytes at tag in
     let fits = c.requires in
