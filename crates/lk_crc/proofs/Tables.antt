@@ -3,6 +3,7 @@ use Rattle.std.proofs.Common.{◌≡◌, zero, suc, refl, arith, [], map, get_or
 use Rattle.lk_base.specs.Checksum.{bits_of, register_after}
 use Rattle.lk_crc.specs.Slices.{AreSlices}
 use Rattle.lk_crc.specs.declared.far24.TheConstants.{SLICES as FAR24}
+use Rattle.lk_crc.specs.declared.far32.TheConstants.{SLICES as FAR32}
 use Rattle.lk_crc.specs.declared.slices24.TheConstants.{SLICES as NEAR24}
 use Rattle.lk_crc.specs.declared.slices32.TheConstants.{SLICES as NEAR32}
 use Rattle.lk_crc.proofs.Slices.{GoOn, bytes_alone, far_slices, near_slices, zeros_more}
@@ -60,3 +61,21 @@ near32_next (suc (suc (suc (suc (suc (suc (suc n))))))) h = absurd (omega arith)
 
 pub near32 : AreSlices 32 0x1EDC6F41 0 NEAR32
 near32 = near_slices 32 0x1EDC6F41 NEAR32 near32_first near32_next
+
+far32_first : get_or FAR32 0 [] ≡ map (zeros_more 32 0x1EDC6F41) (get_or NEAR32 7 [])
+unfolding bits_of register_after
+far32_first = refl
+
+far32_next : GoOn 32 0x1EDC6F41 FAR32
+unfolding bits_of register_after
+far32_next zero h = refl
+far32_next (suc zero) h = refl
+far32_next (suc (suc zero)) h = refl
+far32_next (suc (suc (suc zero))) h = refl
+far32_next (suc (suc (suc (suc zero)))) h = refl
+far32_next (suc (suc (suc (suc (suc zero))))) h = refl
+far32_next (suc (suc (suc (suc (suc (suc zero)))))) h = refl
+far32_next (suc (suc (suc (suc (suc (suc (suc n))))))) h = absurd (omega arith)
+
+pub far32 : AreSlices 32 0x1EDC6F41 64 FAR32
+far32 = far_slices 32 0x1EDC6F41 NEAR32 FAR32 near32 far32_first far32_next
