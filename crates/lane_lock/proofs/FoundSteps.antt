@@ -25,7 +25,7 @@ payload_first number at w =
     let f : at ≡ at + 67 * 0 = omega arith in
     ap (λ (n : ℕ). steps.Word w (roles.Payload n) at) e ∙ ap (steps.Word w (roles.Payload (number + 0))) f
 
-payload_more : (number at : ℕ) (ws : List RxWord) (w : RxWord) → payload_steps number at (ws ++ w ∷ []) ≡ payload_steps number at ws ++ payload_step number at (length ws) w ∷ []
+pub payload_more : (number at : ℕ) (ws : List RxWord) (w : RxWord) → payload_steps number at (ws ++ w ∷ []) ≡ payload_steps number at ws ++ payload_step number at (length ws) w ∷ []
 payload_more number at [] w = ap (λ (x : LaneStep). x ∷ []) (payload_first number at w)
 payload_more number at (x ∷ ws) w =
     ap (λ (g : List LaneStep). steps.Word x (roles.Payload number) at ∷ g)

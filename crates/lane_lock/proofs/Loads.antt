@@ -19,7 +19,7 @@ middle k n m x =
     ∙ take_at (bits_of n (x / 2 ^ m)) (bits_of m x) n (length-bits_of n (x / 2 ^ m))
 
 -- the bits of c bytes from a place on
-within : (bytes : List ℕ) (place c o n at : ℕ) → at ≡ 8 * place + o → place + c ≤ length bytes → o + n ≤ 8 * c →
+pub within : (bytes : List ℕ) (place c o n at : ℕ) → at ≡ 8 * place + o → place + c ≤ length bytes → o + n ≤ 8 * c →
     take n (drop at (bits_of_bytes bytes)) ≡ take n (drop o (bits_of_bytes (take c (drop place bytes))))
 within bytes place c o n at is there few =
     let front = bits_of_bytes (take place bytes) in

@@ -1,7 +1,13 @@
 -- The payload words of a declared lock, one after another.
-use Rattle.std.specs.Prelude.{ℕ, ◌+◌, ◌*◌}
+use Rattle.std.specs.Prelude.{ℕ, zero, suc, ◌≡◌, ◌+◌, ◌*◌, ◌^◌, ◌<◌, ◌==◌, if◌then◌else◌, Bool, false, List, [], ◌∷◌, length, map, take}
+use Rattle.lk_base.specs.declared.word.RxWord.{RxWord}
+use Rattle.lk_base.specs.Words.{is_bad, number_of}
+use Rattle.lane_model.specs.Coding.{word_of_code}
+use Rattle.lane_model.specs.Key.{key_word, start_of, state_before}
+use Rattle.lane_model.specs.LaneBits.{bits_of_codes}
+use Rattle.lock_model.specs.Received.{unscrambled}
 use Rattle.lane_lock.specs.Headers.{HeaderCount}
-use Rattle.lane_lock.specs.Inside.{InsideState}
+use Rattle.lane_lock.specs.Inside.{InsideState, passed, with_key}
 use Rattle.lane_lock.specs.Lane.{LaneView}
 use Rattle.lane_lock.specs.Watch.{WatchState}
 
@@ -30,3 +36,60 @@ lane_ran v n code run = record {
   watch = watch_ran v.watch n run;
   report = v.report;
 }
+
+-- ---- words with legal headers
+
+abbrev pub all_legal : List RxWord → Type 0
+all_legal [] = Unit {0}
+all_legal (w ∷ ws) = (is_bad w ≡ false) × all_legal ws
+
+abbrev pub are_codes : List ℕ → Type 0
+are_codes [] = Unit {0}
+are_codes (code ∷ codes) = (code < 2 ^ 67) × are_codes codes
+
+-- these are the words of the first codes of these bits
+pub record AreWordsOf (words : List RxWord) (given : List Bool) : Type 0 where
+  pub codes : List ℕ
+  pub below : are_codes codes
+  pub bits : bits_of_codes codes ≡ take (67 * length codes) given
+  pub means : words ≡ map word_of_code codes
+  pub legal : all_legal words
+
+-- ---- a word as it is taken, and words one after another
+
+-- the state of the key after a word, and the word under it
+abbrev pub next_state : ℕ → ℕ
+next_state state = state_before (start_of state) 1
+
+abbrev pub keyed_word : ℕ → RxWord → RxWord
+keyed_word state word = unscrambled (key_word (start_of state) 0) word
+
+abbrev pub key_ran : ℕ → List RxWord → ℕ
+key_ran state [] = state
+key_ran state (w ∷ ws) = key_ran (next_state state) ws
+
+abbrev pub keyed_words : ℕ → List RxWord → List RxWord
+keyed_words state [] = []
+keyed_words state (w ∷ ws) = keyed_word state w ∷ keyed_words (next_state state) ws
+
+abbrev pub inside_ran : InsideState → RxWord → InsideState
+inside_ran v word = passed (with_key v (next_state v.state)) (is_bad word) (number_of (keyed_word v.state word))
+
+abbrev pub insides_ran : InsideState → List RxWord → InsideState
+insides_ran v [] = v
+insides_ran v (w ∷ ws) = insides_ran (inside_ran v w) ws
+
+-- a legal header, and this many of them
+abbrev pub header_ran : HeaderCount → HeaderCount
+header_ran v = record { place = if v.place == 63 then 0 else v.place + 1; illegal = if v.place == 63 then 0 else v.illegal }
+
+abbrev pub headers_ran : HeaderCount → ℕ → HeaderCount
+headers_ran v zero = v
+headers_ran v (suc n) = headers_ran (header_ran v) n
+
+abbrev pub word_ran : RunState → RxWord → RunState
+word_ran v word = record { headers = header_ran v.headers; inside = inside_ran v.inside word }
+
+abbrev pub words_ran : RunState → List RxWord → RunState
+words_ran v [] = v
+words_ran v (w ∷ ws) = words_ran (word_ran v w) ws

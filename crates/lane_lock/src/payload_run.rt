@@ -4,7 +4,7 @@ ghost use Rattle.lane_lock.specs.declared.passing.Passing.TheVariants as passing
 ghost use Rattle.lane_lock.specs.Counts.{CountsNothing};
 ghost use Rattle.lane_model.specs.declared.role.Role.TheVariants as roles;
 ghost use Rattle.lane_lock.specs.Inside.{payload_number, payloads_left};
-ghost use Rattle.lane_lock.specs.Run.{run_of, watch_ran};
+ghost use Rattle.lane_lock.specs.Run.{all_legal, keyed_word, keyed_words, run_of, watch_ran, word_ran, words_ran};
 ghost use Rattle.lane_lock.specs.Watch.{WatchState};
 ghost use Rattle.lane_lock.specs.Watching.{Answers};
 
@@ -62,9 +62,23 @@ impl PayloadRun {
         ensures counts { CountsNothing result }
         ensures role { result.role ≡ roles.Payload (payload_number self.old.inside) }
         ensures moves { (self.new.inside.settings ≡ self.old.inside.settings) × (self.new.inside.position ≡ self.old.inside.position + 1) }
+        ensures value { (result.word ≡ keyed_word self.old.inside.state word) × (self.new ≡ word_ran self.old word) }
         ensures answer { (v : WatchState) → v.declared ≡ true → run_of v ≡ self.old → Answers (passings.Inside result) v (watch_ran v 1 self.new) word }
     {
         let _kept = self.headers.word(false);
         self.inside.payload(word)
+    }
+
+    /// Takes the next eight words, which are payload words with legal headers, as eight calls of `payload` do, and returns them as
+    /// they are received.
+    #[inline(always)]
+    pub fn payload_eight(&mut self, words: &[RxWord; 8]) -> [RxWord; 8]
+        requires ahead { 8 ≤ payloads_left self.old.inside }
+        requires legal { all_legal words.now }
+        ensures words { result ≡ keyed_words self.old.inside.state words.now }
+        ensures value { self.new ≡ words_ran self.old words.now }
+    {
+        self.headers.legal(8);
+        self.inside.payload_eight(words)
     }
 }

@@ -1,9 +1,14 @@
-ghost use Rattle.std.specs.Prelude.{◌≡◌, ◌<◌, ◌≤◌, ◌+◌, ◌*◌, ◌^◌, drop, length, take};
+ghost use Rattle.std.specs.Prelude.{◌≡◌, ◌<◌, ◌≤◌, ◌+◌, ◌*◌, ◌^◌, drop, length, take, IfSome};
 ghost use Rattle.lk_base.specs.Checksum.{bits_of, bits_of_bytes};
+ghost use Rattle.lane_lock.specs.Run.{AreWordsOf};
 
-use crate::words::last_bits;
+use crate::words::{is_bad, last_bits};
+use coding_67b::decode;
 use lane_model::CODE_BITS;
-use lk_base::eight_at;
+use lk_base::{RxWord, eight_at};
+
+// The bytes of eight codes.
+const EIGHT_BYTES: usize = 67;
 
 /// Some bits of bytes from bit `at` on as a number, the first of them highest. There are at least eight bytes.
 pub fn bits_at(bytes: &[u8], at: usize, width: u32) -> u64
@@ -37,4 +42,34 @@ pub fn code_at(bytes: &[u8], at: usize) -> u128
     let low = eight_at(bytes, place + 8);
     // The remainder is the count; with it the shift is known to be below 64.
     ((high as u128) << 64 | low as u128) >> (after % 64) & ((1 << CODE_BITS) - 1)
+}
+
+/// The words of the eight codes that begin with bit `at` of bytes, as eight calls of `code_at` give the codes, where that is the
+/// first bit of a byte and each header is legal.
+#[inline(always)]
+pub fn eight_words(bytes: &[u8], at: usize) -> Option<[RxWord; 8]>
+    requires there { at + 536 ≤ 8 * length bytes.now }
+    ensures { IfSome result (λ words. (length words ≡ 8) × AreWordsOf words (drop at (bits_of_bytes bytes.now))) }
+{
+    if at % 8 > 0 {
+        return None;
+    }
+    words_of(&bytes[at / 8..at / 8 + EIGHT_BYTES])
+}
+
+// The words of the eight codes of 67 bytes, where each header is legal.
+#[inline(always)]
+fn words_of(bytes: &[u8]) -> Option<[RxWord; 8]>
+    requires { length bytes.now ≡ 67 }
+    ensures { IfSome result (λ words. (length words ≡ 8) × AreWordsOf words (bits_of_bytes bytes.now)) }
+{
+    let mut words = [RxWord::Bad; 8];
+    for place in 0..8 {
+        let word = decode(code_at(bytes, CODE_BITS as usize * place));
+        if is_bad(word) {
+            return None;
+        }
+        words[place] = word;
+    }
+    Some(words)
 }
