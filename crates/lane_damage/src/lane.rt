@@ -72,10 +72,8 @@ impl LaneOnWay {
         if let Some(why) = self.flip_refusal(bit) {
             return Err(why);
         }
-        match self.flips.push(bit) {
-            Ok(()) => Ok(()),
-            Err(_) => Err(Refused::OutOfMemory),
-        }
+        self.flips.push(bit)?;
+        Ok(())
     }
 
     // Why a dark stretch is refused.
@@ -102,10 +100,8 @@ impl LaneOnWay {
             first: first.max(self.next_bit()),
             end: first + count,
         };
-        match self.darks.push(stretch) {
-            Ok(()) => Ok(()),
-            Err(_) => Err(Refused::OutOfMemory),
-        }
+        self.darks.push(stretch)?;
+        Ok(())
     }
 
     // Why a piece of this many bytes is refused.

@@ -1,5 +1,7 @@
 //! Why a call is refused.
 
+use std::alloc::AllocFailed;
+
 /// Why a call is refused.
 #[derive(Clone, Copy, Debug, PartialEq, Eq)]
 pub enum Refused {
@@ -13,4 +15,15 @@ pub enum Refused {
     TooMany,
     /// Memory ran out.
     OutOfMemory,
+}
+
+impl<T: Drop> From<AllocFailed<T>> for Refused {
+    ghost use Rattle.std.specs.Prelude.{◌≡◌};
+    ghost use Rattle.lane_damage.specs.declared.refused.Refused.TheVariants as refusals;
+
+    ghost from_gives = { λ _ e. e ≡ refusals.OutOfMemory };
+
+    fn from(_: AllocFailed<T>) -> Refused {
+        Refused::OutOfMemory
+    }
 }
