@@ -8,10 +8,10 @@ ghost use Rattle.lane_events.specs.Inspection.{Finds, Inspects, IsShown, events_
 
 use crate::told::{balance_after, balance_before, told};
 use crate::types::LaneEvent;
-use crate::windows::{code_in, number_of, pushed};
+use crate::windows::{code_in, number_at, pushed};
 use crate::word_events::WordEvents;
 use lane_lock::{Completed, LaneLock};
-use lk_base::{Link, OutOfMemory, head, tail};
+use lk_base::{Link, OutOfMemory};
 use lock_model::LaneReport;
 use std::alloc::Global;
 use std::marker::Model;
@@ -124,8 +124,7 @@ impl LaneInspector {
         let mut at = 0;
         while at < bytes.len() {
             let count = (bytes.len() - at).min(PIECE);
-            let piece = head(tail(bytes, at), count);
-            let word = self.take(number_of(piece), count as u32);
+            let word = self.take(number_at(bytes, at, count), count as u32);
             word.append_to(found)?;
             at += count;
         }

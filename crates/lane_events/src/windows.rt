@@ -1,7 +1,8 @@
-ghost use Rattle.std.specs.Prelude.{◌≡◌, ◌<◌, ◌≤◌, ◌+◌, ◌*◌, ◌/◌, ◌%◌, ◌^◌, length};
+ghost use Rattle.std.specs.Prelude.{◌≡◌, ◌<◌, ◌≤◌, ◌+◌, ◌-◌, ◌*◌, ◌/◌, ◌%◌, ◌^◌, length, take, drop};
 ghost use Rattle.lk_base.specs.Checksum.{bits_of, bits_of_bytes};
 
 use lane_model::CODE_BITS;
+use lk_base::{eight_at, head, tail};
 
 /// The number of the bits of at most seven bytes, the first of them highest.
 pub fn number_of(piece: &[u8]) -> u64
@@ -14,6 +15,32 @@ pub fn number_of(piece: &[u8]) -> u64
         bits = bits * 256 + *byte as u64;
     }
     bits
+}
+
+/// The number of the bits of this many bytes, at most seven, from this place on, the first of them highest.
+#[inline(always)]
+pub fn number_at(bytes: &[u8], at: usize, count: usize) -> u64
+    requires some { 1 ≤ count }
+    requires most { count ≤ 7 }
+    requires there { at + count ≤ length bytes.now }
+    ensures bits { bits_of (8 * count) result ≡ bits_of_bytes (take count (drop at bytes.now)) }
+    ensures below { result < 2 ^ (8 * count) }
+{
+    if bytes.len() - at < 8 {
+        return number_of(head(tail(bytes, at), count));
+    }
+    first_of(eight_at(bytes, at), count as u32)
+}
+
+// The number of the first bits of eight bytes, those of this many bytes.
+#[inline(always)]
+fn first_of(bits: u64, count: u32) -> u64
+    requires some { 1 ≤ count }
+    requires most { count ≤ 7 }
+    ensures value { result ≡ bits / 2 ^ (64 - 8 * count) }
+    ensures below { result < 2 ^ (8 * count) }
+{
+    bits >> (64 - 8 * count)
 }
 
 /// The last 128 bits after this many bits more, the latest in bit 0.

@@ -1,4 +1,4 @@
-ghost use Rattle.std.specs.Prelude.{◌≡◌, ◌≤◌, ◌+◌, ◌*◌, [], ◌∷◌, false, ◌++◌, OnOk, filter, length, map, if◌then◌else◌};
+ghost use Rattle.std.specs.Prelude.{◌≡◌, ◌≤◌, ◌+◌, ◌*◌, [], ◌∷◌, false, true, ◌++◌, OnOk, filter, length, map, if◌then◌else◌};
 ghost use Rattle.lane_events.specs.Events.{all_kinds};
 ghost use Rattle.lane_events.specs.Inspection.{event_of};
 ghost use Rattle.lane_events.specs.Inspection.{events_in, has_kind};
@@ -84,11 +84,24 @@ impl WordEvents {
         }
     }
 
+    /// Whether the word has no event.
+    pub fn is_empty(&self) -> bool
+        ensures { result ≡ true → events_in self.now ≡ [] }
+    {
+        let wrong = self.bad || self.sync || self.state || self.skip || self.diag || self.health;
+        let balance = self.balance || self.lock;
+        let lost = self.lost_headers || self.lost_sync || self.lost_state || self.unframed;
+        !wrong && !balance && !lost
+    }
+
     /// Appends the events of the word, in order: at most twelve.
     pub fn append_to(&self, found: &mut Vec<LaneEvent>) -> Result<(), OutOfMemory>
         ensures appended { OnOk result (found.new.items ≡ found.old.items ++ events_in self.now) }
         ensures few { OnOk result (length found.new.items ≤ length found.old.items + 12) }
     {
+        if self.is_empty() {
+            return Ok(());
+        }
         self.append_kinds(&KINDS, found)
     }
 

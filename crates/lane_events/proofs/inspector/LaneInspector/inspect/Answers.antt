@@ -1,7 +1,6 @@
 -- Piece by piece.
 use Rattle.std.proofs.Common.{◌+◌, ◌≤◌, length, arith}
 use Rattle.lane_events.proofs.Appending.{found_all, found_more}
-use Rattle.lane_events.proofs.Pieces.{piece_numbered}
 use Rattle.lane_events.proofs.inspector.LaneInspector.inspect.Goals as goal
 
 pub loop-at-preserved : goal.loop-at-preserved
@@ -19,8 +18,8 @@ loop-at-preserved c =
     record {
       there = there;
       taken = omega (arith, before, taken);
-      finds = found_more c.args.self.now c.loop-at.self c.take-word.new.self bytes at count c.number_of.result c.take-word.result c.args.found.now.items c.loop-at.found.items c.append_to.new.found.items
-          (piece_numbered bytes c.tail.result.now c.head-piece.result.now at count c.number_of.result there c.tail.ensures c.head-piece.ensures c.number_of.ensures.bits) c.loop-at.invariant.finds
+      finds = found_more c.args.self.now c.loop-at.self c.take-word.new.self bytes at count c.number_at.result c.take-word.result c.args.found.now.items c.loop-at.found.items c.append_to.new.found.items
+          c.number_at.ensures.bits c.loop-at.invariant.finds
           c.take-word.ensures.inspects c.take-word.ensures.events c.in_ok-append_to.ensures.appended;
       few = omega (arith, least, some, few, more);
     }
