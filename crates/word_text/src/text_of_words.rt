@@ -12,7 +12,7 @@ use crate::word::FileWord;
 use byteorder::{BigEndian, ByteOrder};
 use lk_base::OutOfMemory;
 use std::alloc::Global;
-use words_files::WordsError;
+use words_files::{BAD_TAG, CONTROL_TAG, DATA_TAG, WORD_BYTES, WordsError};
 
 // The word in nine bytes whose first is 1, 2 or 3.
 fn word_in(bytes: &[u8]) -> FileWord
@@ -23,9 +23,9 @@ fn word_in(bytes: &[u8]) -> FileWord
 {
     let number = BigEndian::read_u64(&bytes[1..]);
     let tag = bytes[0];
-    if tag == 1 {
+    if tag == DATA_TAG {
         FileWord::Data(number)
-    } else if tag == 2 {
+    } else if tag == CONTROL_TAG {
         FileWord::Control(number)
     } else {
         FileWord::Bad(number)
@@ -38,10 +38,10 @@ fn first_word(offset: u64, bytes: &[u8]) -> Result<FileWord, WordsError>
     ensures word { IfOk result (λ word. IsSized word × (9 ≤ length bytes.now) × (take 9 bytes.now ≡ nine_bytes word)) }
     ensures refusal { IfErr result (λ e. first_refusal offset (take 9 bytes.now) ≡ Some e) }
 {
-    if !matches!(bytes[0], 1 | 2 | 3) {
+    if !matches!(bytes[0], DATA_TAG | CONTROL_TAG | BAD_TAG) {
         return Err(WordsError::Tag(offset));
     }
-    if bytes.len() < 9 {
+    if bytes.len() < WORD_BYTES {
         return Err(WordsError::Short(offset));
     }
     Ok(word_in(bytes))
@@ -79,8 +79,8 @@ fn put_words_text(
             Err(refusal) => return Ok(Err(refusal)),
         };
         put_word(&mut line, out, word)?;
-        rest = after(rest, 9);
-        offset += 9;
+        rest = after(rest, WORD_BYTES);
+        offset += WORD_BYTES as u64;
         count += 1;
     }
     Ok(Ok(count))

@@ -11,16 +11,16 @@ use crate::word_of_line::word_of;
 use byteorder::{BigEndian, ByteOrder};
 use lk_base::OutOfMemory;
 use std::alloc::Global;
-use words_files::TextError;
+use words_files::{BAD_TAG, CONTROL_TAG, DATA_TAG, TextError};
 
 // The first byte of a word.
 fn tag_of(word: FileWord) -> u8
     ensures { result ≡ tag_in word }
 {
     match word {
-        FileWord::Data(_) => 1,
-        FileWord::Control(_) => 2,
-        FileWord::Bad(_) => 3,
+        FileWord::Data(_) => DATA_TAG,
+        FileWord::Control(_) => CONTROL_TAG,
+        FileWord::Bad(_) => BAD_TAG,
     }
 }
 
