@@ -1,0 +1,61 @@
+-- What calls ask of the lanes of a link, and what they make of each.
+use Rattle.std.specs.Prelude.{ℕ, ◌≡◌, ◌<◌, ◌+◌, ◌==◌, cond, Bool, true, false, List, [], ◌∷◌, ◌++◌, length, map, get_or, drop, nat_le}
+use Rattle.std.specs.List.{list_all}
+use Rattle.lk_base.specs.declared.word.Word.{Word}
+use Rattle.lk_base.specs.Link.{Settings}
+use Rattle.lane_model.specs.Framing.{role_of}
+use Rattle.metaframe.specs.Writing.{is_payload}
+use Rattle.tx_end.specs.Lanes.{Carries, IsCarried}
+use Rattle.live_lanes.specs.States.{Lane, Lanes}
+
+-- ---- what can be asked
+
+-- there is room for the bytes of one word more: nine at most
+abbrev pub lane_has_room : Lane → Bool
+lane_has_room l = nat_le (length l.waiting + 9) 4096
+
+-- on each lane
+abbrev pub has_room : Lanes → Bool
+has_room v = list_all lane_has_room v.lanes
+
+-- the next word of each lane is a payload word
+abbrev pub wants_payload : Lanes → Bool
+wants_payload v = is_payload (role_of v.link v.place)
+
+-- the bytes of lane number i that are made and not taken; none where there is no such lane
+abbrev pub waiting_on : ℕ → Lanes → List ℕ
+waiting_on i v = get_or (map (λ (l : Lane). l.waiting) v.lanes) i []
+
+-- ---- what is made
+
+-- whatever a lane carried in its bytes it carries still, and one framing word more
+abbrev pub MakesFraming : Lane → Lane → Type 0
+MakesFraming old new = (s : Settings) (lane : ℕ) (given : List Word) (made : ℕ) (taken : List ℕ) →
+    Carries old.writer s lane given made (taken ++ old.waiting) → Carries new.writer s lane given (made + 1) (taken ++ new.waiting)
+
+-- and one payload word more
+abbrev pub MakesPayload : Word → Lane → Lane → Type 0
+MakesPayload word old new = (s : Settings) (lane : ℕ) (given : List Word) (made : ℕ) (taken : List ℕ) →
+    Carries old.writer s lane given made (taken ++ old.waiting) → Carries new.writer s lane (given ++ word ∷ []) (made + 1) (taken ++ new.waiting)
+
+-- and its bytes are all, the last with zeros after the last bits
+abbrev pub MakesEnd : Lane → Lane → Type 0
+MakesEnd old new = (s : Settings) (lane : ℕ) (given : List Word) (made : ℕ) (taken : List ℕ) →
+    Carries old.writer s lane given made (taken ++ old.waiting) → IsCarried s lane given made (taken ++ new.waiting)
+
+-- it has more bytes than before
+abbrev pub IsLonger : Lane → Lane → Type 0
+IsLonger old new = length old.waiting < length new.waiting
+
+-- each lane of one list is so to the one at its place in the other
+pub record AreEach (R : ℕ → Lane → Lane → Type 0) (old new : List Lane) : Type 0 where
+  pub same : length new ≡ length old
+  pub each : (i : ℕ) (d e : Lane) → i < length old → R i (get_or old i d) (get_or new i e)
+
+-- on each lane more bytes wait than before
+abbrev pub AreLonger : Lanes → Lanes → Type 0
+AreLonger old new = (i : ℕ) → i < length old.lanes → length (waiting_on i old) < length (waiting_on i new)
+
+-- the first n of the bytes that waited on a lane are gone, and the others wait as before
+abbrev pub AreGone : ℕ → ℕ → Lanes → Lanes → Type 0
+AreGone lane n old new = (i : ℕ) → waiting_on i new ≡ cond (i == lane) (drop n (waiting_on i old)) (waiting_on i old)

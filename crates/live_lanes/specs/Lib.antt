@@ -1,0 +1,4 @@
+pub mod States
+pub mod Lanes
+pub mod Standing
+pub mod Laws

@@ -1,0 +1,70 @@
+//! One word of each lane, and what is asked of all.
+ghost use Rattle.std.specs.Prelude.{◌≡◌, ◌<◌, ℕ, [], true, false, length, get_or, slice_index_or, All, IfOk};
+ghost use Rattle.lk_base.specs.declared.word.Word.TheVariants.{Data};
+ghost use Rattle.std.specs.List.{list_all};
+ghost use Rattle.metaframe.specs.Writing.{wants_payload};
+ghost use Rattle.tx_end.specs.Lanes.{Carries};
+ghost use Rattle.live_lanes.specs.States.{Lane};
+ghost use Rattle.live_lanes.specs.Lanes.{AreEach, IsLonger, MakesEnd, MakesFraming, MakesPayload, lane_has_room};
+
+use crate::lane::LiveLane;
+use lk_base::{Link, OutOfMemory, Word};
+use std::alloc::Global;
+
+/// The lanes of a link before their first words.
+pub fn make_lanes(alloc: Global, link: &Link) -> Result<Vec<LiveLane>, OutOfMemory>
+    ensures count { IfOk result (λ lanes. length lanes.items ≡ link.now.lanes) }
+    ensures made { IfOk result (λ lanes. (i : ℕ) (d : Lane) → i < link.now.lanes → Carries (get_or lanes.items i d).writer link.now i [] 0 [] × ((get_or lanes.items i d).waiting ≡ [])) }
+{
+    let mut lanes = Vec::new(alloc);
+    for number in 0..link.lanes() {
+        let lane = LiveLane::new(alloc, link, number)?;
+        lanes.push(lane)?;
+    }
+    Ok(lanes)
+}
+
+/// Whether each lane has room for the bytes of one word more.
+pub fn have_room(lanes: &[LiveLane]) -> bool
+    ensures { result ≡ list_all lane_has_room lanes.now }
+{
+    for lane in lanes {
+        if !lane.has_room() {
+            return false;
+        }
+    }
+    true
+}
+
+/// Each lane makes its next word, a framing word.
+pub fn frame_each(lanes: &mut [LiveLane])
+    requires room { list_all lane_has_room lanes.old ≡ true }
+    requires wants { All (λ l. wants_payload l.writer.framing ≡ false) lanes.old }
+    ensures { AreEach (λ i old new. MakesFraming old new × IsLonger old new) lanes.old lanes.new }
+{
+    for i in 0..lanes.len() {
+        lanes[i].frame();
+    }
+}
+
+/// Each lane makes its next word, a payload word, of these in the order of lanes.
+pub fn put_each(lanes: &mut [LiveLane], words: &[Word])
+    requires room { list_all lane_has_room lanes.old ≡ true }
+    requires wants { All (λ l. wants_payload l.writer.framing ≡ true) lanes.old }
+    requires count { length words.now ≡ length lanes.old }
+    ensures { AreEach (λ i old new. MakesPayload (get_or words.now i (Data 0)) old new × IsLonger old new) lanes.old lanes.new }
+{
+    for i in 0..lanes.len() {
+        lanes[i].put(words[i]);
+    }
+}
+
+/// Each lane makes its last byte, where bits are left.
+pub fn finish_each(lanes: &mut [LiveLane])
+    requires { list_all lane_has_room lanes.old ≡ true }
+    ensures { AreEach (λ i. MakesEnd) lanes.old lanes.new }
+{
+    for i in 0..lanes.len() {
+        lanes[i].finish();
+    }
+}

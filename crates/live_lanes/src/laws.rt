@@ -1,0 +1,17 @@
+//! The laws on the bytes that are taken of lanes.
+ghost use Rattle.live_lanes.specs.Laws.{AllTakenAreTheFile, AreInStep, TakenAreFirst};
+
+/// What was taken of a lane, in whatever pieces, is the first of the file of that lane, whatever payload words follow.
+pub fn taken_are_first()
+    ensures { TakenAreFirst }
+{}
+
+/// Once the lanes have ended, what was taken of a lane is its file where nothing waits.
+pub fn all_taken_are_the_file()
+    ensures { AllTakenAreTheFile }
+{}
+
+/// On each lane as many bytes were taken or wait as on each other.
+pub fn are_in_step()
+    ensures { AreInStep }
+{}

@@ -1,0 +1,161 @@
+ghost use Rattle.std.specs.Prelude.{◌≡◌, ◌++◌, ◌==◌, ℕ, true, false, length, take, drop, min, IfOk};
+ghost use Rattle.live_lanes.specs.Lanes.{AreGone, AreLonger, has_room, waiting_on, wants_payload};
+ghost use Rattle.live_lanes.specs.Standing.{Progress, Stands, begun, framed, took, with_row};
+
+use crate::columns::{finish_each, frame_each, have_room, make_lanes, put_each};
+use crate::lane::LiveLane;
+use lk_base::{Link, OutOfMemory, Word};
+use std::alloc::Global;
+use std::marker::Model;
+
+/// The lanes of a link as they are sent. All are in step: each call makes one word of each lane, and the whole bytes of it wait in
+/// the lane's ring, of 4,096 bytes, until they are taken.
+#[derive(Drop)]
+pub struct LiveLanes {
+    link: Link,
+    lanes: Vec<LiveLane>,
+    /// The place of the next words in their metaframe.
+    place: u32,
+    /// Each lane has its last byte.
+    ended: bool,
+}
+
+impl Model for LiveLanes {
+    ghost use Rattle.live_lanes.specs.States.{Lanes, lanes_of};
+    ghost use Rattle.live_lanes.specs.Standing.{Progress, Stands};
+
+    ghost Value = { Lanes };
+
+    ghost view = { λ a. lanes_of a.link a.lanes.items a.place a.ended };
+
+    ghost invariant = { λ a. (p : Progress) × Stands (lanes_of a.link a.lanes.items a.place a.ended) p };
+}
+
+impl LiveLanes {
+    /// The lanes of a link before their first words. They take memory here, and no later call does.
+    ///
+    /// # Errors
+    ///
+    /// `OutOfMemory` where memory ran out, and nowhere else.
+    pub fn new(alloc: Global, link: &Link) -> Result<LiveLanes, OutOfMemory>
+        ensures { IfOk result (λ v. Stands v (begun link.now) × (v.ended ≡ false)) }
+    {
+        // proof: the settings of a link are within their limits
+        link.keeps_limits();
+        let lanes = make_lanes(alloc, link)?;
+        Ok(LiveLanes {
+            link: *link,
+            lanes,
+            place: 0,
+            ended: false,
+        })
+    }
+
+    /// How many lanes there are: 1 to 64.
+    pub fn count(&self) -> usize
+        ensures { result ≡ length self.now.lanes }
+    {
+        self.lanes.len()
+    }
+
+    /// Whether each ring has room for the bytes of one word more: 9 at most.
+    pub fn has_room(&self) -> bool
+        ensures { result ≡ has_room self.now }
+    {
+        have_room(&self.lanes)
+    }
+
+    /// Whether the next word of each lane is a payload word; else each is a framing word. Once the lanes have ended it is false.
+    pub fn wants_payload(&self) -> bool
+        ensures { result ≡ wants_payload self.now }
+    {
+        !self.ended && self.lanes[0].wants_payload()
+    }
+
+    /// Whether each lane made whole metaframes.
+    pub fn is_whole(&self) -> bool
+        ensures { result ≡ (self.now.place == 0) }
+    {
+        self.place == 0
+    }
+
+    /// Whether the lanes have ended.
+    pub fn has_ended(&self) -> bool
+        ensures { result ≡ self.now.ended }
+    {
+        self.ended
+    }
+
+    /// How many bytes of a lane wait: none where there is no such lane.
+    pub fn waiting(&self, lane: u32) -> usize
+        ensures { result ≡ length (waiting_on lane self.now) }
+    {
+        let at = lane as usize;
+        if at >= self.lanes.len() {
+            return 0;
+        }
+        self.lanes[at].waiting()
+    }
+
+    // Each lane made a word.
+    fn pass(&mut self) {
+        self.place += 1;
+        if self.place == self.link.metaframe() {
+            self.place = 0;
+        }
+    }
+
+    /// Makes the next word of each lane, where it is a framing word.
+    pub fn frame(&mut self)
+        requires open { self.old.ended ≡ false }
+        requires room { has_room self.old ≡ true }
+        requires wants { wants_payload self.old ≡ false }
+        ensures stands { (p : Progress) → Stands self.old p → Stands self.new (framed p) }
+        ensures longer { AreLonger self.old self.new }
+        ensures open { self.new.ended ≡ false }
+    {
+        frame_each(&mut self.lanes);
+        self.pass();
+    }
+
+    /// Makes the next word of each lane, where it is a payload word, of these in the order of lanes: one for each.
+    pub fn put(&mut self, words: &[Word])
+        requires open { self.old.ended ≡ false }
+        requires room { has_room self.old ≡ true }
+        requires wants { wants_payload self.old ≡ true }
+        requires count { length words.now ≡ length self.old.lanes }
+        ensures stands { (p : Progress) → Stands self.old p → Stands self.new (with_row words.now p) }
+        ensures longer { AreLonger self.old self.new }
+        ensures open { self.new.ended ≡ false }
+    {
+        put_each(&mut self.lanes, words);
+        self.pass();
+    }
+
+    /// Ends the lanes after whole metaframes: each makes its last byte of the bits that are left, and zeros after them.
+    pub fn finish(&mut self)
+        requires open { self.old.ended ≡ false }
+        requires room { has_room self.old ≡ true }
+        requires whole { self.old.place ≡ 0 }
+        ensures stands { (p : Progress) → Stands self.old p → Stands self.new p }
+        ensures ended { self.new.ended ≡ true }
+    {
+        finish_each(&mut self.lanes);
+        self.ended = true;
+    }
+
+    /// Takes the next bytes of a lane, as many as wait and there is room for, and returns how many: none where there is no such lane.
+    pub fn take(&mut self, lane: u32, out: &mut [u8]) -> usize
+        ensures count { result ≡ min (length out.old) (length (waiting_on lane self.old)) }
+        ensures copied { out.new ≡ take result (waiting_on lane self.old) ++ drop result out.old }
+        ensures gone { AreGone lane result self.old self.new }
+        ensures stands { (p : Progress) → Stands self.old p → Stands self.new (took lane (take result (waiting_on lane self.old)) p) }
+        ensures ended { self.new.ended ≡ self.old.ended }
+    {
+        let at = lane as usize;
+        if at >= self.lanes.len() {
+            return 0;
+        }
+        self.lanes[at].take(out)
+    }
+}
