@@ -28,24 +28,26 @@ waiting_on i v = get_or (map (λ (l : Lane). l.waiting) v.lanes) i []
 
 -- ---- what is made
 
--- whatever a lane carried in its bytes it carries still, and one framing word more
+-- A lane made one word more, and what it was given is now this: whatever it carried in its bytes it carries still.
+pub record MakesWord (now_given : List Word → List Word) (old new : Lane) : Type 0 where
+  pub carries : (s : Settings) (lane : ℕ) (given : List Word) (made : ℕ) (taken : List ℕ) →
+      Carries old.writer s lane given made (taken ++ old.waiting) → Carries new.writer s lane (now_given given) (made + 1) (taken ++ new.waiting)
+  -- the whole bytes of it wait
+  pub few : length new.writer.bits < 8
+  pub longer : length old.waiting < length new.waiting
+
+-- it is a framing word
 abbrev pub MakesFraming : Lane → Lane → Type 0
-MakesFraming old new = (s : Settings) (lane : ℕ) (given : List Word) (made : ℕ) (taken : List ℕ) →
-    Carries old.writer s lane given made (taken ++ old.waiting) → Carries new.writer s lane given (made + 1) (taken ++ new.waiting)
+MakesFraming old new = MakesWord (λ given. given) old new
 
--- and one payload word more
+-- it is this payload word
 abbrev pub MakesPayload : Word → Lane → Lane → Type 0
-MakesPayload word old new = (s : Settings) (lane : ℕ) (given : List Word) (made : ℕ) (taken : List ℕ) →
-    Carries old.writer s lane given made (taken ++ old.waiting) → Carries new.writer s lane (given ++ word ∷ []) (made + 1) (taken ++ new.waiting)
+MakesPayload word old new = MakesWord (λ given. given ++ word ∷ []) old new
 
--- and its bytes are all, the last with zeros after the last bits
+-- its bytes are all, the last with zeros after the last bits
 abbrev pub MakesEnd : Lane → Lane → Type 0
 MakesEnd old new = (s : Settings) (lane : ℕ) (given : List Word) (made : ℕ) (taken : List ℕ) →
     Carries old.writer s lane given made (taken ++ old.waiting) → IsCarried s lane given made (taken ++ new.waiting)
-
--- it has more bytes than before
-abbrev pub IsLonger : Lane → Lane → Type 0
-IsLonger old new = length old.waiting < length new.waiting
 
 -- each lane of one list is so to the one at its place in the other
 pub record AreEach (R : ℕ → Lane → Lane → Type 0) (old new : List Lane) : Type 0 where

@@ -1,10 +1,11 @@
 -- The laws on the bytes that are taken of lanes.
-use Rattle.std.specs.Prelude.{ℕ, ◌≡◌, ◌<◌, ◌≤◌, ◌*◌, ◌/◌, ◌%◌, true, List, [], ◌++◌, length, take}
+use Rattle.std.specs.Prelude.{ℕ, ◌≡◌, ◌<◌, ◌≤◌, ◌*◌, ◌/◌, ◌%◌, true, false, List, [], ◌++◌, length, get_or, take}
 use Rattle.lk_base.specs.declared.word.Word.{Word}
 use Rattle.lk_base.specs.Link.{group_of}
 use Rattle.lane_model.specs.LaneBits.{IsFileOf, stream_lane_bits}
-use Rattle.live_lanes.specs.States.{Lanes}
-use Rattle.live_lanes.specs.Lanes.{waiting_on}
+use Rattle.metaframe.specs.Writing as metaframe
+use Rattle.live_lanes.specs.States.{Lane, Lanes}
+use Rattle.live_lanes.specs.Lanes.{waiting_on, wants_payload}
 use Rattle.live_lanes.specs.Standing.{Progress, Stands}
 
 -- What was taken of a lane is the first of its file, whatever payload words follow: where these and the ones that were given fill the
@@ -23,3 +24,8 @@ AllTakenAreTheFile = (v : Lanes) (p : Progress) (i : ℕ) → Stands v p → v.e
 abbrev pub AreInStep : Type 0
 AreInStep = (v : Lanes) (p : Progress) (i j : ℕ) → Stands v p → i < p.settings.lanes → j < p.settings.lanes →
     length (p.taken i ++ waiting_on i v) ≡ length (p.taken j ++ waiting_on j v)
+
+-- Until the lanes have ended the next word of each is of the kind that all want.
+abbrev pub AllWantTheSame : Type 0
+AllWantTheSame = (v : Lanes) (p : Progress) (i : ℕ) (d : Lane) → Stands v p → v.ended ≡ false → i < p.settings.lanes →
+    metaframe.wants_payload (get_or v.lanes i d).writer.framing ≡ wants_payload v

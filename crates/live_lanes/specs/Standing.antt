@@ -35,7 +35,7 @@ took lane bytes p = progress p.settings p.payload p.columns (λ i. cond (i == la
 -- The bytes that were taken of a lane, and the ones that wait, are those of as many words as each lane made, of the lane's own
 -- payload words: the whole bytes of these, and once it has ended all.
 abbrev pub IsSent : Bool → Progress → ℕ → Lane → Type 0
-IsSent false p i l = Carries l.writer p.settings i (lane_payload p.settings.lanes p.payload i) p.columns (p.taken i ++ l.waiting)
+IsSent false p i l = Carries l.writer p.settings i (lane_payload p.settings.lanes p.payload i) p.columns (p.taken i ++ l.waiting) × (length l.writer.bits < 8)
 IsSent true p i l = IsCarried p.settings i (lane_payload p.settings.lanes p.payload i) p.columns (p.taken i ++ l.waiting)
 
 pub record Stands (v : Lanes) (p : Progress) : Type 0 where

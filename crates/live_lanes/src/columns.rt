@@ -1,11 +1,11 @@
 //! One word of each lane, and what is asked of all.
-ghost use Rattle.std.specs.Prelude.{◌≡◌, ◌<◌, ℕ, [], true, false, length, get_or, slice_index_or, All, IfOk};
+ghost use Rattle.std.specs.Prelude.{◌≡◌, ◌<◌, ◌+◌, ◌%◌, ℕ, [], true, false, length, get_or, All, IfOk};
 ghost use Rattle.lk_base.specs.declared.word.Word.TheVariants.{Data};
 ghost use Rattle.std.specs.List.{list_all};
 ghost use Rattle.metaframe.specs.Writing.{wants_payload};
 ghost use Rattle.tx_end.specs.Lanes.{Carries};
 ghost use Rattle.live_lanes.specs.States.{Lane};
-ghost use Rattle.live_lanes.specs.Lanes.{AreEach, IsLonger, MakesEnd, MakesFraming, MakesPayload, lane_has_room};
+ghost use Rattle.live_lanes.specs.Lanes.{AreEach, MakesEnd, MakesFraming, MakesPayload, lane_has_room};
 
 use crate::lane::LiveLane;
 use lk_base::{Link, OutOfMemory, Word};
@@ -14,7 +14,7 @@ use std::alloc::Global;
 /// The lanes of a link before their first words.
 pub fn make_lanes(alloc: Global, link: &Link) -> Result<Vec<LiveLane>, OutOfMemory>
     ensures count { IfOk result (λ lanes. length lanes.items ≡ link.now.lanes) }
-    ensures made { IfOk result (λ lanes. (i : ℕ) (d : Lane) → i < link.now.lanes → Carries (get_or lanes.items i d).writer link.now i [] 0 [] × ((get_or lanes.items i d).waiting ≡ [])) }
+    ensures made { IfOk result (λ lanes. (i : ℕ) (d : Lane) → i < link.now.lanes → Carries (get_or lanes.items i d).writer link.now i [] 0 [] × (length (get_or lanes.items i d).writer.bits < 8) × ((get_or lanes.items i d).waiting ≡ [])) }
 {
     let mut lanes = Vec::new(alloc);
     for number in 0..link.lanes() {
@@ -40,7 +40,7 @@ pub fn have_room(lanes: &[LiveLane]) -> bool
 pub fn frame_each(lanes: &mut [LiveLane])
     requires room { list_all lane_has_room lanes.old ≡ true }
     requires wants { All (λ l. wants_payload l.writer.framing ≡ false) lanes.old }
-    ensures { AreEach (λ i old new. MakesFraming old new × IsLonger old new) lanes.old lanes.new }
+    ensures { AreEach (λ i. MakesFraming) lanes.old lanes.new }
 {
     for i in 0..lanes.len() {
         lanes[i].frame();
@@ -52,7 +52,7 @@ pub fn put_each(lanes: &mut [LiveLane], words: &[Word])
     requires room { list_all lane_has_room lanes.old ≡ true }
     requires wants { All (λ l. wants_payload l.writer.framing ≡ true) lanes.old }
     requires count { length words.now ≡ length lanes.old }
-    ensures { AreEach (λ i old new. MakesPayload (get_or words.now i (Data 0)) old new × IsLonger old new) lanes.old lanes.new }
+    ensures { AreEach (λ i. MakesPayload (get_or words.now i (Data 0))) lanes.old lanes.new }
 {
     for i in 0..lanes.len() {
         lanes[i].put(words[i]);
@@ -66,5 +66,19 @@ pub fn finish_each(lanes: &mut [LiveLane])
 {
     for i in 0..lanes.len() {
         lanes[i].finish();
+    }
+}
+
+/// The place after this one in the metaframes of a link.
+pub fn next_place(place: u32, link: &Link) -> u32
+    requires { place < link.now.metaframe }
+    ensures { result ≡ (place + 1) % link.now.metaframe }
+{
+    // proof: the settings of a link are within their limits, so the sum is no wide one
+    link.keeps_limits();
+    if place + 1 == link.metaframe() {
+        0
+    } else {
+        place + 1
     }
 }

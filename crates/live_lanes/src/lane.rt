@@ -3,7 +3,7 @@ ghost use Rattle.lk_base.specs.Link.{Settings};
 ghost use Rattle.lk_base.specs.declared.word.Word.{Word as SentWord};
 ghost use Rattle.metaframe.specs.Writing.{wants_payload};
 ghost use Rattle.tx_end.specs.Lanes.{Carries};
-ghost use Rattle.live_lanes.specs.Lanes.{IsLonger, MakesEnd, MakesFraming, MakesPayload, lane_has_room};
+ghost use Rattle.live_lanes.specs.Lanes.{MakesEnd, MakesFraming, MakesPayload, lane_has_room};
 
 use circular_buffer::HeapCircularBuffer;
 use lk_base::{Link, OutOfMemory, Word};
@@ -53,7 +53,7 @@ fn give_bytes(writer: &mut LaneWriter, ring: &mut HeapCircularBuffer<u8>)
 impl LiveLane {
     /// A lane before its first word. Lanes are numbered from 0. It takes memory here, and no later call does.
     pub fn new(alloc: Global, link: &Link, lane: u32) -> Result<LiveLane, OutOfMemory>
-        ensures { IfOk result (λ l. Carries l.writer link.now lane [] 0 [] × (l.waiting ≡ [])) }
+        ensures { IfOk result (λ l. Carries l.writer link.now lane [] 0 [] × (length l.writer.bits < 8) × (l.waiting ≡ [])) }
     {
         let ring = HeapCircularBuffer::with_capacity(alloc, ROOM)?;
         Ok(LiveLane {
@@ -87,8 +87,7 @@ impl LiveLane {
     pub fn frame(&mut self)
         requires room { lane_has_room self.old ≡ true }
         requires wants { wants_payload self.old.writer.framing ≡ false }
-        ensures makes { MakesFraming self.old self.new }
-        ensures longer { IsLonger self.old self.new }
+        ensures { MakesFraming self.old self.new }
     {
         self.writer.framing();
         give_bytes(&mut self.writer, &mut self.ring);
@@ -98,8 +97,7 @@ impl LiveLane {
     pub fn put(&mut self, word: Word)
         requires room { lane_has_room self.old ≡ true }
         requires wants { wants_payload self.old.writer.framing ≡ true }
-        ensures makes { MakesPayload word self.old self.new }
-        ensures longer { IsLonger self.old self.new }
+        ensures { MakesPayload word self.old self.new }
     {
         self.writer.payload(word);
         give_bytes(&mut self.writer, &mut self.ring);

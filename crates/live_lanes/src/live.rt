@@ -2,7 +2,7 @@ ghost use Rattle.std.specs.Prelude.{◌≡◌, ◌++◌, ◌==◌, ℕ, true, fa
 ghost use Rattle.live_lanes.specs.Lanes.{AreGone, AreLonger, has_room, waiting_on, wants_payload};
 ghost use Rattle.live_lanes.specs.Standing.{Progress, Stands, begun, framed, took, with_row};
 
-use crate::columns::{finish_each, frame_each, have_room, make_lanes, put_each};
+use crate::columns::{finish_each, frame_each, have_room, make_lanes, next_place, put_each};
 use crate::lane::LiveLane;
 use lk_base::{Link, OutOfMemory, Word};
 use std::alloc::Global;
@@ -97,44 +97,36 @@ impl LiveLanes {
         self.lanes[at].waiting()
     }
 
-    // Each lane made a word.
-    fn pass(&mut self) {
-        self.place += 1;
-        if self.place == self.link.metaframe() {
-            self.place = 0;
-        }
-    }
-
     /// Makes the next word of each lane, where it is a framing word.
     pub fn frame(&mut self)
-        requires open { self.old.ended ≡ false }
+        requires going { self.old.ended ≡ false }
         requires room { has_room self.old ≡ true }
         requires wants { wants_payload self.old ≡ false }
         ensures stands { (p : Progress) → Stands self.old p → Stands self.new (framed p) }
         ensures longer { AreLonger self.old self.new }
-        ensures open { self.new.ended ≡ false }
+        ensures going { self.new.ended ≡ false }
     {
         frame_each(&mut self.lanes);
-        self.pass();
+        self.place = next_place(self.place, &self.link);
     }
 
     /// Makes the next word of each lane, where it is a payload word, of these in the order of lanes: one for each.
     pub fn put(&mut self, words: &[Word])
-        requires open { self.old.ended ≡ false }
+        requires going { self.old.ended ≡ false }
         requires room { has_room self.old ≡ true }
         requires wants { wants_payload self.old ≡ true }
         requires count { length words.now ≡ length self.old.lanes }
         ensures stands { (p : Progress) → Stands self.old p → Stands self.new (with_row words.now p) }
         ensures longer { AreLonger self.old self.new }
-        ensures open { self.new.ended ≡ false }
+        ensures going { self.new.ended ≡ false }
     {
         put_each(&mut self.lanes, words);
-        self.pass();
+        self.place = next_place(self.place, &self.link);
     }
 
     /// Ends the lanes after whole metaframes: each makes its last byte of the bits that are left, and zeros after them.
     pub fn finish(&mut self)
-        requires open { self.old.ended ≡ false }
+        requires going { self.old.ended ≡ false }
         requires room { has_room self.old ≡ true }
         requires whole { self.old.place ≡ 0 }
         ensures stands { (p : Progress) → Stands self.old p → Stands self.new p }
