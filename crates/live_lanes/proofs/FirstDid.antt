@@ -1,9 +1,11 @@
 -- Loops that change the lanes of a list in place, one by one.
-use Rattle.std.proofs.Common.{ℕ, ◌≡◌, refl, ◌∙◌, ◌+◌, ◌<◌, ◌≤◌, List, length, get_or, set, arith, inl, inr}
+use Rattle.std.proofs.Common.{ℕ, ◌≡◌, refl, ◌∙◌, ◌+◌, ◌<◌, ◌≤◌, true, List, length, get_or, set, arith, inl, inr}
 use Rattle.std.proofs.lemmas.Bool.{cases_lt}
+use Rattle.std.specs.List.{list_all}
+use Rattle.std.proofs.lemmas.List.Sums.{AllPass-from_list_all}
 use Rattle.std.proofs.lemmas.List.{get_or-set_other, get_or-set_same, get_or_default, length-set}
 use Rattle.live_lanes.specs.States.{Lane}
-use Rattle.live_lanes.specs.Lanes.{AreEach}
+use Rattle.live_lanes.specs.Lanes.{AreEach, lane_has_room}
 
 -- the first i lanes did, and the others are as they were
 pub record FirstDid (R : ℕ → Lane → Lane → Type 0) (i : ℕ) (old now : List Lane) : Type 0 where
@@ -36,3 +38,6 @@ module _ (R : ℕ → Lane → Lane → Type 0) where
   -- the next lane is still so
   pub next_is : (P : Lane → Type 0) (i : ℕ) (old now : List Lane) (d : Lane) → i < length old → FirstDid R i old now → ((j : ℕ) (e : Lane) → j < length old → P (get_or old j e)) → P (get_or now i d)
   next_is P i old now d lt h is = rw (h.kept i d (omega arith)) (is i d lt)
+
+  pub next_has_room : (i : ℕ) (old now : List Lane) (d : Lane) → i < length old → FirstDid R i old now → list_all lane_has_room old ≡ true → lane_has_room (get_or now i d) ≡ true
+  next_has_room i old now d lt h room = next_is (λ l. lane_has_room l ≡ true) i old now d lt h (AllPass-from_list_all lane_has_room old room)

@@ -1,5 +1,5 @@
 -- Where the lanes stand in their metaframes, and the rows of their payload words.
-use Rattle.std.proofs.Common.{ℕ, ◌≡◌, refl, sym, ap, ◌∙◌, subst, ◌+◌, ◌-◌, ◌*◌, ◌/◌, ◌%◌, ◌<◌, ◌≤◌, true, false, List, [], ◌∷◌, ◌++◌, length, get_or, map, arith, length-append}
+use Rattle.std.proofs.Common.{ℕ, ◌≡◌, refl, ap, ◌∙◌, subst, ◌+◌, ◌-◌, ◌*◌, ◌/◌, ◌%◌, ◌<◌, false, List, [], ◌∷◌, ◌++◌, length, get_or, map, arith}
 use Rattle.std.proofs.Math.Nat.{zero-mul}
 use Rattle.std.specs.List.{range_with_len}
 use Rattle.std.proofs.lemmas.List.{get_or-map}
@@ -15,7 +15,7 @@ use Rattle.tx_end.specs.declared.lane_writer.LaneWriter.{LaneWriter}
 use Rattle.tx_end.specs.Lanes.{Carries}
 use Rattle.tx_end.proofs.Groups.{payload_append}
 use Rattle.live_lanes.specs.States.{Lane, Lanes}
-use Rattle.live_lanes.specs.Lanes.{waiting_on, wants_payload}
+use Rattle.live_lanes.specs.Lanes.{waiting_on}
 use Rattle.live_lanes.specs.Laws.{AllWantTheSame}
 use Rattle.live_lanes.specs.Standing.{IsSent, Progress, Stands}
 

@@ -1,18 +1,22 @@
 -- How lanes stand after one word more of each, at their end, and after bytes of one are taken.
-use Rattle.std.proofs.Common.{ℕ, ◌≡◌, ◌≢◌, refl, sym, ap, ◌∙◌, subst, ◌+◌, ◌*◌, ◌%◌, ◌<◌, ◌≤◌, ◌==◌, cond, Bool, true, false, List, [], ◌∷◌, ◌++◌, length, get_or, set, map, take, drop, arith, inl, inr, append_assoc, append-nil, length-append, min}
-use Rattle.std.proofs.Math.Nat.{mod-add-mod}
+use Rattle.std.proofs.Common.{ℕ, ◌≡◌, refl, sym, ap, ◌∙◌, subst, ◌+◌, ◌*◌, ◌%◌, ◌<◌, ◌==◌, Bool, true, false, List, [], ◌∷◌, ◌++◌, length, get_or, set, map, take, drop, arith, inl, inr, append_assoc, append-nil, length-append}
+use Rattle.std.proofs.Math.Nat.{mod-add-mod, zero-mod, zero-mul}
+use Rattle.std.proofs.Math.Seq.{take-append_seam}
 use Rattle.std.proofs.lemmas.Bool.{cond-false, cond-true, eq-eqb, false≢true}
 use Rattle.std.proofs.lemmas.Bool.Decides.{eqb_tells}
 use Rattle.std.proofs.lemmas.List.{get_or-set_other, get_or-set_same, length-map, length-set, map-set, take-append-drop}
 use Rattle.lk_base.specs.declared.word.Word.{Word}
 use Rattle.lk_base.specs.declared.word.Word.TheVariants.{Data}
-use Rattle.lk_base.specs.Link.{Settings}
+use Rattle.lk_base.specs.Link.{Settings, IsLink}
+use Rattle.lane_model.specs.Framing.{payloads}
 use Rattle.lane_model.specs.Striping.{lane_payload}
 use Rattle.metaframe.specs.Writing.{payload_place}
-use Rattle.tx_end.specs.Lanes.{Carries, IsCarried}
+use Rattle.tx_end.specs.Lanes.{Carries}
+use Rattle.tx_end.proofs.Groups.{no_payload}
+use Rattle.tx_end.proofs.LanePlaces.{place_at}
 use Rattle.live_lanes.specs.States.{Lane, Lanes, lanes_of}
-use Rattle.live_lanes.specs.Lanes.{AreEach, AreGone, AreLonger, MakesEnd, MakesFraming, MakesPayload, MakesWord, waiting_on}
-use Rattle.live_lanes.specs.Standing.{IsSent, Progress, Stands, framed, progress, took, with_row}
+use Rattle.live_lanes.specs.Lanes.{AreEach, AreGone, AreLonger, IsFresh, MakesEnd, MakesFraming, MakesPayload, MakesWord, waiting_on}
+use Rattle.live_lanes.specs.Standing.{IsSent, Progress, Stands, begun, framed, progress, took, with_row}
 use Rattle.live_lanes.proofs.Places.{given_count, lane_of, row_more, waiting_is}
 
 -- the next place in a metaframe
@@ -93,11 +97,49 @@ module _ (link : Settings) (old new : List Lane) (place next : ℕ) (p : Progres
     each = λ i e h. made.each i lane e (there i h) s i (own i) p.columns (p.taken i) (before i h);
   }
 
+-- the same of lanes that have not ended
+pub framed_here : (link : Settings) (old new : List Lane) (place next : ℕ) (ended : Bool) (p : Progress) → ended ≡ false → Stands (lanes_of link old place ended) p →
+    AreEach (λ i. MakesFraming) old new → next ≡ (place + 1) % link.metaframe → Stands (lanes_of link new next ended) (framed p)
+framed_here link old new place next ended p going k made at =
+    subst (λ e. Stands (lanes_of link new next e) (framed p)) (sym going) (framed_stands link old new place next p (subst (λ e. Stands (lanes_of link old place e) p) going k) made at)
+
+pub put_here : (link : Settings) (old new : List Lane) (place next : ℕ) (ended : Bool) (p : Progress) (words : List Word) → ended ≡ false → Stands (lanes_of link old place ended) p →
+    length words ≡ length old → AreEach (λ i. MakesPayload (get_or words i (Data 0))) old new → next ≡ (place + 1) % link.metaframe → Stands (lanes_of link new next ended) (with_row words p)
+put_here link old new place next ended p words going k count made at =
+    subst (λ e. Stands (lanes_of link new next e) (with_row words p)) (sym going) (put_stands link old new place next p (subst (λ e. Stands (lanes_of link old place e) p) going k) words count made at)
+
+pub end_here : (link : Settings) (old new : List Lane) (place : ℕ) (ended : Bool) (p : Progress) → ended ≡ false → Stands (lanes_of link old place ended) p →
+    place ≡ 0 → AreEach (λ i. MakesEnd) old new → Stands (lanes_of link new place true) p
+end_here link old new place ended p going k whole made = end_stands link old new place place p (subst (λ e. Stands (lanes_of link old place e) p) going k) whole made
+
+-- before their first words
+pub fresh_stands : (link : Settings) (lanes : List Lane) → IsLink link → length lanes ≡ link.lanes → ((i : ℕ) (d : Lane) → i < link.lanes → IsFresh link i (get_or lanes i d)) → Stands (lanes_of link lanes 0 false) (begun link)
+fresh_stands link lanes limits count fresh =
+    let none : payload_place link 0 ≡ 0 = ap (payload_place link) (sym (zero-mul link.metaframe)) ∙ place_at link 0 limits ∙ zero-mul (payloads link) in
+    record {
+      limits = limits;
+      link = refl;
+      count = count;
+      place = sym (zero-mod link.metaframe);
+      rows = sym (ap (λ n. n * link.lanes) none ∙ zero-mul link.lanes);
+      whole = λ e. refl;
+      each = λ i d h.
+          let f = fresh i d h in (
+            subst (λ (g : List Word). Carries (get_or lanes i d).writer link i g 0 (get_or lanes i d).waiting) (sym (no_payload link.lanes i h))
+                (subst (λ (b : List ℕ). Carries (get_or lanes i d).writer link i [] 0 b) (sym f.2) f.0),
+            f.1,
+          );
+    }
+
 -- on each lane more bytes wait
-pub are_longer : (link : Settings) (old new : List Lane) (place next : ℕ) (now_given : ℕ → List Word → List Word) → AreEach (λ i. MakesWord (now_given i)) old new → AreLonger (lanes_of link old place false) (lanes_of link new next false)
-are_longer link [] new place next now_given made i h = absurd (omega (arith, h))
-are_longer link (l ∷ old) new place next now_given made i h =
-    rw (waiting_is (lanes_of link (l ∷ old) place false) i l h, waiting_is (lanes_of link new next false) i l (let e = made.same in omega (arith, e, h))) (made.each i l l h).longer
+pub are_longer : (link : Settings) (old new : List Lane) (place next : ℕ) (ended now : Bool) (now_given : ℕ → List Word → List Word) → AreEach (λ i. MakesWord (now_given i)) old new → AreLonger (lanes_of link old place ended) (lanes_of link new next now)
+are_longer link [] new place next ended now now_given made i h = absurd (omega (arith, h))
+are_longer link (l ∷ old) new place next ended now now_given made i h =
+    rw (waiting_is (lanes_of link (l ∷ old) place ended) i l h, waiting_is (lanes_of link new next now) i l (let e = made.same in omega (arith, e, h))) (made.each i l l h).longer
+
+-- lanes that were lent as a slice, in their vector
+pub written : (n : ℕ) (later old : List Lane) → length later ≡ n → take n (later ++ drop (length later) old) ≡ later
+written n later old e = ap (λ m. take m (later ++ drop (length later) old)) (sym e) ∙ take-append_seam later (drop (length later) old)
 
 -- ---- bytes that are taken
 
@@ -143,7 +185,7 @@ module _ (link : Settings) (old : List Lane) (place : ℕ) (ended : Bool) (lane 
           subst (λ j. IsSent ended (took lane (take n was.waiting) p) j (get_or (set old lane is) j e)) (sym same.1)
           (subst (λ (m : Lane). IsSent ended (took lane (take n was.waiting) p) lane m) (sym (get_or-set_same old lane is e here)) at)
       | inr other ↦
-          let kept : get_or (set old lane is) i e ≡ get_or old i e = get_or-set_other old lane i is e (λ at. other.1 (sym at)) in
+          let kept : get_or (set old lane is) i e ≡ get_or old i e = get_or-set_other old lane i is e other.1 in
           subst (λ (m : Lane). IsSent ended (took lane (take n was.waiting) p) i m) (sym kept)
           (sent_moved ended p (took lane (take n was.waiting) p).taken i (get_or old i e) (get_or old i e) refl
           (ap (λ (b : List ℕ). b ++ (get_or old i e).waiting) (taken_there p lane i (take n was.waiting) other.0)) (k.each i e h))
@@ -161,8 +203,26 @@ module _ (link : Settings) (old : List Lane) (place : ℕ) (ended : Bool) (lane 
             let own : was.waiting ≡ get_or (map wait old) i [] = sym (waiting_is (lanes_of link old place ended) lane d here) ∙ ap (λ j. get_or (map wait old) j []) (sym same.1) in
             at ∙ ap (drop n) own ∙ sym (cond-true (i == lane) (drop n (get_or (map wait old) i [])) (get_or (map wait old) i []) same.0)
         | inr other ↦
-            get_or-set_other (map wait old) lane i is.waiting [] (λ at. other.1 (sym at)) ∙ sym (cond-false (i == lane) (drop n (get_or (map wait old) i [])) (get_or (map wait old) i []) other.0)
+            get_or-set_other (map wait old) lane i is.waiting [] other.1 ∙ sym (cond-false (i == lane) (drop n (get_or (map wait old) i [])) (get_or (map wait old) i []) other.0)
       ]
+
+-- ---- of a lane that is lent
+
+module _ (link : Settings) (old : List Lane) (place : ℕ) (ended : Bool) (lane n : ℕ) (d w : Lane) (was : d ≡ get_or old lane d) (is : w ≡ lane_after n d) (here : lane < length old) where
+  after : lane_after n (get_or old lane d) ≡ w
+  after = ap (lane_after n) (sym was) ∙ sym is
+
+  pub took_here : (p : Progress) → Stands (lanes_of link old place ended) p → Stands (lanes_of link (set old lane w) place ended) (took lane (take n d.waiting) p)
+  took_here p k =
+      subst (λ (m : Lane). Stands (lanes_of link (set old lane m) place ended) (took lane (take n d.waiting) p)) after
+      (subst (λ (l : Lane). Stands (lanes_of link (set old lane (lane_after n (get_or old lane d))) place ended) (took lane (take n l.waiting) p)) (sym was)
+      (took_stands link old place ended lane n d p here k))
+
+  pub gone_here : AreGone lane n (lanes_of link old place ended) (lanes_of link (set old lane w) place ended)
+  gone_here i = sym (ap (λ (m : Lane). waiting_on i (lanes_of link (set old lane m) place ended)) after) ∙ are_gone link old place ended lane n d here i
+
+  pub waits_here : waiting_on lane (lanes_of link old place ended) ≡ d.waiting
+  waits_here = waiting_is (lanes_of link old place ended) lane d here ∙ ap (λ (l : Lane). l.waiting) (sym was)
 
 -- ---- of a lane that is not there
 

@@ -1,13 +1,9 @@
 -- The bytes that are taken of lanes.
-use Rattle.std.proofs.Common.{ℕ, ◌≡◌, refl, sym, ap, ◌∙◌, subst, ◌+◌, ◌*◌, ◌/◌, ◌%◌, ◌<◌, ◌≤◌, Bool, true, false, List, [], ◌++◌, length, get_or, take, arith, ◌⊎◌, inl, inr, append_assoc, append-nil, length-append}
-use Rattle.std.specs.List.{range_with_len}
+use Rattle.std.proofs.Common.{ℕ, ◌≡◌, refl, sym, ap, ◌∙◌, subst, ◌+◌, ◌*◌, ◌/◌, ◌%◌, ◌<◌, ◌≤◌, Bool, true, false, List, [], ◌++◌, length, get_or, take, arith, ◌⊎◌, inl, inr, append-nil}
 use Rattle.std.proofs.lemmas.List.{take_all}
-use Rattle.std.proofs.lemmas.List.FromFn.{length-map-range_with_len}
 use Rattle.std.proofs.lemmas.Nat.{div-add-mod', mod-mul-add}
 use Rattle.lk_base.specs.declared.word.Word.{Word}
-use Rattle.lk_base.specs.Checksum.{bits_of_bytes}
-use Rattle.lk_base.specs.Link.{Settings, IsLink, group_of}
-use Rattle.lane_model.specs.Coding.{codes_of}
+use Rattle.lk_base.specs.Link.{Settings, group_of}
 use Rattle.lane_model.specs.Framing.{payloads}
 use Rattle.lane_model.specs.LaneBits.{IsFileOf, lane_bits, stream_lane_bits}
 use Rattle.lane_model.specs.Striping.{lane_payload}
@@ -20,7 +16,6 @@ use Rattle.tx_end.proofs.Groups.{payload_append, regroup_words}
 use Rattle.tx_end.proofs.LanePlaces.{place_at}
 use Rattle.tx_end.proofs.Waits.{file_waits, waits}
 use Rattle.live_lanes.specs.States.{Lane, Lanes}
-use Rattle.live_lanes.specs.Lanes.{waiting_on}
 use Rattle.live_lanes.specs.Laws.{AllTakenAreTheFile, AreInStep, TakenAreFirst}
 use Rattle.live_lanes.specs.Standing.{IsSent, Progress, Stands}
 use Rattle.live_lanes.proofs.Places.{lane_of, open_lane, waiting_is}

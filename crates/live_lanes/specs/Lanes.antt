@@ -1,5 +1,5 @@
 -- What calls ask of the lanes of a link, and what they make of each.
-use Rattle.std.specs.Prelude.{ℕ, ◌≡◌, ◌<◌, ◌+◌, ◌==◌, cond, Bool, true, false, List, [], ◌∷◌, ◌++◌, length, map, get_or, drop, nat_le}
+use Rattle.std.specs.Prelude.{ℕ, ◌≡◌, ◌<◌, ◌+◌, ◌==◌, cond, Bool, List, [], ◌∷◌, ◌++◌, length, map, get_or, drop, nat_le}
 use Rattle.std.specs.List.{list_all}
 use Rattle.lk_base.specs.declared.word.Word.{Word}
 use Rattle.lk_base.specs.Link.{Settings}
@@ -27,6 +27,10 @@ abbrev pub waiting_on : ℕ → Lanes → List ℕ
 waiting_on i v = get_or (map (λ (l : Lane). l.waiting) v.lanes) i []
 
 -- ---- what is made
+
+-- lane number i before its first word
+abbrev pub IsFresh : Settings → ℕ → Lane → Type 0
+IsFresh s i l = Carries l.writer s i [] 0 [] × (length l.writer.bits < 8) × (l.waiting ≡ [])
 
 -- A lane made one word more, and what it was given is now this: whatever it carried in its bytes it carries still.
 pub record MakesWord (now_given : List Word → List Word) (old new : Lane) : Type 0 where

@@ -5,7 +5,7 @@ ghost use Rattle.std.specs.List.{list_all};
 ghost use Rattle.metaframe.specs.Writing.{wants_payload};
 ghost use Rattle.tx_end.specs.Lanes.{Carries};
 ghost use Rattle.live_lanes.specs.States.{Lane};
-ghost use Rattle.live_lanes.specs.Lanes.{AreEach, MakesEnd, MakesFraming, MakesPayload, lane_has_room};
+ghost use Rattle.live_lanes.specs.Lanes.{AreEach, IsFresh, MakesEnd, MakesFraming, MakesPayload, lane_has_room};
 
 use crate::lane::LiveLane;
 use lk_base::{Link, OutOfMemory, Word};
@@ -14,7 +14,7 @@ use std::alloc::Global;
 /// The lanes of a link before their first words.
 pub fn make_lanes(alloc: Global, link: &Link) -> Result<Vec<LiveLane>, OutOfMemory>
     ensures count { IfOk result (λ lanes. length lanes.items ≡ link.now.lanes) }
-    ensures made { IfOk result (λ lanes. (i : ℕ) (d : Lane) → i < link.now.lanes → Carries (get_or lanes.items i d).writer link.now i [] 0 [] × (length (get_or lanes.items i d).writer.bits < 8) × ((get_or lanes.items i d).waiting ≡ [])) }
+    ensures made { IfOk result (λ lanes. (i : ℕ) (d : Lane) → i < link.now.lanes → IsFresh link.now i (get_or lanes.items i d)) }
 {
     let mut lanes = Vec::new(alloc);
     for number in 0..link.lanes() {
@@ -55,7 +55,8 @@ pub fn put_each(lanes: &mut [LiveLane], words: &[Word])
     ensures { AreEach (λ i. MakesPayload (get_or words.now i (Data 0))) lanes.old lanes.new }
 {
     for i in 0..lanes.len() {
-        lanes[i].put(words[i]);
+        let word = words[i];
+        lanes[i].put(word);
     }
 }
 

@@ -3,7 +3,7 @@ ghost use Rattle.lk_base.specs.Link.{Settings};
 ghost use Rattle.lk_base.specs.declared.word.Word.{Word as SentWord};
 ghost use Rattle.metaframe.specs.Writing.{wants_payload};
 ghost use Rattle.tx_end.specs.Lanes.{Carries};
-ghost use Rattle.live_lanes.specs.Lanes.{MakesEnd, MakesFraming, MakesPayload, lane_has_room};
+ghost use Rattle.live_lanes.specs.Lanes.{IsFresh, MakesEnd, MakesFraming, MakesPayload, lane_has_room};
 
 use circular_buffer::HeapCircularBuffer;
 use lk_base::{Link, OutOfMemory, Word};
@@ -53,7 +53,7 @@ fn give_bytes(writer: &mut LaneWriter, ring: &mut HeapCircularBuffer<u8>)
 impl LiveLane {
     /// A lane before its first word. Lanes are numbered from 0. It takes memory here, and no later call does.
     pub fn new(alloc: Global, link: &Link, lane: u32) -> Result<LiveLane, OutOfMemory>
-        ensures { IfOk result (λ l. Carries l.writer link.now lane [] 0 [] × (length l.writer.bits < 8) × (l.waiting ≡ [])) }
+        ensures { IfOk result (IsFresh link.now lane) }
     {
         let ring = HeapCircularBuffer::with_capacity(alloc, ROOM)?;
         Ok(LiveLane {
@@ -109,7 +109,7 @@ impl LiveLane {
         ensures { MakesEnd self.old self.new }
     {
         if let Some(byte) = self.writer.last_byte() {
-            self.ring.push_back(byte);
+            self.ring.fill_from_slice(&[byte]);
         }
     }
 

@@ -2,25 +2,21 @@
 ghost use Rattle.live_lanes.specs.Laws.{AllTakenAreTheFile, AllWantTheSame, AreInStep, TakenAreFirst};
 
 /// What was taken of a lane, in whatever pieces, is the first of the file of that lane, whatever payload words follow.
-#[tactic(auto, using(crate::proofs::Taken::taken_are_first))]
 pub fn taken_are_first()
     ensures { TakenAreFirst }
 {}
 
 /// Once the lanes have ended, what was taken of a lane is its file where nothing waits.
-#[tactic(auto, using(crate::proofs::Taken::all_taken))]
 pub fn all_taken_are_the_file()
     ensures { AllTakenAreTheFile }
 {}
 
 /// On each lane as many bytes were taken or wait as on each other.
-#[tactic(auto, using(crate::proofs::Taken::are_in_step))]
 pub fn are_in_step()
     ensures { AreInStep }
 {}
 
 /// The next words of all lanes are payload words, or all are framing words.
-#[tactic(auto, using(crate::proofs::Places::all_want_the_same))]
 pub fn all_want_the_same()
     ensures { AllWantTheSame }
 {}

@@ -1,24 +1,16 @@
-use Rattle.std.proofs.Common.{rules, ◌≡◌, ◌<◌, ◌+◌, ◌%◌, ℕ, [], true, false, length, get_or, All, IfOk, ◌-◌, ◌*◌, ◌≤◌, ◌/◌, Bool, nat_eq, nat_lt, List, ◌∷◌, ◌++◌, slice_set, bit_and, bit_or, Fits, w8, w32, w64, Bor, MutBor}
-use Rattle.lk_base.specs.declared.word.Word.TheVariants.{Data}
-use Rattle.std.specs.List.{list_all}
-use Rattle.metaframe.specs.Writing.{wants_payload}
-use Rattle.tx_end.specs.Lanes.{Carries}
-use Rattle.live_lanes.specs.States.{Lane}
-use Rattle.live_lanes.specs.Lanes.{AreEach, MakesEnd, MakesFraming, MakesPayload, lane_has_room}
+-- One more lane made its last byte.
+use Rattle.live_lanes.specs.Lanes.{MakesEnd}
+use Rattle.live_lanes.proofs.FirstDid.{all_did, did_more, did_none, next_has_room}
 use Rattle.live_lanes.proofs.columns.finish_each.Goals as goal
 
--- src/columns.rt:67:5
 pub loop-i-init : goal.loop-i-init
-loop-i-init c = ?
+loop-i-init c = did_none (λ j. MakesEnd) c.args.lanes.now
 
--- src/columns.rt:68:9
 pub finish-requires : goal.finish-requires
-finish-requires c = ?
+finish-requires c = next_has_room (λ j. MakesEnd) c.loop-i.i c.args.lanes.now c.loop-i.lanes c.index-lanes-i.result c.loop-i-test.true c.loop-i.invariant c.requires
 
--- src/columns.rt:67:5
 pub loop-i-preserved : goal.loop-i-preserved
-loop-i-preserved c = ?
+loop-i-preserved c = did_more (λ j. MakesEnd) c.loop-i.i c.args.lanes.now c.loop-i.lanes c.index-lanes-i.result c.finish.new.self c.loop-i-test.true c.loop-i.invariant c.finish.ensures
 
--- src/columns.rt:63:1
 pub returns : goal.returns
-returns c = ?
+returns c = all_did (λ j. MakesEnd) c.loop-i.i c.args.lanes.now c.loop-i.lanes c.loop-i-test.false c.loop-i.invariant

@@ -1,28 +1,22 @@
-use Rattle.std.proofs.Common.{rules, ◌≡◌, ◌<◌, ◌+◌, ◌%◌, ℕ, [], true, false, length, get_or, All, IfOk, ◌-◌, ◌*◌, ◌≤◌, ◌/◌, Bool, nat_eq, nat_lt, List, ◌∷◌, ◌++◌, slice_set, bit_and, bit_or, Fits, w8, w32, w64, Bor, MutBor}
-use Rattle.lk_base.specs.declared.word.Word.TheVariants.{Data}
-use Rattle.std.specs.List.{list_all}
+-- One more lane made a framing word.
+use Rattle.std.proofs.Common.{◌≡◌, false}
 use Rattle.metaframe.specs.Writing.{wants_payload}
-use Rattle.tx_end.specs.Lanes.{Carries}
-use Rattle.live_lanes.specs.States.{Lane}
-use Rattle.live_lanes.specs.Lanes.{AreEach, MakesEnd, MakesFraming, MakesPayload, lane_has_room}
+use Rattle.live_lanes.specs.Lanes.{MakesFraming}
+use Rattle.live_lanes.proofs.FirstDid.{all_did, did_more, did_none, next_has_room, next_is}
 use Rattle.live_lanes.proofs.columns.frame_each.Goals as goal
 
--- src/columns.rt:45:5
 pub loop-i-init : goal.loop-i-init
-loop-i-init c = ?
+loop-i-init c = did_none (λ j. MakesFraming) c.args.lanes.now
 
--- src/columns.rt:46:9
 pub frame-requires-clause-room : goal.frame-requires-clause-room
-frame-requires-clause-room c = ?
+frame-requires-clause-room c = next_has_room (λ j. MakesFraming) c.loop-i.i c.args.lanes.now c.loop-i.lanes c.index-lanes-i.result c.loop-i-test.true c.loop-i.invariant c.requires.room
 
--- src/columns.rt:46:9
 pub frame-requires-clause-wants : goal.frame-requires-clause-wants
-frame-requires-clause-wants c = ?
+frame-requires-clause-wants c =
+    next_is (λ j. MakesFraming) (λ l. wants_payload l.writer.framing ≡ false) c.loop-i.i c.args.lanes.now c.loop-i.lanes c.index-lanes-i.result c.loop-i-test.true c.loop-i.invariant c.requires.wants
 
--- src/columns.rt:45:5
 pub loop-i-preserved : goal.loop-i-preserved
-loop-i-preserved c = ?
+loop-i-preserved c = did_more (λ j. MakesFraming) c.loop-i.i c.args.lanes.now c.loop-i.lanes c.index-lanes-i.result c.frame.new.self c.loop-i-test.true c.loop-i.invariant c.frame.ensures
 
--- src/columns.rt:40:1
 pub returns : goal.returns
-returns c = ?
+returns c = all_did (λ j. MakesFraming) c.loop-i.i c.args.lanes.now c.loop-i.lanes c.loop-i-test.false c.loop-i.invariant

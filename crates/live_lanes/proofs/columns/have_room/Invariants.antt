@@ -1,11 +1,8 @@
-use Rattle.std.proofs.Common.{◌≡◌, ◌<◌, ◌+◌, ◌%◌, ℕ, [], true, false, length, get_or, All, IfOk, ◌-◌, ◌*◌, ◌≤◌}
-use Rattle.lk_base.specs.declared.word.Word.TheVariants.{Data}
+-- All lanes so far have room.
+use Rattle.std.proofs.Common.{◌≡◌, drop}
 use Rattle.std.specs.List.{list_all}
-use Rattle.metaframe.specs.Writing.{wants_payload}
-use Rattle.tx_end.specs.Lanes.{Carries}
-use Rattle.live_lanes.specs.States.{Lane}
-use Rattle.live_lanes.specs.Lanes.{AreEach, MakesEnd, MakesFraming, MakesPayload, lane_has_room}
+use Rattle.live_lanes.specs.Lanes.{lane_has_room}
 use Rattle.live_lanes.proofs.columns.have_room.Given as goal
 
 abbrev pub invariant-loop-lane : goal.invariant-loop-lane
-invariant-loop-lane l = ?
+invariant-loop-lane l = list_all lane_has_room (drop l.lane-index l.lanes) ≡ list_all lane_has_room l.lanes

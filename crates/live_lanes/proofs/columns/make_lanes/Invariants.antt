@@ -1,11 +1,8 @@
-use Rattle.std.proofs.Common.{◌≡◌, ◌<◌, ◌+◌, ◌%◌, ℕ, [], true, false, length, get_or, All, IfOk, ◌-◌, ◌*◌, ◌≤◌}
-use Rattle.lk_base.specs.declared.word.Word.TheVariants.{Data}
-use Rattle.std.specs.List.{list_all}
-use Rattle.metaframe.specs.Writing.{wants_payload}
-use Rattle.tx_end.specs.Lanes.{Carries}
+-- The first lanes are made.
+use Rattle.std.proofs.Common.{ℕ, ◌≡◌, ◌<◌, length, get_or}
 use Rattle.live_lanes.specs.States.{Lane}
-use Rattle.live_lanes.specs.Lanes.{AreEach, MakesEnd, MakesFraming, MakesPayload, lane_has_room}
+use Rattle.live_lanes.specs.Lanes.{IsFresh}
 use Rattle.live_lanes.proofs.columns.make_lanes.Given as goal
 
 abbrev pub invariant-loop-number : goal.invariant-loop-number
-invariant-loop-number l = ?
+invariant-loop-number l = (length l.lanes.items ≡ l.number) × ((i : ℕ) (d : Lane) → i < l.number → IsFresh l.link i (get_or l.lanes.items i d))

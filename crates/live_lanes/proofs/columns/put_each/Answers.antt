@@ -1,28 +1,25 @@
-use Rattle.std.proofs.Common.{rules, ◌≡◌, ◌<◌, ◌+◌, ◌%◌, ℕ, [], true, false, length, get_or, All, IfOk, ◌-◌, ◌*◌, ◌≤◌, ◌/◌, Bool, nat_eq, nat_lt, List, ◌∷◌, ◌++◌, slice_set, bit_and, bit_or, Fits, w8, w32, w64, Bor, MutBor}
+-- One more lane made its payload word.
+use Rattle.std.proofs.Common.{◌≡◌, rules, true, get_or}
 use Rattle.lk_base.specs.declared.word.Word.TheVariants.{Data}
-use Rattle.std.specs.List.{list_all}
 use Rattle.metaframe.specs.Writing.{wants_payload}
-use Rattle.tx_end.specs.Lanes.{Carries}
-use Rattle.live_lanes.specs.States.{Lane}
-use Rattle.live_lanes.specs.Lanes.{AreEach, MakesEnd, MakesFraming, MakesPayload, lane_has_room}
+use Rattle.live_lanes.specs.Lanes.{MakesPayload}
+use Rattle.live_lanes.proofs.FirstDid.{all_did, did_more, did_none, next_has_room, next_is}
 use Rattle.live_lanes.proofs.columns.put_each.Goals as goal
 
--- src/columns.rt:57:5
 pub loop-i-init : goal.loop-i-init
-loop-i-init c = ?
+loop-i-init c = did_none (λ j. MakesPayload (get_or c.args.words.now j (Data 0))) c.args.lanes.now
 
--- src/columns.rt:58:9
 pub put-requires-clause-room : goal.put-requires-clause-room
-put-requires-clause-room c = ?
+put-requires-clause-room c =
+    next_has_room (λ j. MakesPayload (get_or c.args.words.now j (Data 0))) c.loop-i.i c.args.lanes.now c.loop-i.lanes c.index-lanes-i.result c.loop-i-test.true c.loop-i.invariant c.requires.room
 
--- src/columns.rt:58:9
 pub put-requires-clause-wants : goal.put-requires-clause-wants
-put-requires-clause-wants c = ?
+put-requires-clause-wants c =
+    next_is (λ j. MakesPayload (get_or c.args.words.now j (Data 0))) (λ l. wants_payload l.writer.framing ≡ true) c.loop-i.i c.args.lanes.now c.loop-i.lanes c.index-lanes-i.result c.loop-i-test.true c.loop-i.invariant c.requires.wants
 
--- src/columns.rt:57:5
 pub loop-i-preserved : goal.loop-i-preserved
-loop-i-preserved c = ?
+loop-i-preserved c =
+    did_more (λ j. MakesPayload (get_or c.args.words.now j (Data 0))) c.loop-i.i c.args.lanes.now c.loop-i.lanes c.index-lanes-i.result c.put.new.self c.loop-i-test.true c.loop-i.invariant (search rules)
 
--- src/columns.rt:51:1
 pub returns : goal.returns
-returns c = ?
+returns c = all_did (λ j. MakesPayload (get_or c.args.words.now j (Data 0))) c.loop-i.i c.args.lanes.now c.loop-i.lanes c.loop-i-test.false c.loop-i.invariant
