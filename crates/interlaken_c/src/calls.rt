@@ -14,6 +14,7 @@ use crate::refusal::{Refusal, no_refusal, refusal_of};
 use crate::report::{Report, as_report, no_report};
 use crate::session::Session;
 use link_plan::{PlanError, read_plan};
+use lk_base::OutOfMemory;
 use lock_model::{LaneReport, LaneState};
 use std::alloc::Global;
 
@@ -27,16 +28,22 @@ fn opened(alloc: Global, plan: &[u8]) -> Result<Session, PlanError>
     Ok(session)
 }
 
+// A receiver in a box.
+fn in_box(alloc: Global, session: Session) -> Result<Box<Session, Global>, OutOfMemory>
+    ensures { IfOk result (λ b. b.value ≡ session) }
+{
+    let held = Box::new(alloc, session)?;
+    Ok(held)
+}
+
 // A receiver of the plan of these bytes, in a box.
 fn boxed(alloc: Global, plan: &[u8]) -> Result<Box<Session, Global>, PlanError>
     ensures made { IfOk result (λ b. IsOfPlan plan.now b.value) }
     ensures refused { IfErr result (IsRefused plan.now) }
 {
     let session = opened(alloc, plan)?;
-    match Box::new(alloc, session) {
-        Ok(session) => Ok(session),
-        Err(_) => Err(PlanError::OutOfMemory),
-    }
+    let held = in_box(alloc, session)?;
+    Ok(held)
 }
 
 // The result of a refusal.

@@ -36,7 +36,7 @@ pub extern "C" fn interlaken_damage_new(alloc: Global, damage: &mut DamageHandle
             damage.put(made);
             DONE
         }
-        Err(_) => OUT_OF_MEMORY,
+        Err(OutOfMemory) => OUT_OF_MEMORY,
     }
 }
 
