@@ -5,15 +5,16 @@ ghost use Rattle.lane_words.specs.WordsFile.{rx_number, rx_tag, rx_word_bytes, r
 use byteorder::{BigEndian, ByteOrder};
 use lk_base::{OutOfMemory, RxWord};
 use std::alloc::{AllocError, Global};
+use words_files::{BAD_TAG, CONTROL_TAG, DATA_TAG};
 
 // The first byte of a word.
 fn tag_of(word: RxWord) -> u8
     ensures { result ≡ rx_tag word }
 {
     match word {
-        RxWord::Data(_) => 1,
-        RxWord::Control(_) => 2,
-        RxWord::Bad => 3,
+        RxWord::Data(_) => DATA_TAG,
+        RxWord::Control(_) => CONTROL_TAG,
+        RxWord::Bad => BAD_TAG,
     }
 }
 
