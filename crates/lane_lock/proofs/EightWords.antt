@@ -1,5 +1,5 @@
 -- The words of codes, one after another.
-use Rattle.std.proofs.Common.{ℕ, suc, ◌≡◌, refl, sym, ap, subst, ◌∙◌, ◌+◌, ◌*◌, ◌/◌, ◌%◌, ◌^◌, ◌<◌, ◌≤◌, Bool, false, List, [], ◌∷◌, ◌++◌, length, map, take, drop, set, get_or, take-take, arith, Option, Some, None}
+use Rattle.std.proofs.Common.{ℕ, suc, ◌≡◌, refl, sym, ap, subst, ◌∙◌, ◌+◌, ◌*◌, ◌^◌, ◌<◌, ◌≤◌, Bool, false, List, [], ◌∷◌, ◌++◌, length, map, take, drop, set, get_or, arith, Option, Some, None}
 use Rattle.std.specs.Option.{IfSome}
 use Rattle.std.proofs.Math.Seq.{take-add}
 use Rattle.std.proofs.lemmas.Grind.{take-set_at}
@@ -8,7 +8,6 @@ use Rattle.lk_base.specs.Checksum.{bits_of, bits_of_words, register_after}
 use Rattle.lk_base.specs.Words.{is_bad, number_of}
 use Rattle.lk_base.specs.declared.word.RxWord.{RxWord}
 use Rattle.lane_model.specs.Coding.{word_of_code}
-use Rattle.lane_model.specs.LaneBits.{bits_of_codes}
 use Rattle.coding_67b.proofs.Runs.{code_more, no_codes}
 use Rattle.lane_lock.specs.Inside.{InsideState, payloads_left, with_key}
 use Rattle.lane_lock.specs.Run.{AreWordsOf, all_legal, are_codes, insides_ran, key_ran, keyed_word, keyed_words, next_state}

@@ -1,5 +1,5 @@
 -- Payload words of a run, taken one after another.
-use Rattle.std.proofs.Common.{ℕ, zero, suc, ◌≡◌, refl, sym, ap, subst, ◌∙◌, ◌+◌, ◌-◌, ◌*◌, ◌^◌, ◌<◌, ◌≤◌, cond, Bool, true, false, List, [], ◌∷◌, ◌++◌, length, map, replicate, take, drop, take-take, append-nil, append_assoc, arith}
+use Rattle.std.proofs.Common.{ℕ, suc, ◌≡◌, refl, sym, ap, subst, ◌∙◌, ◌+◌, ◌*◌, ◌^◌, ◌<◌, ◌≤◌, Bool, true, false, List, [], ◌∷◌, ◌++◌, length, map, replicate, take, drop, take-take, append-nil, append_assoc, arith}
 use Rattle.std.proofs.lemmas.List.{drop-drop, drop-take, drop_at, length-append, take_at}
 use Rattle.lk_base.specs.Checksum.{bits_of}
 use Rattle.lk_base.specs.Words.{is_bad}
@@ -14,9 +14,9 @@ use Rattle.lock_model.specs.declared.types.LaneStep.{LaneStep}
 use Rattle.lock_model.specs.declared.types.LaneStep.TheVariants as steps
 use Rattle.lock_model.specs.PayloadSteps.{payload_steps}
 use Rattle.lane_lock.specs.Bytes.{Brings}
-use Rattle.lane_lock.specs.Inside.{InsideState, is_last, payload_number, payloads_left}
+use Rattle.lane_lock.specs.Inside.{payload_number}
 use Rattle.lane_lock.specs.Lane.{LaneView}
-use Rattle.lane_lock.specs.Run.{AreWordsOf, RunState, all_legal, are_codes, inside_ran, keyed_word, keyed_words, lane_ran, next_state, run_of, watch_ran, word_ran, words_ran}
+use Rattle.lane_lock.specs.Run.{AreWordsOf, RunState, all_legal, are_codes, keyed_word, keyed_words, lane_ran, next_state, watch_ran, word_ran, words_ran}
 use Rattle.lane_lock.specs.Watch.{payloads_ahead}
 use Rattle.lane_lock.proofs.Batches.{Ran, ran_more}
 use Rattle.lane_lock.proofs.FoundSteps.{found_more, payload_more, payload_step}

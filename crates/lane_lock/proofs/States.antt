@@ -1,9 +1,8 @@
 -- How far the search of a lane is.
-use Rattle.std.proofs.Common.{ℕ, ◌≡◌, refl, sym, ap, subst, ◌∙◌, ◌*◌, Bool, true, false, Option, Some, None, List, [], ◌∷◌, ◌++◌, arith}
+use Rattle.std.proofs.Common.{ℕ, ◌≡◌, refl, sym, ap, subst, ◌∙◌, Bool, Option, Some, None, List, [], ◌∷◌, ◌++◌, arith}
 use Rattle.std.proofs.lemmas.List.{append-nil}
-use Rattle.std.specs.Prelude.{if◌then◌else◌, is_some}
+use Rattle.std.specs.Prelude.{if◌then◌else◌}
 use Rattle.lk_base.specs.Link.{Settings}
-use Rattle.lock_model.specs.declared.types.LaneState.{LaneState}
 use Rattle.lock_model.specs.declared.types.LaneState.TheVariants as states
 use Rattle.lock_model.specs.Locks.{AreAttempts, Attempt, IsWordLock, Loss, next_search}
 use Rattle.lock_model.specs.State.{state_after, state_of}
@@ -13,7 +12,6 @@ use Rattle.lane_lock.specs.Standing.{Chain, Holds, Hunts, IsState, Stands}
 use Rattle.lane_lock.specs.Watching.{WatchesLock}
 use Rattle.lane_lock.proofs.Chains.{chain_attempts}
 use Rattle.lane_lock.proofs.Holding.{open_attempt}
-use Rattle.lane_lock.proofs.LastWord.{held, hunted}
 
 state_of-last : (front : List Attempt) (a : Attempt) → state_of (front ++ a ∷ []) ≡ state_after a
 state_of-last [] a = refl

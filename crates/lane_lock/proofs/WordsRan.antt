@@ -1,12 +1,12 @@
 -- Words that are taken one after another, and all of them at once.
-use Rattle.std.proofs.Common.{ℕ, zero, suc, ◌≡◌, refl, sym, ap, subst, ◌∙◌, ◌+◌, ◌-◌, ◌*◌, ◌^◌, ◌<◌, ◌≤◌, ◌==◌, ◌||◌, cond, Bool, true, false, List, [], ◌∷◌, ◌++◌, length, map, arith, inl, inr}
+use Rattle.std.proofs.Common.{ℕ, zero, suc, ◌≡◌, refl, sym, ap, ◌∙◌, ◌+◌, ◌-◌, ◌<◌, ◌≤◌, ◌||◌, Bool, true, false, List, [], ◌∷◌, ◌++◌, length, map, arith, inl, inr}
 use Rattle.std.proofs.lemmas.Bool.{cases_lt, eq-eqb, ne_eqb}
 use Rattle.lk_base.specs.declared.word.RxWord.{RxWord}
 use Rattle.lk_base.specs.Checksum.{bits_of, bits_of_words, register_after}
 use Rattle.lk_base.specs.Words.{is_bad, number_of}
 use Rattle.lk_crc.proofs.Registers.{register_after-append}
 use Rattle.lane_lock.specs.Headers.{HeaderCount}
-use Rattle.lane_lock.specs.Inside.{InsideState, is_last, passed, payloads_left, with_key}
+use Rattle.lane_lock.specs.Inside.{InsideState, payloads_left}
 use Rattle.lane_lock.specs.Run.{RunState, all_legal, header_ran, headers_ran, inside_ran, insides_ran, key_ran, keyed_word, keyed_words, next_state, word_ran, words_ran}
 use Rattle.lane_lock.proofs.PayloadWords.{payload_moves, payload_place}
 

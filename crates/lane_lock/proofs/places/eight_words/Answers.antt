@@ -1,5 +1,5 @@
 -- The bits of 67 bytes.
-use Rattle.std.proofs.Common.{ℕ, ◌≡◌, ◌+◌, ◌-◌, ◌*◌, ◌/◌, ap, sym, take, drop, ◌∙◌, arith}
+use Rattle.std.proofs.Common.{ℕ, ◌≡◌, ◌+◌, ◌-◌, ◌/◌, ap, sym, take, drop, ◌∙◌, arith}
 use Rattle.lk_base.specs.Checksum.{bits_of_bytes}
 use Rattle.lane_lock.proofs.EightWords.{eight_alike}
 use Rattle.lane_lock.proofs.Loads.{within}

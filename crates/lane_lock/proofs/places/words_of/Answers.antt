@@ -1,5 +1,5 @@
 -- One word more of the codes.
-use Rattle.std.proofs.Common.{◌+◌, ◌*◌, arith, length, length-set, sym, ◌∙◌}
+use Rattle.std.proofs.Common.{arith, length-set, sym, ◌∙◌}
 use Rattle.std.proofs.lemmas.List.{length-take-le}
 use Rattle.lk_base.specs.Checksum.{bits_of_bytes}
 use Rattle.lane_lock.proofs.EightWords.{no_words, word_set}

@@ -1,5 +1,5 @@
 -- So many legal headers, within a block or past its end.
-use Rattle.std.proofs.Common.{sym, ap, ◌∙◌, ◌+◌, arith}
+use Rattle.std.proofs.Common.{sym, ap, ◌∙◌, arith}
 use Rattle.lane_lock.specs.Headers.{HeaderCount}
 use Rattle.lane_lock.specs.Run.{headers_ran}
 use Rattle.lane_lock.proofs.WordsRan.{headers_past, headers_within}

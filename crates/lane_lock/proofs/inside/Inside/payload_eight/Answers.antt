@@ -1,5 +1,5 @@
 -- Eight payload words.
-use Rattle.std.proofs.Common.{ℕ, List, ap, map, sym, ◌∙◌}
+use Rattle.std.proofs.Common.{ℕ, List, ap, map, ◌∙◌}
 use Rattle.lk_base.specs.Checksum.{bits_of_words, register_after}
 use Rattle.lk_base.specs.Words.{number_of}
 use Rattle.lk_base.specs.declared.word.RxWord.{RxWord}

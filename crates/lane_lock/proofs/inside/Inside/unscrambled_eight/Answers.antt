@@ -1,5 +1,5 @@
 -- One word more under the key.
-use Rattle.std.proofs.Common.{◌+◌, ap, arith, get_or, length-set, take, ◌∙◌}
+use Rattle.std.proofs.Common.{ap, arith, get_or, length-set, ◌∙◌}
 use Rattle.lk_base.specs.declared.word.RxWord.{RxWord}
 use Rattle.lk_base.specs.declared.word.RxWord.TheVariants.{Data}
 use Rattle.lane_lock.specs.Inside.{InsideState, with_key}

@@ -1,5 +1,5 @@
 -- One payload word more, or eight.
-use Rattle.std.proofs.Common.{ℕ, ◌≡◌, ◌+◌, ◌*◌, ◌++◌, ◌∷◌, [], false, refl, sym, ap, subst, ◌∙◌, Bool, List, map, take, drop, set, length, arith}
+use Rattle.std.proofs.Common.{◌≡◌, ◌+◌, ◌*◌, ◌++◌, ◌∷◌, [], false, refl, sym, ap, subst, ◌∙◌, Bool, List, take, drop, set, arith}
 use Rattle.std.proofs.lemmas.Grind.{take-set_at}
 use Rattle.std.proofs.lemmas.List.{append-nil, drop-drop, length-set}
 use Rattle.lk_base.specs.Checksum.{bits_of_bytes}
@@ -10,7 +10,7 @@ use Rattle.lock_model.specs.declared.types.LaneStep.{LaneStep}
 use Rattle.lane_lock.specs.Found.{found_steps}
 use Rattle.lane_lock.specs.Inside.{payload_number}
 use Rattle.lane_lock.specs.Lane.{LaneView}
-use Rattle.lane_lock.specs.Run.{AreWordsOf, RunState, keyed_word, keyed_words, lane_ran, run_of, word_ran, words_ran}
+use Rattle.lane_lock.specs.Run.{AreWordsOf, RunState, keyed_word, keyed_words, lane_ran, run_of, word_ran}
 use Rattle.lane_lock.proofs.Batches.{Ran}
 use Rattle.lane_lock.proofs.PayloadRuns.{ahead_first, ran_first}
 use Rattle.lane_lock.proofs.RunsReached.{Reached, reached_eight, reached_one}
