@@ -1,7 +1,5 @@
 -- The samples of frames, one after another.
-use Rattle.std.proofs.Common.{◌≡◌, ℕ, zero, suc, ◌+◌, ◌-◌, ◌<◌, ◌≤◌, Bool, true, false, List, [], ◌∷◌, ◌++◌, length, All, refl, sym, ap, ◌∙◌, subst, append-nil, arith, set, get_or, inl, inr, Option, Err}
-use Rattle.std.specs.Bool.{IsTrue}
-use Rattle.std.specs.Prelude.{◌↔◌}
+use Rattle.std.proofs.Common.{◌≡◌, ℕ, zero, suc, ◌+◌, ◌-◌, ◌<◌, ◌≤◌, List, [], ◌∷◌, ◌++◌, length, All, refl, sym, ap, ◌∙◌, subst, append-nil, arith, set, get_or, inl, inr}
 use Rattle.std.proofs.lemmas.Bool.{cases_lt}
 use Rattle.std.proofs.lemmas.List.{length-append, length-map}
 use Rattle.std.proofs.Math.Nat.{mul-suc}
@@ -13,12 +11,7 @@ use Rattle.oob_flow.specs.Frames.{frame_length}
 use Rattle.oob_flow.specs.Written.{written_frame, frame_begin, states_at, BeginsAfterRows, AreWritten}
 use Rattle.oob_flow.proofs.Writings.{frame_long}
 use Rattle.oob_flow.proofs.Blocks.{long_frame, frame_samples_length}
-use Rattle.lk_outside.specs.Files.{Files, Told}
-use Rattle.run_stops.specs.declared.stop.Stop.{Stop}
-use Rattle.run_shell.specs.Outcome.{HoldsPart}
-use Rattle.run_shell.specs.Open.{Open}
-use Rattle.run_shell.specs.Outputs.{outs, open_names, Grown}
-use Rattle.oob_commands.specs.Fill.{frames_before, FilledOne}
+use Rattle.oob_commands.specs.Frames.{frames_before}
 
 pub frame_more : (entries : List ℕ) (local : List LocalRow) (k : ℕ) → frames_before entries local (k + 1) ≡ frames_before entries local k ++ written_frame entries local k
 unfolding frames_before
@@ -58,10 +51,10 @@ frame_short n h k = let e = long_frame n h in omega (arith, e)
 abbrev pub Early : List ℕ → List LocalRow → ℕ → Type 0
 Early entries local k = (m : ℕ) → m < k → BeginsAfterRows entries local m → ⊥
 
-pub more_early : (entries : List ℕ) (local : List LocalRow) (k : ℕ) (last : Bool) → Early entries local k → last ≡ false → IsTrue last ↔ BeginsAfterRows entries local k → Early entries local (k + 1)
-more_early entries local k last early is same m l behind = elim (cases_lt m k) [
+pub no_more : (entries : List ℕ) (local : List LocalRow) (k : ℕ) → Early entries local k → (BeginsAfterRows entries local k → ⊥) → Early entries local (k + 1)
+no_more entries local k early on m l behind = elim (cases_lt m k) [
   | inl below ↦ early m below behind
-  | inr none ↦ (let e : m ≡ k = omega arith in let t : last ≡ true = same.1 (subst (BeginsAfterRows entries local) e behind) in absurd (cc))
+  | inr none ↦ (let e : m ≡ k = omega arith in on (subst (BeginsAfterRows entries local) e behind))
 ]
 
 -- a frame after one that begins before some row begins at most a frame later
@@ -91,18 +84,6 @@ frames_begin entries local k j early near bytes w = elim (cases_lt w.last k) [
 pub all_frames : (entries : List ℕ) (local : List LocalRow) (k : ℕ) → Early entries local k → BeginsAfterRows entries local k → AreWritten entries local (frames_before entries local (k + 1))
 unfolding frames_before
 all_frames entries local k early behind = record { last = k; is_last = (behind, early); frames = refl }
-
-abbrev pub Samples : List ℕ → List LocalRow → List ℕ → ℕ → Type 0
-Samples entries local bytes count = AreWritten entries local bytes × (count ≡ length bytes)
-
--- frame k could not be given
-pub not_given : (T : Type 0) (entries : List ℕ) (local : List LocalRow) (k : ℕ) (first old new : List Open) (s : Stop) (was now : Option Files) → open_names old ≡ open_names first → Early entries local k
-    → Grown {T = T} old new (frames_before entries local (k + 1) ∷ []) (Err s) was now → FilledOne (Samples entries local) first new (Err s) was now
-not_given T entries local k first old new s was now names early grown = (
-  frames_before entries local (k + 1),
-  (λ bytes count w. frames_begin entries local k (k + 1) early (omega arith) bytes w.0),
-  subst (λ ns. Told was now (HoldsPart (outs ns (frames_before entries local (k + 1) ∷ [])))) names grown,
-)
 
 pub frame_further : (entries : List ℕ) (k : ℕ) → 1 ≤ length entries → frame_begin entries k < frame_begin entries (k + 1)
 frame_further entries k low =

@@ -2,7 +2,7 @@
 pub mod Works
 pub mod StatusBack
 -- What this crate alone cites.
-mod OneOutput
+mod Makers
 mod Hexes
 mod FlowRead
 mod Worked

@@ -1,15 +1,9 @@
 -- The text of rows, one after another.
-use Rattle.std.proofs.Common.{◌≡◌, ℕ, ◌+◌, List, [], ◌∷◌, ◌++◌, Some, length, set, get_or, refl, sym, ap, ◌∙◌, append-nil, arith, Option, Err, ◌≤◌, ◌<◌, true, nat_lt, take, drop, subst}
+use Rattle.std.proofs.Common.{◌≡◌, ℕ, ◌+◌, List, [], ◌∷◌, ◌++◌, Some, length, set, get_or, refl, sym, ap, ◌∙◌, append-nil, arith, ◌≤◌, ◌<◌, true, nat_lt, take, drop}
 use Rattle.std.proofs.lemmas.Bool.Decides.{nat_tests}
 use Rattle.std.proofs.lemmas.List.{take-append-drop}
-use Rattle.lk_outside.specs.Files.{Files, Told}
-use Rattle.run_stops.specs.declared.stop.Stop.{Stop}
-use Rattle.run_shell.specs.Outcome.{HoldsPart}
-use Rattle.run_shell.specs.Open.{Open}
-use Rattle.run_shell.specs.Outputs.{outs, open_names, Grown}
 use Rattle.oob_flow.specs.Reading.{rows_of_bits}
 use Rattle.oob_flow.proofs.Going.{go_on}
-use Rattle.oob_commands.specs.Fill.{FilledOne}
 use Rattle.std.specs.List.{flat_map}
 use Rattle.std.specs.Fmt.{decimal}
 use Rattle.std.proofs.lemmas.List.{length-append, length-map, map-append}
@@ -60,18 +54,12 @@ pub no_rows : (entries : ℕ) → rows_of_samples entries [] ≡ []
 unfolding rows_of_samples rows_of_bits
 no_rows entries = refl
 
-abbrev pub Rows : ℕ → List ℕ → List ℕ → ℕ → Type 0
-Rows entries samples bytes count = (bytes ≡ flow_file (rows_of_samples entries samples)) × (count ≡ length (rows_of_samples entries samples))
-
--- the rows of a sample could not be given
-pub rows_not_given : (T : Type 0) (entries : ℕ) (samples : List ℕ) (slot : ℕ) (done : List ℕ) (first old new : List Open) (s : Stop) (was now : Option Files) → 1 ≤ entries → take (slot + 1) samples ≡ done → open_names old ≡ open_names first
-    → Grown {T = T} old new (flow_file (rows_of_samples entries done) ∷ []) (Err s) was now → FilledOne (Rows entries samples) first new (Err s) was now
-rows_not_given T entries samples slot done first old new s was now low e names grown =
-    let rest : List ℕ = drop (slot + 1) samples in
-    let split : done ++ rest ≡ samples = ap (λ (xs : List ℕ). xs ++ rest) (sym e) ∙ take-append-drop (slot + 1) samples in
+-- the whole file begins with the rows of some first samples
+pub rows_begin : (entries : ℕ) (samples : List ℕ) (slot : ℕ) → 1 ≤ entries → (rest : List ℕ) × (flow_file (rows_of_samples entries samples) ≡ flow_file (rows_of_samples entries (take slot samples)) ++ rest)
+rows_begin entries samples slot low =
+    let done : List ℕ = take slot samples in
+    let rest : List ℕ = drop slot samples in
+    let split : done ++ rest ≡ samples = take-append-drop slot samples in
     let on = go_on entries done rest low in
-    let whole : rows_of_samples entries samples ≡ rows_of_samples entries done ++ on.0 = ap (rows_of_samples entries) (sym split) ∙ on.1 in (
-      flow_file (rows_of_samples entries done),
-      (λ bytes count w. (flow_file on.0, w.0 ∙ file_more (rows_of_samples entries done) on.0 (rows_of_samples entries samples) whole)),
-      subst (λ ns. Told was now (HoldsPart (outs ns (flow_file (rows_of_samples entries done) ∷ [])))) names grown,
-    )
+    let whole : rows_of_samples entries samples ≡ rows_of_samples entries done ++ on.0 = ap (rows_of_samples entries) (sym split) ∙ on.1 in
+    (flow_file on.0, file_more (rows_of_samples entries done) on.0 (rows_of_samples entries samples) whole)

@@ -1,9 +1,9 @@
 pub mod Limits
 pub mod FlowFile
-pub mod Content
+pub mod Frames
 pub mod WriteSamples
 pub mod ReadRows
-pub mod Fill
+pub mod Making
 pub mod Values
 pub mod Examples
 pub mod ReadBack

@@ -2,16 +2,15 @@
 //! samples give.
 #![tactic(auto)]
 
-mod content;
 mod flow_text;
 pub mod laws;
 mod limits;
 mod oob_read;
 mod oob_write;
+mod output;
 mod reading;
-mod rows;
-mod samples;
-mod write;
+mod row_maker;
+mod sample_maker;
 
 pub use limits::SAMPLES_LIMIT;
 pub use oob_read::OobRead;
