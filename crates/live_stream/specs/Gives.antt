@@ -1,0 +1,212 @@
+-- What a scheduler was given and which words it made of it.
+use Rattle.std.specs.Prelude.{◌≡◌, ◌⊎◌, ℕ, ◌+◌, ◌*◌, ◌/◌, ◌^◌, ◌<◌, ◌≤◌, Bool, true, false, not, List, [], ◌∷◌, ◌++◌, length, map, take, drop, All, Contains, Option, Some, None, is_some, if◌then◌else◌, nat_lt, nat_eq}
+use Rattle.std.specs.Option.{option_or}
+use Rattle.lk_base.specs.Words.{payload, block}
+use Rattle.lk_base.specs.Fields.{burst_field}
+use Rattle.lk_base.specs.Least.{IsLeast}
+use Rattle.lk_base.specs.Limits.{longest_packet}
+use Rattle.lk_base.specs.declared.word.Word.{Word}
+use Rattle.lk_base.specs.declared.word.Word.TheVariants.{Data, Control}
+use Rattle.lk_base.specs.declared.shape.Shape.{Shape}
+use Rattle.stream_model.specs.BurstStream.{Source, Chunk, IsAt, StandsInBurst, IsRightControl, chunk_of_burst, data_after, data_words, data_since, end_format, controls_in}
+use Rattle.stream_model.specs.Calendar.{Told}
+use Rattle.stream_model.specs.declared.rows.FlowRow.{FlowRow}
+use Rattle.stream_model.specs.declared.rows.LocalRow.{LocalRow}
+use Rattle.control_words.specs.ControlWord.{eop_format}
+use Rattle.calendar.specs.Changes.{told_back}
+use Rattle.calendar.specs.Incoming.{Stands}
+use Rattle.calendar.specs.Outgoing.{StandsOut}
+use Rattle.burst_scheduler.specs.Queues.{sizes_of}
+use Rattle.burst_scheduler.specs.Gives.{SpacesFit}
+use Rattle.live_stream.specs.LiveStream.{LivePacket, Given, as_sent, source_at, IsLiveEnding}
+use Rattle.live_stream.specs.Waiting.{channels_of}
+use Rattle.live_stream.specs.Turns.{AreInTurn, HaveLeft, IsFirstReady}
+use Rattle.live_stream.specs.declared.refused.Refused.{Refused}
+use Rattle.live_stream.specs.declared.refused.Refused.TheVariants as refused
+use Rattle.live_stream.specs.declared.scheduler.LiveScheduler.{LiveScheduler}
+use Rattle.live_stream.specs.declared.scheduler.TheConstants.{MOST_WORDS}
+
+-- ---- what calls give
+
+abbrev pub nothing_given : Shape → List ℕ → List ℕ → Given
+nothing_given shape channels entries = record { shape = shape; channels = channels; entries = entries; packets = []; flow = []; local = []; closed = None }
+
+-- each counts from the next slot on
+abbrev pub packet_added : Given → List Word → ℕ → List ℕ → Given
+packet_added g w channel bytes = record {
+  shape = g.shape;
+  channels = g.channels;
+  entries = g.entries;
+  packets = g.packets ++ record { slot = length w; channel = channel; bytes = bytes } ∷ [];
+  flow = g.flow;
+  local = g.local;
+  closed = g.closed;
+}
+
+abbrev pub flow_added : Given → List Word → ℕ → Given
+flow_added g w word = record {
+  shape = g.shape;
+  channels = g.channels;
+  entries = g.entries;
+  packets = g.packets;
+  flow = g.flow ++ record { slot = length w; word = word } ∷ [];
+  local = g.local;
+  closed = g.closed;
+}
+
+abbrev pub local_added : Given → List Word → ℕ → Bool → Given
+local_added g w channel on = record {
+  shape = g.shape;
+  channels = g.channels;
+  entries = g.entries;
+  packets = g.packets;
+  flow = g.flow;
+  local = g.local ++ record { slot = length w; channel = channel; on = on } ∷ [];
+  closed = g.closed;
+}
+
+-- closed at this slot, if it was not before
+abbrev pub closed_at : Given → List Word → Given
+closed_at g w = record {
+  shape = g.shape;
+  channels = g.channels;
+  entries = g.entries;
+  packets = g.packets;
+  flow = g.flow;
+  local = g.local;
+  closed = option_or g.closed (Some (length w));
+}
+
+-- the words that one call makes
+abbrev pub words_of : Option Word → List Word
+words_of None = []
+words_of (Some word) = word ∷ []
+
+-- the most words of a stream
+abbrev pub most_words : ℕ
+most_words = MOST_WORDS
+
+-- ---- the words that were made, and what is planned after them
+
+-- the source of all that was given
+abbrev pub source_of : Given → Source
+source_of g = record { shape = g.shape; channels = g.channels; entries = g.entries; packets = map as_sent g.packets; flow = g.flow; local = g.local }
+
+-- the data words of the burst under way that are still to come
+abbrev pub to_come : LiveScheduler → List ℕ
+to_come s = drop s.given (take s.count s.run.items)
+
+-- the words made, and the rest of the burst that is under way
+abbrev pub planned : LiveScheduler → List Word → List Word
+planned s w = w ++ map Data (to_come s)
+
+-- each of these words is right by what was given up to its slot, and each burst is whole
+pub record AreRight (g : Given) (w : List Word) : Type 0 where
+  pub sized : (t : ℕ) (word : Word) → IsAt w t word → payload word < 2 ^ 64
+  pub data_in_bursts : (t x : ℕ) → IsAt w t (Data x) → StandsInBurst (take t w)
+  pub chunks : (s x : ℕ) → IsAt w s (Control x) → burst_field x ≡ 1 → (chunk : Chunk) × (chunk_of_burst (source_at g s) (take s w) (Control x) ≡ Some chunk) × (data_after w s ≡ data_words chunk.bytes)
+  pub controls : (t x : ℕ) → IsAt w t (Control x) → IsRightControl (source_at g t) (take t w) x
+
+-- all that was given so far was given after at most so many words, and each packet is one of a listed channel
+pub record AreGivenBy (g : Given) (n : ℕ) : Type 0 where
+  pub packets : All (λ (p : LivePacket). p.slot ≤ n) g.packets
+  pub flow : All (λ (row : FlowRow). row.slot ≤ n) g.flow
+  pub local : All (λ (row : LocalRow). row.slot ≤ n) g.local
+  pub listed : All (λ (p : LivePacket). Contains g.channels p.channel) g.packets
+
+-- ---- the end
+
+-- no slot of these words is an ending
+abbrev pub GoesOn : Given → List Word → Type 0
+GoesOn g w = (closed z : ℕ) → g.closed ≡ Some closed → IsLiveEnding g closed w z → ⊥
+
+-- no ending is found, or this one is the first, and the words made go no further than the group after its own
+abbrev pub HasEnd : Option ℕ → Given → ℕ → List Word → Type 0
+HasEnd None g made w = GoesOn g w
+HasEnd (Some z) g made w = ((closed : ℕ) × (g.closed ≡ Some closed) × IsLeast (IsLiveEnding g closed w) z) × (made ≤ g.shape.group * (z / g.shape.group + 2))
+
+-- ---- the scheduler
+
+-- the settings are those of a source
+pub record SettingsAre (s : LiveScheduler) (shape : Shape) : Type 0 where
+  pub sizes : s.sizes ≡ sizes_of shape
+  pub short : s.short ≡ shape.burst_short / 8
+  pub group : s.group ≡ shape.group
+  pub warm : s.warm ≡ shape.warmup * shape.group
+
+-- the scheduler was given this and made these words, whatever is known of their end
+pub record Holds (s : LiveScheduler) (g : Given) (w : List Word) : Type 0 where
+  pub settings : SettingsAre s g.shape
+  pub given_by : AreGivenBy g (length w)
+  -- the words so far
+  pub slot : s.slot ≡ length w
+  pub right : AreRight g (planned s w)
+  pub begun : (t x : ℕ) → IsAt (planned s w) t (Control x) → t < length w
+  -- the calendars
+  pub incoming : Stands s.incoming g.entries g.flow
+  pub outgoing : StandsOut s.outgoing g.entries g.local (controls_in w)
+  -- the queues, in the order of their channels' turns
+  pub turns : AreInTurn g.channels (told_back g.entries g.flow) (planned s w) (channels_of s.turns.items)
+  pub left : HaveLeft s.turns.items s.sizes (source_of g) (planned s w)
+  -- the burst under way
+  pub long : length s.run.items ≡ 512
+  pub within : (s.given ≤ s.count) × (s.count ≤ 512)
+  pub since : data_since (planned s w) ≡ take s.count s.run.items
+  pub end : eop_format s.eop ≡ end_format (source_of g) (planned s w)
+  pub spaces : SpacesFit s.free s.short (planned s w)
+
+-- the scheduler was given this, and made these words
+pub record Gives (s : LiveScheduler) (g : Given) (w : List Word) : Type 0 where
+  pub words : Holds s g w
+  pub closed : s.closed ≡ g.closed
+  pub closed_by : (c : ℕ) → g.closed ≡ Some c → c ≤ length w
+  pub finish : HasEnd s.finish g (length w) (planned s w)
+
+-- ---- one control word more
+
+-- the end is as it was, and the words planned are those made before and a block
+pub record AddsBlock (old new : LiveScheduler) (w : List Word) (x : ℕ) : Type 0 where
+  pub run : List ℕ
+  pub words : planned new (w ++ Control x ∷ []) ≡ w ++ block x run
+  pub end : (new.closed ≡ old.closed) × (new.finish ≡ old.finish)
+
+abbrev pub as_control : ℕ → Word
+as_control x = Control x
+
+abbrev pub as_data : ℕ → Word
+as_data x = Data x
+
+-- the last word is not made
+abbrev pub MayGoOn : LiveScheduler → Type 0
+MayGoOn s = (z : ℕ) → s.finish ≡ Some z → s.slot ≡ s.group * (z / s.group + 2) → ⊥
+
+-- the last burst is given as a whole, and a control word may follow
+pub record IsDue (s : LiveScheduler) : Type 0 where
+  pub given : s.count ≤ s.given
+  pub slot : s.slot < most_words
+
+-- no burst may start: in the warm-up, too near the last burst word, or where no channel may burst
+abbrev pub IsIdleTime : LiveScheduler → List Told → Type 0
+IsIdleTime s told = (s.slot < s.warm) ⊎ ((s.slot < s.free) ⊎ IsFirstReady told s.turns.items None)
+
+-- a burst may start, on the channel of the queue at this place
+pub record IsBurstTime (s : LiveScheduler) (told : List Told) (at : ℕ) : Type 0 where
+  pub warm : s.warm ≤ s.slot
+  pub free : s.free ≤ s.slot
+  pub first : IsFirstReady told s.turns.items (Some at)
+
+-- ---- refusals
+
+-- whether a channel is one of these
+abbrev pub is_among : List ℕ → ℕ → Bool
+is_among [] channel = false
+is_among (c ∷ channels) channel = if nat_eq c channel then true else is_among channels channel
+
+-- why a packet is refused, but for want of memory
+abbrev pub refusal_of : Given → ℕ → List ℕ → Option Refused
+refusal_of g channel bytes =
+    if is_some g.closed then Some refused.Closed
+    else if not (is_among g.channels channel) then Some refused.UnknownChannel
+    else if nat_lt (length bytes) 1 then Some refused.Empty
+    else if nat_lt longest_packet (length bytes) then Some refused.TooLong
+    else None

@@ -1,0 +1,4 @@
+pub mod LiveStream
+pub mod Waiting
+pub mod Turns
+pub mod Gives

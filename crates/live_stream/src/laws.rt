@@ -1,0 +1,32 @@
+ghost use Rattle.std.specs.Prelude.{◌≡◌, ◌↔◌, ℕ, ◌≤◌, List, length, All, Some};
+ghost use Rattle.lk_base.specs.declared.word.Word.{Word};
+ghost use Rattle.stream_model.specs.BurstStream.{IsBurstStream};
+ghost use Rattle.stream_model.specs.declared.rows.FlowRow.{FlowRow};
+ghost use Rattle.stream_model.specs.declared.rows.LocalRow.{LocalRow};
+ghost use Rattle.duplex_model.specs.OpenStream.{IsOpenStream};
+ghost use Rattle.live_stream.specs.LiveStream.{LivePacket, Given, source_at, warmup_of, with_more, AreGivenFrom, IsGivenAtOnce, IsLiveStream, IsWholeLiveStream};
+ghost use Rattle.live_stream.specs.Gives.{Gives};
+ghost use Rattle.live_stream.specs.declared.scheduler.LiveScheduler.{LiveScheduler};
+
+/// What was given has at most one live stream of each length, and at most one whole one.
+pub fn one_live_stream()
+    ensures live { (given : Given) (v w : List Word) → IsLiveStream given v → IsLiveStream given w → length v ≡ length w → v ≡ w }
+    ensures whole { (given : Given) (v w : List Word) → IsWholeLiveStream given v → IsWholeLiveStream given w → v ≡ w }
+{}
+
+/// What is given after the words that are there changes none of them.
+pub fn later_is_not_heard()
+    ensures { (given : Given) (packets : List LivePacket) (flow : List FlowRow) (local : List LocalRow) (w : List Word) → AreGivenFrom (length w) packets flow local → IsLiveStream given w ↔ IsLiveStream (with_more given packets flow local) w }
+{}
+
+/// Where all packets were given before the first word a live stream is an open stream of them. Where it was closed in the warm-up at
+/// the latest, and no flow row came after that, the whole one is their stream.
+pub fn given_at_once()
+    ensures open { (given : Given) (w : List Word) → IsGivenAtOnce given → IsLiveStream given w ↔ IsOpenStream (source_at given 0) w }
+    ensures whole { (given : Given) (w : List Word) (closed : ℕ) → IsGivenAtOnce given → given.closed ≡ Some closed → closed ≤ warmup_of given → All (λ (row : FlowRow). row.slot ≤ closed) given.flow → IsWholeLiveStream given w ↔ IsBurstStream (source_at given 0) w }
+{}
+
+/// The words that a scheduler made are the live stream of what it was given.
+pub fn words_are_live()
+    ensures { (s : LiveScheduler) (g : Given) (w : List Word) → Gives s g w → IsLiveStream g w }
+{}

@@ -1,0 +1,11 @@
+//! The payload stream of a link whose packets and rows are given while it is made: at any time, between any two words.
+#![tactic(auto)]
+
+pub mod laws;
+mod refused;
+mod scheduler;
+mod turns;
+mod waiting;
+
+pub use refused::{Closed, Refused};
+pub use scheduler::{LiveScheduler, MOST_WORDS};

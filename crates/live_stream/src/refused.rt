@@ -1,0 +1,28 @@
+use lk_base::OutOfMemory;
+use std::alloc::{AllocError, AllocFailed};
+use thiserror::Error;
+
+/// Why a packet is not taken. Nothing has changed then.
+#[derive(Clone, Copy, Debug, PartialEq, Eq, Error)]
+pub enum Refused {
+    /// The stream was closed before.
+    #[error("the stream was closed")]
+    Closed,
+    /// The channel is not listed.
+    #[error("the channel is not listed")]
+    UnknownChannel,
+    /// The packet has no bytes.
+    #[error("the packet is empty")]
+    Empty,
+    /// The packet has more than `LONGEST_PACKET` bytes.
+    #[error("the packet is too long")]
+    TooLong,
+    /// Memory ran out.
+    #[error("out of memory")]
+    OutOfMemory,
+}
+
+/// The stream was closed, so that no row is taken.
+#[derive(Clone, Copy, Debug, PartialEq, Eq, Error)]
+#[error("the stream was closed")]
+pub struct Closed;

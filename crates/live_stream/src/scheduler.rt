@@ -1,0 +1,320 @@
+ghost use Rattle.std.specs.Prelude.{◌≡◌, ℕ, ◌≤◌};
+ghost use Rattle.control_words.specs.declared.fields.Eop.TheVariants.{End};
+
+use super::refused::{Closed, Refused};
+use super::turns::{first_ready, place, to_back, turn_all};
+use super::waiting::{Waiting, empty_queues};
+use arrayvec::ArrayVec;
+use burst_scheduler::{BurstSizes, end_of};
+use calendar::{CalendarIn, CalendarOut, valid_word};
+use control_words::{Control, Eop, sealed};
+use lk_base::{LONGEST_PACKET, OutOfMemory, Shape, Word};
+use std::alloc::Global;
+
+/// The most words of a stream. A scheduler makes none after them.
+pub const MOST_WORDS: u64 = 1_152_921_504_606_846_976;
+
+/// The maker of a payload stream that takes packets and rows at any time: between any two words a packet, a word of the far end's
+/// flow control or a state of this end's own may be given, each of which counts from the next word on. `Gives scheduler given words`
+/// says what it was given and which words it made; each call says what it makes of this, and `words_are_live` which words they are.
+///
+/// The queues stand in the order of their channels' turns: the next burst is on the first channel in it that is on and has bytes left,
+/// and it goes to the back with its burst, as it does where flow control turns it on. A packet for an idle channel leaves the order as
+/// it is, so that the channel goes before those that had a burst since its own last one.
+#[derive(Drop)]
+pub struct LiveScheduler {
+    alloc: Global,
+    // The settings: bytes of a burst, slots between two bursts, slots of a group, slots of the warm-up.
+    sizes: BurstSizes,
+    short: u64,
+    group: u64,
+    warm: u64,
+    // The listed channels in the order of their turns.
+    turns: Vec<Waiting>,
+    incoming: CalendarIn,
+    outgoing: CalendarOut,
+    slot: u64,
+    // The data words of the last burst, or none after an idle, how many of them were given, and how they end.
+    run: Vec<u64>,
+    count: usize,
+    given: usize,
+    eop: Eop,
+    // The first slot that is far enough from the last burst word.
+    free: u64,
+    // The slots at which it was closed, and at which the ending was found.
+    closed: Option<u64>,
+    finish: Option<u64>,
+    ghost end_in_range: { (n : ℕ) → eop ≡ End n → (1 ≤ n) × (n ≤ 8) },
+}
+
+impl LiveScheduler {
+    ghost use Rattle.std.specs.Prelude.{◌≡◌, ◌⊎◌, ◌↔◌, ℕ, ◌+◌, ◌*◌, ◌<◌, ◌≤◌, List, [], ◌∷◌, ◌++◌, length, All, Contains, IfOk, OnOk, OnErr, MatchOption, Option, Some, None};
+    ghost use Rattle.std.specs.Result.{Ok, Err};
+    ghost use Rattle.std.specs.List.{AllPairs};
+    ghost use Rattle.lk_base.specs.declared.word.Word.{Word};
+    ghost use Rattle.live_stream.specs.LiveStream.{Given, IsWholeLiveStream};
+    ghost use Rattle.live_stream.specs.Gives.{Gives, nothing_given, packet_added, flow_added, local_added, closed_at, words_of, most_words, refusal_of, Holds, IsDue, IsIdleTime, IsBurstTime, AddsBlock, MayGoOn, as_control, as_data};
+    ghost use Rattle.calendar.specs.Changes.{told_back};
+    ghost use Rattle.live_stream.specs.declared.refused.Closed.{Closed};
+    ghost use Rattle.live_stream.specs.declared.refused.Refused.TheVariants as refused;
+
+    /// Nothing was given yet, and no word was made.
+    pub fn new(
+        alloc: Global,
+        shape: Shape,
+        channels: &[u16],
+        entries: &[u16],
+    ) -> Result<LiveScheduler, OutOfMemory>
+        requires entries_low { 1 ≤ length entries.now }
+        requires entries_high { length entries.now ≤ 1024 }
+        requires distinct { AllPairs (λ x y. x ≡ y → ⊥) channels.now }
+        ensures { IfOk result (λ s. Gives s (nothing_given shape channels.now entries.now) []) }
+    {
+        let incoming = CalendarIn::new(alloc, entries)?;
+        let outgoing = CalendarOut::new(alloc, entries)?;
+        let turns = empty_queues(alloc, channels)?;
+        let run = Vec::from_array(alloc, [0; 512])?;
+        Ok(LiveScheduler {
+            alloc,
+            sizes: BurstSizes {
+                most: shape.burst_max as usize,
+                least: shape.burst_min as usize,
+            },
+            short: (shape.burst_short / 8) as u64,
+            group: shape.group,
+            warm: shape.warmup * shape.group,
+            turns,
+            incoming,
+            outgoing,
+            slot: 0,
+            run,
+            count: 0,
+            given: 0,
+            eop: Eop::Going,
+            free: 0,
+            closed: None,
+            finish: None,
+        })
+    }
+
+    /// Gives a packet, with its bytes copied. It counts from the next word on.
+    ///
+    /// # Errors
+    ///
+    /// In this order: the stream was closed, the channel is not listed, the packet has no bytes or more than `LONGEST_PACKET`, memory
+    /// ran out. Nothing has changed then.
+    pub fn packet(&mut self, channel: u16, bytes: &[u8]) -> Result<(), Refused>
+        requires gives { (g : Given) × (w : List Word) × Gives self.old g w }
+        ensures ok { OnOk result ((g : Given) (w : List Word) → Gives self.old g w → Gives self.new (packet_added g w channel bytes.now) w) }
+        ensures err { OnErr result ((g : Given) (w : List Word) → Gives self.old g w → Gives self.new g w) }
+        ensures why { (g : Given) (w : List Word) → Gives self.old g w → MatchOption (refusal_of g channel bytes.now) ((result ≡ Ok tt) ⊎ (result ≡ Err refused.OutOfMemory)) (λ why. result ≡ Err why) }
+    {
+        if self.closed.is_some() {
+            return Err(Refused::Closed);
+        }
+        let at = place(&self.turns, channel);
+        if at >= self.turns.len() {
+            return Err(Refused::UnknownChannel);
+        }
+        if bytes.len() == 0 {
+            return Err(Refused::Empty);
+        }
+        if bytes.len() > LONGEST_PACKET as usize {
+            return Err(Refused::TooLong);
+        }
+        self.turns[at].add(self.alloc, bytes)?;
+        Ok(())
+    }
+
+    /// Gives the word of a flow row of the far end. It counts from the next word on, if it is valid: a control word with the checksum of
+    /// itself alone.
+    ///
+    /// # Errors
+    ///
+    /// The stream was closed. Nothing has changed then.
+    pub fn flow(&mut self, word: u64) -> Result<(), Closed>
+        requires gives { (g : Given) × (w : List Word) × Gives self.old g w }
+        ensures open { (g : Given) (w : List Word) → Gives self.old g w → g.closed ≡ None → (result ≡ Ok tt) × Gives self.new (flow_added g w word) w }
+        ensures closed { (g : Given) (w : List Word) (slot : ℕ) → Gives self.old g w → g.closed ≡ Some slot → (result ≡ Err Closed) × Gives self.new g w }
+    {
+        if self.closed.is_some() {
+            return Err(Closed);
+        }
+        let mut changed = ArrayVec::new();
+        self.incoming.take(valid_word(word), &mut changed);
+        turn_all(&mut self.turns, &changed);
+        Ok(())
+    }
+
+    /// Gives a state of this end's own: the channel is on or off from the next control word on, as the control words tell it. It changes
+    /// no burst.
+    ///
+    /// # Errors
+    ///
+    /// The stream was closed. Nothing has changed then.
+    pub fn local(&mut self, channel: u16, on: bool) -> Result<(), Closed>
+        requires gives { (g : Given) × (w : List Word) × Gives self.old g w }
+        ensures open { (g : Given) (w : List Word) → Gives self.old g w → g.closed ≡ None → (result ≡ Ok tt) × Gives self.new (local_added g w channel on) w }
+        ensures closed { (g : Given) (w : List Word) (slot : ℕ) → Gives self.old g w → g.closed ≡ Some slot → (result ≡ Err Closed) × Gives self.new g w }
+    {
+        if self.closed.is_some() {
+            return Err(Closed);
+        }
+        self.outgoing.set(channel, on);
+        Ok(())
+    }
+
+    /// Closes the stream: no packet and no row is taken from now on, and it ends once no channel is ready. Of a stream that was closed
+    /// it changes nothing.
+    pub fn finish(&mut self)
+        requires gives { (g : Given) × (w : List Word) × Gives self.old g w }
+        ensures gives { (g : Given) (w : List Word) → Gives self.old g w → Gives self.new (closed_at g w) w }
+    {
+        if self.closed.is_none() {
+            self.closed = Some(self.slot);
+        }
+    }
+
+    // An idle, with no data after it.
+    fn idle(&mut self) -> u64
+        requires words { (g : Given) × (w : List Word) × Holds self.old g w }
+        requires due { IsDue self.old }
+        ensures words { (g : Given) (w : List Word) → Holds self.old g w → IsIdleTime self.old (told_back g.entries g.flow) → Holds self.new g (w ++ as_control result ∷ []) × AddsBlock self.old self.new w result }
+    {
+        let (reset, flow) = self.outgoing.next();
+        let x = sealed(
+            Control {
+                burst: false,
+                sop: false,
+                eop: self.eop,
+                reset,
+                flow,
+                channel: 0,
+                multi: 0,
+            },
+            &self.run[..self.count],
+        );
+        self.count = 0;
+        self.given = 0;
+        self.eop = Eop::Going;
+        self.slot += 1;
+        x
+    }
+
+    // A burst word on the channel of the queue at this place, which goes to the back. The channel's number has its remainder by 256 in
+    // the bits for the channel, and its quotient in those for multiple use.
+    fn burst(&mut self, at: usize) -> u64
+        requires words { (g : Given) × (w : List Word) × Holds self.old g w × IsBurstTime self.old (told_back g.entries g.flow) at }
+        requires due { IsDue self.old }
+        ensures words { (g : Given) (w : List Word) → Holds self.old g w → IsBurstTime self.old (told_back g.entries g.flow) at → Holds self.new g (w ++ as_control result ∷ []) × AddsBlock self.old self.new w result }
+    {
+        let channel = self.turns[at].channel;
+        let (reset, flow) = self.outgoing.next();
+        let x = sealed(
+            Control {
+                burst: true,
+                sop: self.turns[at].is_first(),
+                eop: self.eop,
+                reset,
+                flow,
+                channel: (channel % 256) as u8,
+                multi: (channel / 256) as u8,
+            },
+            &self.run[..self.count],
+        );
+        let taken = self.turns[at].take(self.sizes, &mut self.run);
+        to_back(&mut self.turns, at);
+        self.count = taken.words;
+        self.given = 0;
+        self.eop = end_of(taken.bytes, taken.last);
+        self.free = self.slot + 1 + self.short;
+        self.slot += 1;
+        x
+    }
+
+    // The ending, where it is known once a control word stands at this slot: it is here where the stream is closed and no channel is
+    // ready after the warm-up.
+    fn ending(&self, ready: Option<usize>) -> Option<u64>
+        ensures found { self.now.finish ≡ None → IsSome self.now.closed → self.now.warm ≤ self.now.slot → ready ≡ None → result ≡ Some self.now.slot }
+        ensures open { self.now.finish ≡ None → self.now.closed ≡ None → result ≡ None }
+        ensures early { self.now.finish ≡ None → self.now.slot < self.now.warm → result ≡ None }
+        ensures ready { (at : ℕ) → self.now.finish ≡ None → ready ≡ Some at → result ≡ None }
+        ensures before { (z : ℕ) → self.now.finish ≡ Some z → result ≡ Some z }
+    {
+        if self.finish.is_some() {
+            return self.finish;
+        }
+        if self.closed.is_some() && self.slot >= self.warm && ready.is_none() {
+            Some(self.slot)
+        } else {
+            None
+        }
+    }
+
+    // The next control word: a burst word on the first channel in turn that is ready, or an idle. It is out of line, as most words are
+    // data.
+    #[inline(never)]
+    fn control(&mut self) -> u64
+        requires gives { (g : Given) × (w : List Word) × Gives self.old g w × MayGoOn self.old }
+        requires due { IsDue self.old }
+        ensures { (g : Given) (w : List Word) → Gives self.old g w → MayGoOn self.old → Gives self.new g (w ++ as_control result ∷ []) }
+    {
+        let ready = first_ready(&self.turns, &self.incoming);
+        self.finish = self.ending(ready);
+        let waits = self.slot < self.warm || self.slot < self.free;
+        match ready {
+            Some(at) => { if waits { self.idle() } else { self.burst(at) } }
+            None => self.idle(),
+        }
+    }
+
+    // Whether the last word was made: the words end with the group after that of the ending.
+    fn ends_here(&self) -> bool
+        requires { (g : Given) × (w : List Word) × Gives self.now g w × (self.now.slot < most_words) }
+        ensures { (g : Given) (w : List Word) → Gives self.now g w → MatchBool result (IsWholeLiveStream g w) ((IsWholeLiveStream g w → ⊥) × MayGoOn self.now) }
+    {
+        match self.finish {
+            Some(z) => self.slot == self.group * (z / self.group + 2),
+            None => false,
+        }
+    }
+
+    // The next data word of the burst that is under way.
+    fn data(&mut self) -> u64
+        requires gives { (g : Given) × (w : List Word) × Gives self.old g w × MayGoOn self.old }
+        requires going { self.old.given < self.old.count }
+        requires slot { self.old.slot < most_words }
+        ensures { (g : Given) (w : List Word) → Gives self.old g w → MayGoOn self.old → Gives self.new g (w ++ as_data result ∷ []) }
+    {
+        let x = self.run[self.given];
+        self.given += 1;
+        self.slot += 1;
+        x
+    }
+
+    /// The next word. `None` comes exactly where the stream is whole, which is so only after `finish`, or where it has `MOST_WORDS`
+    /// words.
+    #[inline]
+    pub fn next(&mut self) -> Option<Word>
+        requires gives { (g : Given) × (w : List Word) × Gives self.old g w }
+        ensures gives { (g : Given) (w : List Word) → Gives self.old g w → Gives self.new g (w ++ words_of result) }
+        ensures end { (g : Given) (w : List Word) → Gives self.old g w → (result ≡ None) ↔ (IsWholeLiveStream g w ⊎ (most_words ≤ length w)) }
+    {
+        if self.slot >= MOST_WORDS || self.ends_here() {
+            return None;
+        }
+        if self.given < self.count {
+            Some(Word::Data(self.data()))
+        } else {
+            Some(Word::Control(self.control()))
+        }
+    }
+
+    /// How many words were made.
+    pub fn slot(&self) -> u64
+        requires gives { (g : Given) × (w : List Word) × Gives self.now g w }
+        ensures count { (g : Given) (w : List Word) → Gives self.now g w → result ≡ length w }
+    {
+        self.slot
+    }
+}
