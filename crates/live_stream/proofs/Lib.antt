@@ -1,0 +1,16 @@
+pub mod Sources
+pub mod Right
+pub mod LiveWords
+pub mod OneLive
+pub mod Later
+pub mod AtOnce
+pub mod Left
+pub mod InTurn
+pub mod Telling
+pub mod Places
+pub mod EmptyQueues
+pub mod Steps
+pub mod Ends
+pub mod More
+pub mod Refusals
+pub mod Making

@@ -2,13 +2,13 @@
 use Rattle.std.specs.Prelude.{◌≡◌, ◌⊎◌, ℕ, ◌+◌, ◌*◌, ◌/◌, ◌^◌, ◌<◌, ◌≤◌, Bool, true, false, not, List, [], ◌∷◌, ◌++◌, length, map, take, drop, All, Contains, Option, Some, None, is_some, if◌then◌else◌, nat_lt, nat_eq}
 use Rattle.std.specs.Option.{option_or}
 use Rattle.lk_base.specs.Words.{payload, block}
-use Rattle.lk_base.specs.Fields.{burst_field}
+use Rattle.lk_base.specs.Fields.{burst_field, channel_number}
 use Rattle.lk_base.specs.Least.{IsLeast}
 use Rattle.lk_base.specs.Limits.{longest_packet}
 use Rattle.lk_base.specs.declared.word.Word.{Word}
 use Rattle.lk_base.specs.declared.word.Word.TheVariants.{Data, Control}
 use Rattle.lk_base.specs.declared.shape.Shape.{Shape}
-use Rattle.stream_model.specs.BurstStream.{Source, Chunk, IsAt, StandsInBurst, IsRightControl, chunk_of_burst, data_after, data_words, data_since, end_format, controls_in}
+use Rattle.stream_model.specs.BurstStream.{Source, Chunk, IsAt, StandsInBurst, IsRightControl, chunk_of_burst, data_after, data_words, data_since, end_format, controls_in, bursts_in, chunks_of}
 use Rattle.stream_model.specs.Calendar.{Told}
 use Rattle.stream_model.specs.declared.rows.FlowRow.{FlowRow}
 use Rattle.stream_model.specs.declared.rows.LocalRow.{LocalRow}
@@ -107,6 +107,10 @@ pub record AreRight (g : Given) (w : List Word) : Type 0 where
   pub chunks : (s x : ℕ) → IsAt w s (Control x) → burst_field x ≡ 1 → (chunk : Chunk) × (chunk_of_burst (source_at g s) (take s w) (Control x) ≡ Some chunk) × (data_after w s ≡ data_words chunk.bytes)
   pub controls : (t x : ℕ) → IsAt w t (Control x) → IsRightControl (source_at g t) (take t w) x
 
+-- each burst of these words has its chunk among those of the source
+abbrev pub HasChunks : Source → List Word → Type 0
+HasChunks source w = (t x : ℕ) → IsAt w t (Control x) → burst_field x ≡ 1 → bursts_in (take t w) (channel_number true x) < length (chunks_of source (channel_number true x))
+
 -- all that was given so far was given after at most so many words, and each packet is one of a listed channel
 pub record AreGivenBy (g : Given) (n : ℕ) : Type 0 where
   pub packets : All (λ (p : LivePacket). p.slot ≤ n) g.packets
@@ -142,6 +146,7 @@ pub record Holds (s : LiveScheduler) (g : Given) (w : List Word) : Type 0 where
   pub slot : s.slot ≡ length w
   pub right : AreRight g (planned s w)
   pub begun : (t x : ℕ) → IsAt (planned s w) t (Control x) → t < length w
+  pub has : HasChunks (source_of g) (planned s w)
   -- the calendars
   pub incoming : Stands s.incoming g.entries g.flow
   pub outgoing : StandsOut s.outgoing g.entries g.local (controls_in w)

@@ -1,5 +1,5 @@
 -- What a queue of owned packets stands for.
-use Rattle.std.specs.Prelude.{◌≡◌, ℕ, Bool, nat_lt, ◌<◌, ◌≤◌, List, [], ◌∷◌, ◌++◌, length, map, drop, All, Vec, Global}
+use Rattle.std.specs.Prelude.{◌≡◌, ℕ, Bool, nat_lt, ◌<◌, ◌≤◌, List, [], ◌∷◌, ◌++◌, length, map, drop, All}
 use Rattle.stream_model.specs.BurstStream.{Chunk}
 use Rattle.burst_scheduler.specs.Queues.{chunks_in, chunks_behind}
 use Rattle.burst_scheduler.specs.declared.sizes.BurstSizes.{BurstSizes}
@@ -7,7 +7,7 @@ use Rattle.live_stream.specs.declared.waiting.Waiting.{Waiting}
 
 -- the packets that it holds, the first of which may be sent in part
 abbrev pub packets_in : Waiting → List (List ℕ)
-packets_in q = map (λ (p : Vec ℕ Global). p.items) q.packets.items
+packets_in q = map (λ p. p.items) q.packets.items
 
 -- the chunks that are left of these packets, where this many bytes of the first were taken
 abbrev pub chunks_left : BurstSizes → List (List ℕ) → ℕ → List Chunk

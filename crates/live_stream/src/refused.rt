@@ -1,5 +1,4 @@
 use lk_base::OutOfMemory;
-use std::alloc::{AllocError, AllocFailed};
 use thiserror::Error;
 
 /// Why a packet is not taken. Nothing has changed then.
@@ -20,6 +19,17 @@ pub enum Refused {
     /// Memory ran out.
     #[error("out of memory")]
     OutOfMemory,
+}
+
+impl From<OutOfMemory> for Refused {
+    ghost use Rattle.std.specs.Prelude.{◌≡◌};
+    ghost use Rattle.live_stream.specs.declared.refused.Refused.TheVariants as refused;
+
+    ghost from_gives = { λ _ e. e ≡ refused.OutOfMemory };
+
+    fn from(_: OutOfMemory) -> Refused {
+        Refused::OutOfMemory
+    }
 }
 
 /// The stream was closed, so that no row is taken.

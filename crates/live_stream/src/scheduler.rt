@@ -48,14 +48,13 @@ pub struct LiveScheduler {
 }
 
 impl LiveScheduler {
-    ghost use Rattle.std.specs.Prelude.{◌≡◌, ◌⊎◌, ◌↔◌, ℕ, ◌+◌, ◌*◌, ◌<◌, ◌≤◌, List, [], ◌∷◌, ◌++◌, length, All, Contains, IfOk, OnOk, OnErr, MatchOption, Option, Some, None};
-    ghost use Rattle.std.specs.Result.{Ok, Err};
+    ghost use Rattle.std.specs.Prelude.{◌≡◌, ◌⊎◌, ◌↔◌, ℕ, ◌+◌, ◌*◌, ◌/◌, ◌<◌, ◌≤◌, List, [], ◌∷◌, ◌++◌, length, true, is_err, IfOk, OnOk, OnErr, Ok, Err, MatchOption, IsSome, Some, None};
+    ghost use Rattle.std.specs.Bool.{MatchBool};
     ghost use Rattle.std.specs.List.{AllPairs};
     ghost use Rattle.lk_base.specs.declared.word.Word.{Word};
     ghost use Rattle.live_stream.specs.LiveStream.{Given, IsWholeLiveStream};
     ghost use Rattle.live_stream.specs.Gives.{Gives, nothing_given, packet_added, flow_added, local_added, closed_at, words_of, most_words, refusal_of, Holds, IsDue, IsIdleTime, IsBurstTime, AddsBlock, MayGoOn, as_control, as_data};
     ghost use Rattle.calendar.specs.Changes.{told_back};
-    ghost use Rattle.live_stream.specs.declared.refused.Closed.{Closed};
     ghost use Rattle.live_stream.specs.declared.refused.Refused.TheVariants as refused;
 
     /// Nothing was given yet, and no word was made.
@@ -104,7 +103,7 @@ impl LiveScheduler {
     /// In this order: the stream was closed, the channel is not listed, the packet has no bytes or more than `LONGEST_PACKET`, memory
     /// ran out. Nothing has changed then.
     pub fn packet(&mut self, channel: u16, bytes: &[u8]) -> Result<(), Refused>
-        requires gives { (g : Given) × (w : List Word) × Gives self.old g w }
+        requires { (g : Given) × (w : List Word) × Gives self.old g w }
         ensures ok { OnOk result ((g : Given) (w : List Word) → Gives self.old g w → Gives self.new (packet_added g w channel bytes.now) w) }
         ensures err { OnErr result ((g : Given) (w : List Word) → Gives self.old g w → Gives self.new g w) }
         ensures why { (g : Given) (w : List Word) → Gives self.old g w → MatchOption (refusal_of g channel bytes.now) ((result ≡ Ok tt) ⊎ (result ≡ Err refused.OutOfMemory)) (λ why. result ≡ Err why) }
@@ -133,9 +132,9 @@ impl LiveScheduler {
     ///
     /// The stream was closed. Nothing has changed then.
     pub fn flow(&mut self, word: u64) -> Result<(), Closed>
-        requires gives { (g : Given) × (w : List Word) × Gives self.old g w }
+        requires { (g : Given) × (w : List Word) × Gives self.old g w }
         ensures open { (g : Given) (w : List Word) → Gives self.old g w → g.closed ≡ None → (result ≡ Ok tt) × Gives self.new (flow_added g w word) w }
-        ensures closed { (g : Given) (w : List Word) (slot : ℕ) → Gives self.old g w → g.closed ≡ Some slot → (result ≡ Err Closed) × Gives self.new g w }
+        ensures closed { (g : Given) (w : List Word) (slot : ℕ) → Gives self.old g w → g.closed ≡ Some slot → (is_err result ≡ true) × Gives self.new g w }
     {
         if self.closed.is_some() {
             return Err(Closed);
@@ -153,9 +152,9 @@ impl LiveScheduler {
     ///
     /// The stream was closed. Nothing has changed then.
     pub fn local(&mut self, channel: u16, on: bool) -> Result<(), Closed>
-        requires gives { (g : Given) × (w : List Word) × Gives self.old g w }
+        requires { (g : Given) × (w : List Word) × Gives self.old g w }
         ensures open { (g : Given) (w : List Word) → Gives self.old g w → g.closed ≡ None → (result ≡ Ok tt) × Gives self.new (local_added g w channel on) w }
-        ensures closed { (g : Given) (w : List Word) (slot : ℕ) → Gives self.old g w → g.closed ≡ Some slot → (result ≡ Err Closed) × Gives self.new g w }
+        ensures closed { (g : Given) (w : List Word) (slot : ℕ) → Gives self.old g w → g.closed ≡ Some slot → (is_err result ≡ true) × Gives self.new g w }
     {
         if self.closed.is_some() {
             return Err(Closed);
@@ -167,19 +166,20 @@ impl LiveScheduler {
     /// Closes the stream: no packet and no row is taken from now on, and it ends once no channel is ready. Of a stream that was closed
     /// it changes nothing.
     pub fn finish(&mut self)
-        requires gives { (g : Given) × (w : List Word) × Gives self.old g w }
-        ensures gives { (g : Given) (w : List Word) → Gives self.old g w → Gives self.new (closed_at g w) w }
+        requires { (g : Given) × (w : List Word) × Gives self.old g w }
+        ensures { (g : Given) (w : List Word) → Gives self.old g w → Gives self.new (closed_at g w) w }
     {
-        if self.closed.is_none() {
-            self.closed = Some(self.slot);
+        if self.closed.is_some() {
+            return;
         }
+        self.closed = Some(self.slot);
     }
 
     // An idle, with no data after it.
     fn idle(&mut self) -> u64
         requires words { (g : Given) × (w : List Word) × Holds self.old g w }
         requires due { IsDue self.old }
-        ensures words { (g : Given) (w : List Word) → Holds self.old g w → IsIdleTime self.old (told_back g.entries g.flow) → Holds self.new g (w ++ as_control result ∷ []) × AddsBlock self.old self.new w result }
+        ensures { (g : Given) (w : List Word) → Holds self.old g w → IsIdleTime self.old (told_back g.entries g.flow) → Holds self.new g (w ++ as_control result ∷ []) × AddsBlock self.old self.new w result }
     {
         let (reset, flow) = self.outgoing.next();
         let x = sealed(
@@ -206,7 +206,7 @@ impl LiveScheduler {
     fn burst(&mut self, at: usize) -> u64
         requires words { (g : Given) × (w : List Word) × Holds self.old g w × IsBurstTime self.old (told_back g.entries g.flow) at }
         requires due { IsDue self.old }
-        ensures words { (g : Given) (w : List Word) → Holds self.old g w → IsBurstTime self.old (told_back g.entries g.flow) at → Holds self.new g (w ++ as_control result ∷ []) × AddsBlock self.old self.new w result }
+        ensures { (g : Given) (w : List Word) → Holds self.old g w → IsBurstTime self.old (told_back g.entries g.flow) at → Holds self.new g (w ++ as_control result ∷ []) × AddsBlock self.old self.new w result }
     {
         let channel = self.turns[at].channel;
         let (reset, flow) = self.outgoing.next();
@@ -236,7 +236,7 @@ impl LiveScheduler {
     // ready after the warm-up.
     fn ending(&self, ready: Option<usize>) -> Option<u64>
         ensures found { self.now.finish ≡ None → IsSome self.now.closed → self.now.warm ≤ self.now.slot → ready ≡ None → result ≡ Some self.now.slot }
-        ensures open { self.now.finish ≡ None → self.now.closed ≡ None → result ≡ None }
+        ensures still { self.now.finish ≡ None → self.now.closed ≡ None → result ≡ None }
         ensures early { self.now.finish ≡ None → self.now.slot < self.now.warm → result ≡ None }
         ensures ready { (at : ℕ) → self.now.finish ≡ None → ready ≡ Some at → result ≡ None }
         ensures before { (z : ℕ) → self.now.finish ≡ Some z → result ≡ Some z }
@@ -296,7 +296,7 @@ impl LiveScheduler {
     /// words.
     #[inline]
     pub fn next(&mut self) -> Option<Word>
-        requires gives { (g : Given) × (w : List Word) × Gives self.old g w }
+        requires { (g : Given) × (w : List Word) × Gives self.old g w }
         ensures gives { (g : Given) (w : List Word) → Gives self.old g w → Gives self.new g (w ++ words_of result) }
         ensures end { (g : Given) (w : List Word) → Gives self.old g w → (result ≡ None) ↔ (IsWholeLiveStream g w ⊎ (most_words ≤ length w)) }
     {
@@ -312,8 +312,8 @@ impl LiveScheduler {
 
     /// How many words were made.
     pub fn slot(&self) -> u64
-        requires gives { (g : Given) × (w : List Word) × Gives self.now g w }
-        ensures count { (g : Given) (w : List Word) → Gives self.now g w → result ≡ length w }
+        requires { (g : Given) × (w : List Word) × Gives self.now g w }
+        ensures { (g : Given) (w : List Word) → Gives self.now g w → result ≡ length w }
     {
         self.slot
     }

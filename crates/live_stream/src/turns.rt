@@ -9,7 +9,7 @@ ghost use Rattle.calendar.specs.Incoming.{Stands};
 ghost use Rattle.burst_scheduler.specs.Gives.{AreLater};
 ghost use Rattle.burst_scheduler.specs.declared.sizes.BurstSizes.{BurstSizes};
 ghost use Rattle.live_stream.specs.Waiting.{channels_of};
-ghost use Rattle.live_stream.specs.Turns.{AreInTurn, HaveLeft, IsFirstReady, IsTurn};
+ghost use Rattle.live_stream.specs.Turns.{AreInTurn, HaveLeft, IsFirstReady, IsTurn, may_burst};
 ghost use Rattle.live_stream.specs.declared.waiting.Waiting.{Waiting};
 
 use super::waiting::Waiting;
@@ -30,14 +30,23 @@ pub fn place(turns: &[Waiting], channel: u16) -> usize
     turns.len()
 }
 
+// Whether a channel is on and has bytes left.
+fn is_ready(queue: &Waiting, incoming: &CalendarIn) -> bool
+    requires { (entries : List ℕ) × (rows : List FlowRow) × Stands incoming.now entries rows }
+    ensures { (entries : List ℕ) (rows : List FlowRow) → Stands incoming.now entries rows → result ≡ may_burst (told_back entries rows) queue.now }
+{
+    let on = incoming.is_on(queue.channel);
+    let left = queue.is_left();
+    on && left
+}
+
 /// The place of the first channel in turn that is on and has bytes left.
 pub fn first_ready(turns: &[Waiting], incoming: &CalendarIn) -> Option<usize>
     requires { (entries : List ℕ) × (rows : List FlowRow) × Stands incoming.now entries rows }
     ensures { (entries : List ℕ) (rows : List FlowRow) → Stands incoming.now entries rows → IsFirstReady (told_back entries rows) turns.now result }
 {
     for at in 0..turns.len() {
-        let on = incoming.is_on(turns[at].channel);
-        if on && turns[at].is_left() {
+        if is_ready(&turns[at], incoming) {
             return Some(at);
         }
     }

@@ -1,0 +1,62 @@
+-- Why a packet is refused.
+use Rattle.std.proofs.Common.{◌≡◌, ◌⊎◌, inl, inr, ℕ, zero, suc, ◌<◌, ◌≤◌, Bool, true, false, List, [], ◌∷◌, length, nat_eq, nat_lt, Option, Some, None, Result, Ok, Err, Contains, if◌then◌else◌, refl, sym, subst, arith}
+use Rattle.std.specs.Option.{MatchOption}
+use Rattle.std.specs.Result.{OnErr}
+use Rattle.std.proofs.lemmas.Bool.{cases_eq}
+use Rattle.std.proofs.lemmas.Bool.Decides.{nat_tests}
+use Rattle.lk_base.specs.Limits.{longest_packet}
+use Rattle.live_stream.specs.LiveStream.{Given}
+use Rattle.live_stream.specs.Gives.{is_among, refusal_of}
+use Rattle.live_stream.specs.declared.refused.Refused.{Refused}
+use Rattle.live_stream.specs.declared.refused.Refused.TheVariants as refused
+
+among_not : (channels : List ℕ) (c : ℕ) → (Contains channels c → ⊥) → is_among channels c ≡ false
+among_not [] c never = refl
+among_not (d ∷ channels) c never =
+    let other : nat_eq d c ≡ false = elim (cases_eq d c) [ inl e ↦ absurd (never (0, omega arith, e)) | inr ne ↦ grind (arith, nat_tests) ] in
+    rw other (among_not channels c (λ i. never (suc i.0, omega (arith, i.1), i.2)))
+
+among_here : (d c : ℕ) (channels : List ℕ) → d ≡ c → is_among (d ∷ channels) c ≡ true
+among_here d c channels e = let same : nat_eq d c ≡ true = grind (arith, nat_tests) in rw same refl
+
+among_later : (d c : ℕ) (channels : List ℕ) → is_among channels c ≡ true → is_among (d ∷ channels) c ≡ true
+among_later d c channels e = by (nat_eq d c)
+  where
+    by : (b : Bool) → (if b then true else is_among channels c) ≡ true
+    by true = refl
+    by false = e
+
+among_yes : (channels : List ℕ) (c : ℕ) → Contains channels c → is_among channels c ≡ true
+among_yes [] c i = absurd (omega (arith, i.1))
+among_yes (d ∷ channels) c (zero, h, e) = among_here d c channels e
+among_yes (d ∷ channels) c (suc k, h, e) = among_later d c channels (among_yes channels c (k, omega arith, e))
+
+module _ (g : Given) (c : ℕ) (bytes : List ℕ) (still : g.closed ≡ None) where
+  pub refused_unknown : (Contains g.channels c → ⊥) → refusal_of g c bytes ≡ Some refused.UnknownChannel
+  refused_unknown never = rw (still, among_not g.channels c never) refl
+
+  module _ (known : Contains g.channels c) where
+    pub refused_empty : length bytes ≡ 0 → refusal_of g c bytes ≡ Some refused.Empty
+    refused_empty none = let test : nat_lt (length bytes) 1 ≡ true = grind (arith, nat_tests) in rw (still, among_yes g.channels c known, test) refl
+
+    module _ (some : 1 ≤ length bytes) where
+      full : nat_lt (length bytes) 1 ≡ false
+      full = grind (arith, nat_tests)
+
+      pub refused_long : longest_packet < length bytes → refusal_of g c bytes ≡ Some refused.TooLong
+      refused_long long = let test : nat_lt longest_packet (length bytes) ≡ true = grind (arith, nat_tests) in rw (still, among_yes g.channels c known, full, test) refl
+
+      pub not_refused : length bytes ≤ longest_packet → refusal_of g c bytes ≡ None
+      not_refused short = let test : nat_lt longest_packet (length bytes) ≡ false = grind (arith, nat_tests) in rw (still, among_yes g.channels c known, full, test) refl
+
+-- ---- the answer of a call
+
+pub answered : (o : Option Refused) (why : Refused) (r : Result (Unit {0}) Refused) → o ≡ Some why → r ≡ Err why → MatchOption o ((r ≡ Ok tt) ⊎ (r ≡ Err refused.OutOfMemory)) (λ y. r ≡ Err y)
+answered o why r is e = subst (λ (p : Option Refused). MatchOption p ((r ≡ Ok tt) ⊎ (r ≡ Err refused.OutOfMemory)) (λ y. r ≡ Err y)) (sym is) e
+
+pub taken : (o : Option Refused) (r : Result (Unit {0}) Refused) → o ≡ None → (r ≡ Ok tt) ⊎ (r ≡ Err refused.OutOfMemory) → MatchOption o ((r ≡ Ok tt) ⊎ (r ≡ Err refused.OutOfMemory)) (λ y. r ≡ Err y)
+taken o r is e = subst (λ (p : Option Refused). MatchOption p ((r ≡ Ok tt) ⊎ (r ≡ Err refused.OutOfMemory)) (λ y. r ≡ Err y)) (sym is) e
+
+pub on_err : {T E : Type 0} (r : Result T E) (P : Type 0) → P → OnErr r P
+on_err (Ok x) P p = tt
+on_err (Err e) P p = p
