@@ -1,5 +1,5 @@
 //! The text of the table of places.
-ghost use Rattle.std.specs.Prelude.{◌≡◌, [], ◌∷◌, Some, OnOk, IfOk, map, string_bytes};
+ghost use Rattle.std.specs.Prelude.{◌≡◌, [], ◌∷◌, Some, OnOk, IfOk, string_bytes};
 ghost use Rattle.std.specs.Fmt.{decimal};
 ghost use Rattle.std.specs.Io.KnownBytes.{Appends};
 ghost use Rattle.csv.specs.Writing.{text_written, row_text};
@@ -7,8 +7,9 @@ ghost use Rattle.csv_rows.specs.Written.{rows_text, rows_writer};
 ghost use Rattle.link_reports.specs.TableWriter.{IsBetweenRows};
 ghost use Rattle.word_gatherer.specs.Table.{heading, place_fields, place_rows, why_or_stroke};
 
-use csv::{Writer, WriterBuilder};
+use csv::Writer;
 use lane_words::PlaceRow;
+use link_reports::{row_writer, write_row, written_rows};
 use lk_base::{OutOfMemory, Why};
 use std::alloc::{AllocError, Global};
 
@@ -41,21 +42,12 @@ fn why_text(why: Option<Why>) -> &'static [u8]
     }
 }
 
-// Writes a row of these fields.
-fn write_fields(writer: &mut Writer<Vec<u8>>, fields: &[&[u8]]) -> Result<(), OutOfMemory>
-    requires { IsBetweenRows writer.old }
-    ensures between { OnOk result (IsBetweenRows writer.new) }
-    ensures text { OnOk result (Appends (text_written (λ v. Some v.items) writer.old) (text_written (λ v. Some v.items) writer.new)
-        (row_text rows_writer (map (λ f. f.now) fields.now))) }
-{
-    match writer.write_fields(fields) {
-        Ok(()) => Ok(()),
-        Err(_) => Err(OutOfMemory),
-    }
-}
-
 // Writes a row of the table.
-fn write_row(alloc: Global, writer: &mut Writer<Vec<u8>>, row: &PlaceRow) -> Result<(), OutOfMemory>
+fn write_place(
+    alloc: Global,
+    writer: &mut Writer<Vec<u8>>,
+    row: &PlaceRow,
+) -> Result<(), OutOfMemory>
     requires { IsBetweenRows writer.old }
     ensures between { OnOk result (IsBetweenRows writer.new) }
     ensures text { OnOk result (Appends (text_written (λ v. Some v.items) writer.old) (text_written (λ v. Some v.items) writer.new)
@@ -70,19 +62,14 @@ fn write_row(alloc: Global, writer: &mut Writer<Vec<u8>>, row: &PlaceRow) -> Res
         index.as_bytes(),
         why_text(row.why),
     ];
-    write_fields(writer, &fields)
+    write_row(writer, &fields)
 }
 
 /// The text of a row.
 pub fn row_bytes(alloc: Global, row: &PlaceRow) -> Result<Vec<u8>, OutOfMemory>
     ensures { IfOk result (λ text. text.items ≡ place_rows (row.now ∷ [])) }
 {
-    let mut writer = WriterBuilder::new()
-        .flexible(true)
-        .from_writer(Vec::new(alloc));
-    write_row(alloc, &mut writer, row)?;
-    match writer.into_inner() {
-        Ok(text) => Ok(text),
-        Err(_) => Err(OutOfMemory),
-    }
+    let mut writer = row_writer(alloc);
+    write_place(alloc, &mut writer, row)?;
+    written_rows(writer)
 }

@@ -1,15 +1,20 @@
-use Rattle.std.proofs.Common.{◌≡◌, ◌++◌, ◌∙◌, [], List, ℕ, ap, sym, refl, Vec, Global}
+-- One row, and nothing before it.
+use Rattle.std.proofs.Common.{◌≡◌, ◌++◌, ◌∷◌, ◌∙◌, [], List, ℕ, ap, sym, Vec, Global, Option, Some, unwrap_or, Result, Ok, Err, IfOk}
 use Rattle.csv.specs.Writing.{row_text}
 use Rattle.csv_rows.specs.Written.{rows_writer}
-use Rattle.word_gatherer.specs.Table.{place_fields}
+use Rattle.word_gatherer.specs.Table.{place_fields, place_rows}
 use Rattle.word_gatherer.proofs.Tables.{row_alone}
 use Rattle.word_gatherer.proofs.table.row_bytes.Goals as goal
 
-start : (inner new buf : List ℕ) → inner ≡ new → new ≡ [] → buf ≡ [] → inner ++ buf ≡ []
-start inner new buf e f g = rw (e, f, g) refl
+one_row : {V E : Type 0} (items : V → List ℕ) (result : Result V E) (all start row rows : List ℕ) → IfOk result (λ v. Some all ≡ Some (items v)) → all ≡ start ++ row → Some start ≡ Some [] → rows ≡ row →
+    IfOk result (λ v. items v ≡ rows)
+one_row items (Ok v) all start row rows e f g h =
+    ap (λ (o : Option (List ℕ)). unwrap_or o []) (sym e) ∙ f ∙ ap (λ (o : Option (List ℕ)). unwrap_or o [] ++ row) g ∙ sym h
+one_row items (Err x) all start row rows e f g h = tt
 
-pub returns-in-Ok : goal.returns-in-Ok
-returns-in-Ok c =
-    let none = start c.from_writer-writer.result.wtr.inner.items c.new-2.result.items c.from_writer-writer.result.wtr.buf (ap (λ (v : Vec ℕ Global). v.items) c.from_writer-writer.ensures.wtr) c.new-2.ensures.items c.from_writer-writer.ensures.empty in
-    let text : c.in-Ok.text.items ≡ c.write_row.new.writer.wtr.inner.items ++ c.write_row.new.writer.wtr.buf = c.in-Ok.ensures.ok in
-    text ∙ c.in_ok-write_row.ensures.text ∙ ap (λ (bs : List ℕ). bs ++ row_text rows_writer (place_fields c.args.row.now)) none ∙ sym (row_alone c.args.row.now)
+pub returns : goal.returns
+returns c =
+    let old = c.row_writer-writer.result.wtr in
+    let new = c.write_place.new.writer.wtr in
+    one_row (λ (v : Vec ℕ Global). v.items) c.written_rows.result (new.inner.items ++ new.buf) (old.inner.items ++ old.buf) (row_text rows_writer (place_fields c.args.row.now)) (place_rows (c.args.row.now ∷ [])) c.written_rows.ensures
+    c.in_ok-write_place.ensures.text c.row_writer-writer.ensures.text (row_alone c.args.row.now)
