@@ -4,6 +4,7 @@ pub mod Checks
 mod Tables
 mod Tallies
 mod Passing
-mod Telling
+mod Rules
+mod Makers
 mod Examples
 mod AfterBurst

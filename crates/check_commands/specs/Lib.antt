@@ -6,3 +6,4 @@ pub mod AfterBurst
 -- needed by private functions and proofs alone
 pub mod Values
 pub mod Tally
+pub mod Making

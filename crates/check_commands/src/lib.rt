@@ -2,6 +2,7 @@
 #![tactic(auto)]
 
 mod check;
+mod fault_maker;
 mod inputs;
 pub mod laws;
 mod pass;
