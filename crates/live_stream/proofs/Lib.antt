@@ -1,16 +1,19 @@
+-- What other crates cite.
 pub mod Sources
 pub mod Right
 pub mod LiveWords
 pub mod OneLive
 pub mod Later
 pub mod AtOnce
-pub mod Left
-pub mod InTurn
-pub mod Telling
-pub mod Places
-pub mod EmptyQueues
-pub mod Steps
 pub mod Ends
-pub mod More
-pub mod Refusals
-pub mod Making
+-- What this crate alone cites.
+mod Left
+mod InTurn
+mod Telling
+mod Places
+mod EmptyQueues
+mod Steps
+mod More
+mod Refusals
+mod Making
+mod ExamplesHold

@@ -23,7 +23,7 @@ use Rattle.live_stream.specs.Waiting.{channels_of}
 use Rattle.live_stream.specs.Turns.{AreInTurn, HaveLeft}
 use Rattle.live_stream.specs.Gives.{Gives, AreRight, HasEnd, nothing_given, planned, source_of}
 use Rattle.live_stream.specs.declared.scheduler.LiveScheduler.{LiveScheduler}
-use Rattle.live_stream.proofs.EmptyQueues.{IsEmpty}
+use Rattle.live_stream.specs.Waiting.{IsEmpty}
 use Rattle.live_stream.proofs.Left.{empty_left}
 
 -- the numbers of a scheduler that was given nothing
@@ -73,7 +73,7 @@ module _ (s : LiveScheduler) (shape : Shape) (channels entries : List ℕ) (fres
           incoming = incoming;
           outgoing = outgoing;
           turns = subst (λ (v : List Word). AreInTurn channels [] v (channels_of s.turns.items)) (sym none) (first_turns channels (channels_of s.turns.items) distinct same rising);
-          left = subst (HaveLeft s.turns.items s.sizes (source_of g)) (sym none) (λ k d l. let e = empty k d l in empty_left s.sizes (get_or s.turns.items k d) (ap (map (λ p. p.items)) e.0) e.1);
+          left = subst (HaveLeft s.turns.items s.sizes (source_of g)) (sym none) (λ k d l. let e = empty k d l in empty_left s.sizes (get_or s.turns.items k d) e);
           long = run;
           within = (omega (arith, fresh.given), omega (arith, fresh.count));
           since = ap data_since none ∙ since_none ∙ sym (ap (λ n. take n s.run.items) fresh.count);

@@ -1,5 +1,5 @@
 -- The scheduler where a packet, a row or the close was given.
-use Rattle.std.proofs.Common.{◌≡◌, ◌≢◌, inl, inr, ℕ, zero, suc, ◌+◌, ◌-◌, ◌<◌, ◌≤◌, ◌==◌, nat_eq, nat_lt, Bool, true, false, List, [], ◌∷◌, ◌++◌, length, map, filter, take, get_or, Option, Some, None, if◌then◌else◌, slice_get, is_some, Contains, All, refl, sym, ap, ap₂, subst, ◌∙◌, arith, append-nil, length-append, eqb-true, Vec, Global}
+use Rattle.std.proofs.Common.{cond, add-zero, ◌≡◌, ◌≢◌, inl, inr, ℕ, zero, suc, ◌+◌, ◌-◌, ◌<◌, ◌≤◌, ◌==◌, nat_eq, nat_lt, Bool, true, false, List, [], ◌∷◌, ◌++◌, length, map, filter, take, get_or, Option, Some, None, if◌then◌else◌, slice_get, is_some, Contains, All, refl, sym, ap, ap₂, subst, ◌∙◌, arith, append-nil, length-append, eqb-true, Vec, Global}
 use Rattle.std.specs.Option.{option_map_or, option_or}
 use Rattle.std.proofs.Math.ListN.{set}
 use Rattle.std.proofs.lemmas.Bool.Decides.{nat_tests}
@@ -10,14 +10,17 @@ use Rattle.std.proofs.lemmas.List.Elements.{filter-append, All-push, All-cons, A
 use Rattle.lk_base.specs.Words.{word_at}
 use Rattle.lk_base.specs.Fields.{burst_field, channel_number, has_burst}
 use Rattle.lk_base.specs.declared.word.Word.{Word}
-use Rattle.lk_base.specs.declared.word.Word.TheVariants.{Control}
-use Rattle.stream_model.specs.BurstStream.{Source, Chunk, IsAt, chunk_of_burst, chunks_of, chunks_by, data_since, end_format, format_after, packets_of, bursts_in}
+use Rattle.lk_base.specs.declared.word.Word.TheVariants.{Data, Control}
+use Rattle.stream_model.specs.BurstStream.{is_burst_on, Source, Chunk, IsAt, chunk_of_burst, chunks_of, chunks_by, data_since, end_format, format_after, packets_of, bursts_in}
 use Rattle.stream_model.specs.declared.rows.FlowRow.{FlowRow}
 use Rattle.stream_model.specs.declared.rows.LocalRow.{LocalRow}
 use Rattle.duplex_model.proofs.Runs.{at_word, IsData, IsControl, word_cases}
+use Rattle.stream_model.proofs.Growing.{no_bursts}
+use Rattle.std.proofs.lemmas.List.Sums.{sum_by-append}
+use Rattle.burst_scheduler.specs.Queues.{chunks_in}
 use Rattle.burst_scheduler.specs.declared.sizes.BurstSizes.{BurstSizes}
 use Rattle.live_stream.specs.LiveStream.{LivePacket, Given, as_sent, with_more}
-use Rattle.live_stream.specs.Waiting.{HasLeft, channels_of}
+use Rattle.live_stream.specs.Waiting.{AreCounts, HasLeft, bytes_in, channels_of}
 use Rattle.live_stream.specs.Turns.{AreInTurn, HaveLeft}
 use Rattle.std.specs.List.{flat_map}
 use Rattle.calendar.specs.Changes.{told_back}
@@ -28,7 +31,7 @@ use Rattle.calendar.specs.declared.outgoing.CalendarOut.{CalendarOut}
 use Rattle.burst_scheduler.proofs.Filling.{IsInRange}
 use Rattle.live_stream.proofs.InTurn.{apart}
 use Rattle.stream_model.specs.BurstStream.{controls_in}
-use Rattle.live_stream.specs.Gives.{Gives, HasEnd, HasChunks, AreRight, packet_added, flow_added, local_added, closed_at, planned, source_of}
+use Rattle.live_stream.specs.Gives.{AreCountsOf, to_come, Gives, HasEnd, HasChunks, AreRight, packet_added, flow_added, local_added, closed_at, planned, source_of}
 use Rattle.live_stream.specs.declared.waiting.Waiting.{Waiting}
 use Rattle.live_stream.specs.declared.scheduler.LiveScheduler.{LiveScheduler}
 use Rattle.live_stream.proofs.Right.{right_later}
@@ -390,3 +393,23 @@ not_closed (Some n) b e f = let no : false ≡ true = sym f ∙ e in cc
 pub is_closed : (o : Option ℕ) (b : Bool) → b ≡ is_some o → b ≡ true → (n : ℕ) × (o ≡ Some n)
 is_closed None b e f = let no : true ≡ false = sym f ∙ e in cc
 is_closed (Some n) b e f = (n, refl)
+
+-- ---- the counts of a channel
+
+bursts_planned : (s : LiveScheduler) (w : List Word) (c : ℕ) → bursts_in (planned s w) c ≡ bursts_in w c
+bursts_planned s w c = sum_by-append (λ (v : Word). cond (is_burst_on c v) 1 0) w (map Data (to_come s)) ∙ ap (λ n. bursts_in w c + n) (no_bursts c (to_come s)) ∙ add-zero (bursts_in w c)
+
+module _ (s : LiveScheduler) (g : Given) (w : List Word) (h : Gives s g w) (at : ℕ) (q : Waiting) (below : at < length s.turns.items) (is : q ≡ get_or s.turns.items at q) where
+  pub held_at : HasLeft q s.sizes (packets_of (source_of g) q.channel) (bursts_in (planned s w) q.channel)
+  held_at = subst (λ (p : Waiting). HasLeft p s.sizes (packets_of (source_of g) p.channel) (bursts_in (planned s w) p.channel)) (sym is) (h.words.left at q below)
+
+  module _ (c : ℕ) (named : q.channel ≡ c) where
+    pub bytes_at : q.counts.bytes_given ≡ bytes_in (packets_of (source_of g) c)
+    bytes_at = held_at.counts.bytes_given ∙ ap (λ n. bytes_in (packets_of (source_of g) n)) named
+
+    pub counts_at : AreCountsOf q.counts g w c
+    counts_at =
+        let held : AreCounts q.counts (packets_of (source_of g) q.channel) (take (bursts_in (planned s w) q.channel) (chunks_in s.sizes (packets_of (source_of g) q.channel))) = held_at.counts in
+        subst (λ (n : ℕ). AreCountsOf q.counts g w n) named
+        (subst (λ (n : ℕ). AreCounts q.counts (packets_of (source_of g) q.channel) (take n (chunks_of (source_of g) q.channel))) (bursts_planned s w q.channel)
+        (subst (λ (m : BurstSizes). AreCounts q.counts (packets_of (source_of g) q.channel) (take (bursts_in (planned s w) q.channel) (chunks_in m (packets_of (source_of g) q.channel)))) h.words.settings.sizes held))

@@ -1,12 +1,14 @@
 -- Why a packet is refused.
-use Rattle.std.proofs.Common.{◌≡◌, ◌⊎◌, inl, inr, ℕ, zero, suc, ◌<◌, ◌≤◌, Bool, true, false, List, [], ◌∷◌, length, nat_eq, nat_lt, Option, Some, None, Result, Ok, Err, Contains, if◌then◌else◌, refl, sym, subst, arith}
+use Rattle.std.proofs.Common.{◌≡◌, ◌⊎◌, inl, inr, ℕ, zero, suc, ◌+◌, ◌<◌, ◌≤◌, Bool, true, false, List, [], ◌∷◌, length, nat_eq, nat_lt, Option, Some, None, Result, Ok, Err, Contains, if◌then◌else◌, refl, sym, subst, arith}
 use Rattle.std.specs.Option.{MatchOption}
 use Rattle.std.specs.Result.{OnErr}
 use Rattle.std.proofs.lemmas.Bool.{cases_eq}
 use Rattle.std.proofs.lemmas.Bool.Decides.{nat_tests}
 use Rattle.lk_base.specs.Limits.{longest_packet}
 use Rattle.live_stream.specs.LiveStream.{Given}
-use Rattle.live_stream.specs.Gives.{is_among, refusal_of}
+use Rattle.stream_model.specs.BurstStream.{packets_of}
+use Rattle.live_stream.specs.Gives.{is_among, refusal_of, source_of}
+use Rattle.live_stream.specs.Waiting.{bytes_in, most_bytes}
 use Rattle.live_stream.specs.declared.refused.Refused.{Refused}
 use Rattle.live_stream.specs.declared.refused.Refused.TheVariants as refused
 
@@ -46,8 +48,18 @@ module _ (g : Given) (c : ℕ) (bytes : List ℕ) (still : g.closed ≡ None) wh
       pub refused_long : longest_packet < length bytes → refusal_of g c bytes ≡ Some refused.TooLong
       refused_long long = let test : nat_lt longest_packet (length bytes) ≡ true = grind (arith, nat_tests) in rw (still, among_yes g.channels c known, full, test) refl
 
-      pub not_refused : length bytes ≤ longest_packet → refusal_of g c bytes ≡ None
-      not_refused short = let test : nat_lt longest_packet (length bytes) ≡ false = grind (arith, nat_tests) in rw (still, among_yes g.channels c known, full, test) refl
+      module _ (short : length bytes ≤ longest_packet) where
+        not_long : nat_lt longest_packet (length bytes) ≡ false
+        not_long = grind (arith, nat_tests)
+
+        abbrev total : ℕ
+        total = bytes_in (packets_of (source_of g) c) + length bytes
+
+        pub refused_much : most_bytes < total → refusal_of g c bytes ≡ Some refused.TooMuch
+        refused_much much = let test : nat_lt most_bytes total ≡ true = grind (arith, nat_tests) in rw (still, among_yes g.channels c known, full, not_long, test) refl
+
+        pub not_refused : total ≤ most_bytes → refusal_of g c bytes ≡ None
+        not_refused room = let test : nat_lt most_bytes total ≡ false = grind (arith, nat_tests) in rw (still, among_yes g.channels c known, full, not_long, test) refl
 
 -- ---- the answer of a call
 

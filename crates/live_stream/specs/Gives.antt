@@ -8,7 +8,7 @@ use Rattle.lk_base.specs.Limits.{longest_packet}
 use Rattle.lk_base.specs.declared.word.Word.{Word}
 use Rattle.lk_base.specs.declared.word.Word.TheVariants.{Data, Control}
 use Rattle.lk_base.specs.declared.shape.Shape.{Shape}
-use Rattle.stream_model.specs.BurstStream.{Source, Chunk, IsAt, StandsInBurst, IsRightControl, chunk_of_burst, data_after, data_words, data_since, end_format, controls_in, bursts_in, chunks_of}
+use Rattle.stream_model.specs.BurstStream.{Source, Chunk, IsAt, StandsInBurst, IsRightControl, chunk_of_burst, data_after, data_words, data_since, end_format, controls_in, bursts_in, chunks_of, packets_of}
 use Rattle.stream_model.specs.Calendar.{Told}
 use Rattle.stream_model.specs.declared.rows.FlowRow.{FlowRow}
 use Rattle.stream_model.specs.declared.rows.LocalRow.{LocalRow}
@@ -19,7 +19,8 @@ use Rattle.calendar.specs.Outgoing.{StandsOut}
 use Rattle.burst_scheduler.specs.Queues.{sizes_of}
 use Rattle.burst_scheduler.specs.Gives.{SpacesFit}
 use Rattle.live_stream.specs.LiveStream.{LivePacket, Given, as_sent, source_at, IsLiveEnding}
-use Rattle.live_stream.specs.Waiting.{channels_of}
+use Rattle.live_stream.specs.Waiting.{channels_of, bytes_in, most_bytes, AreCounts}
+use Rattle.live_stream.specs.declared.counts.Counts.{Counts}
 use Rattle.live_stream.specs.Turns.{AreInTurn, HaveLeft, IsFirstReady}
 use Rattle.live_stream.specs.declared.refused.Refused.{Refused}
 use Rattle.live_stream.specs.declared.refused.Refused.TheVariants as refused
@@ -200,6 +201,12 @@ pub record IsBurstTime (s : LiveScheduler) (told : List Told) (at : ℕ) : Type 
   pub free : s.free ≤ s.slot
   pub first : IsFirstReady told s.turns.items (Some at)
 
+-- ---- counts
+
+-- the counts of a channel: what was given to it, and what its bursts carry whose words were made so far
+abbrev pub AreCountsOf : Counts → Given → List Word → ℕ → Type 0
+AreCountsOf counts g w channel = AreCounts counts (packets_of (source_of g) channel) (take (bursts_in w channel) (chunks_of (source_of g) channel))
+
 -- ---- refusals
 
 -- whether a channel is one of these
@@ -214,4 +221,5 @@ refusal_of g channel bytes =
     else if not (is_among g.channels channel) then Some refused.UnknownChannel
     else if nat_lt (length bytes) 1 then Some refused.Empty
     else if nat_lt longest_packet (length bytes) then Some refused.TooLong
+    else if nat_lt most_bytes (bytes_in (packets_of (source_of g) channel) + length bytes) then Some refused.TooMuch
     else None

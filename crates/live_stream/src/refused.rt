@@ -16,6 +16,9 @@ pub enum Refused {
     /// The packet has more than `LONGEST_PACKET` bytes.
     #[error("the packet is too long")]
     TooLong,
+    /// The channel would be given more than `MOST_BYTES` bytes.
+    #[error("the channel was given too many bytes")]
+    TooMuch,
     /// Memory ran out.
     #[error("out of memory")]
     OutOfMemory,

@@ -1,6 +1,7 @@
 ghost use Rattle.std.specs.Prelude.{◌≡◌, ℕ, ◌≤◌};
 ghost use Rattle.control_words.specs.declared.fields.Eop.TheVariants.{End};
 
+use super::counts::Counts;
 use super::refused::{Closed, Refused};
 use super::turns::{first_ready, place, to_back, turn_all};
 use super::waiting::{Waiting, empty_queues};
@@ -48,12 +49,12 @@ pub struct LiveScheduler {
 }
 
 impl LiveScheduler {
-    ghost use Rattle.std.specs.Prelude.{◌≡◌, ◌⊎◌, ◌↔◌, ℕ, ◌+◌, ◌*◌, ◌/◌, ◌<◌, ◌≤◌, List, [], ◌∷◌, ◌++◌, length, true, is_err, IfOk, OnOk, OnErr, Ok, Err, MatchOption, IsSome, Some, None};
+    ghost use Rattle.std.specs.Prelude.{◌≡◌, ◌⊎◌, ◌↔◌, ℕ, ◌+◌, ◌*◌, ◌/◌, ◌<◌, ◌≤◌, List, [], ◌∷◌, ◌++◌, length, true, is_err, Contains, IfOk, OnOk, OnErr, Ok, Err, MatchOption, IsSome, Some, None};
     ghost use Rattle.std.specs.Bool.{MatchBool};
     ghost use Rattle.std.specs.List.{AllPairs};
     ghost use Rattle.lk_base.specs.declared.word.Word.{Word};
     ghost use Rattle.live_stream.specs.LiveStream.{Given, IsWholeLiveStream};
-    ghost use Rattle.live_stream.specs.Gives.{Gives, nothing_given, packet_added, flow_added, local_added, closed_at, words_of, most_words, refusal_of, Holds, IsDue, IsIdleTime, IsBurstTime, AddsBlock, MayGoOn, as_control, as_data};
+    ghost use Rattle.live_stream.specs.Gives.{Gives, nothing_given, packet_added, flow_added, local_added, closed_at, words_of, most_words, refusal_of, AreCountsOf, Holds, IsDue, IsIdleTime, IsBurstTime, AddsBlock, MayGoOn, as_control, as_data};
     ghost use Rattle.calendar.specs.Changes.{told_back};
     ghost use Rattle.live_stream.specs.declared.refused.Refused.TheVariants as refused;
 
@@ -100,8 +101,8 @@ impl LiveScheduler {
     ///
     /// # Errors
     ///
-    /// In this order: the stream was closed, the channel is not listed, the packet has no bytes or more than `LONGEST_PACKET`, memory
-    /// ran out. Nothing has changed then.
+    /// In this order: the stream was closed, the channel is not listed, the packet has no bytes, or more than
+    /// `LONGEST_PACKET`, the channel would be given more than `MOST_BYTES`, memory ran out. Nothing has changed then.
     pub fn packet(&mut self, channel: u16, bytes: &[u8]) -> Result<(), Refused>
         requires { (g : Given) × (w : List Word) × Gives self.old g w }
         ensures ok { OnOk result ((g : Given) (w : List Word) → Gives self.old g w → Gives self.new (packet_added g w channel bytes.now) w) }
@@ -120,6 +121,9 @@ impl LiveScheduler {
         }
         if bytes.len() > LONGEST_PACKET as usize {
             return Err(Refused::TooLong);
+        }
+        if !self.turns[at].has_room(bytes.len()) {
+            return Err(Refused::TooMuch);
         }
         self.turns[at].add(self.alloc, bytes)?;
         Ok(())
@@ -307,6 +311,19 @@ impl LiveScheduler {
             Some(Word::Data(self.data()))
         } else {
             Some(Word::Control(self.control()))
+        }
+    }
+
+    /// What was given to a channel and what was sent of it, or `None` where the channel is not listed.
+    pub fn counts(&self, channel: u16) -> Option<Counts>
+        requires { (g : Given) × (w : List Word) × Gives self.now g w }
+        ensures { (g : Given) (w : List Word) → Gives self.now g w → MatchOption result (Contains g.channels channel → ⊥) (λ counts. AreCountsOf counts g w channel) }
+    {
+        let at = place(&self.turns, channel);
+        if at < self.turns.len() {
+            Some(self.turns[at].counts)
+        } else {
+            None
         }
     }
 

@@ -3,9 +3,10 @@ ghost use Rattle.std.specs.List.Sorted.{IsNonDecreasing};
 ghost use Rattle.stream_model.specs.BurstStream.{Chunk, data_words};
 ghost use Rattle.burst_scheduler.specs.Queues.{chunks_in};
 ghost use Rattle.burst_scheduler.specs.declared.sizes.BurstSizes.{BurstSizes};
-ghost use Rattle.live_stream.specs.Waiting.{channels_of};
+ghost use Rattle.live_stream.specs.Waiting.{channels_of, IsEmpty};
 ghost use Rattle.live_stream.specs.declared.waiting.Waiting.{Waiting};
 
+use super::counts::{Counts, MOST_BYTES};
 use burst_scheduler::{BurstSizes, Taken, fill};
 use lk_base::OutOfMemory;
 use std::alloc::Global;
@@ -18,13 +19,14 @@ pub struct Waiting {
     pub packets: VecDeque<Vec<u8>>,
     // How many bytes of the first packet were taken.
     pub taken: usize,
+    pub counts: Counts,
 }
 
 /// A queue without a packet for each channel, in order of number.
 pub fn empty_queues(alloc: Global, channels: &[u16]) -> Result<Vec<Waiting>, OutOfMemory>
     ensures same { IfOk result (λ v. IsPermutation channels.now (channels_of v.items)) }
     ensures rising { IfOk result (λ v. IsNonDecreasing (channels_of v.items)) }
-    ensures empty { IfOk result (λ v. All (λ (q : Waiting). (q.packets.items ≡ []) × (q.taken ≡ 0)) v.items) }
+    ensures empty { IfOk result (λ v. All (λ (q : Waiting). IsEmpty q) v.items) }
 {
     let mut order = Vec::from_slice(alloc, channels)?;
     order.sort_unstable();
@@ -34,6 +36,12 @@ pub fn empty_queues(alloc: Global, channels: &[u16]) -> Result<Vec<Waiting>, Out
             channel: order[i],
             packets: VecDeque::new(alloc),
             taken: 0,
+            counts: Counts {
+                packets_given: 0,
+                bytes_given: 0,
+                packets_sent: 0,
+                bytes_sent: 0,
+            },
         };
         queues.push(empty)?;
     }
@@ -41,21 +49,35 @@ pub fn empty_queues(alloc: Global, channels: &[u16]) -> Result<Vec<Waiting>, Out
 }
 
 impl Waiting {
-    ghost use Rattle.std.specs.Prelude.{◌≡◌, ◌↔◌, ℕ, ◌+◌, ◌*◌, ◌^◌, ◌<◌, ◌≤◌, List, [], ◌∷◌, ◌++◌, length, take, slice_get, slice_index, Some, true, OnOk, OnErr};
+    ghost use Rattle.std.specs.Prelude.{nat_le, ◌≡◌, ◌↔◌, ℕ, ◌+◌, ◌*◌, ◌^◌, ◌<◌, ◌≤◌, List, [], ◌∷◌, ◌++◌, length, take, slice_get, slice_index, Some, true, OnOk, OnErr};
     ghost use Rattle.stream_model.specs.BurstStream.{Chunk, data_words};
     ghost use Rattle.burst_scheduler.specs.Queues.{chunks_in};
     ghost use Rattle.burst_scheduler.specs.declared.sizes.BurstSizes.{BurstSizes};
-    ghost use Rattle.live_stream.specs.Waiting.{HasLeft, has_packets};
+    ghost use Rattle.live_stream.specs.Waiting.{HasLeft, DoFit, has_packets, most_bytes};
+
+    /// Whether the channel may be given as many bytes more.
+    pub fn has_room(&self, bytes: usize) -> bool
+        requires fit { DoFit self.now.counts }
+        requires few { bytes < 2 ^ 32 }
+        ensures { result ≡ nat_le (self.now.counts.bytes_given + bytes) most_bytes }
+    {
+        self.counts.bytes_given + bytes as u64 <= MOST_BYTES
+    }
 
     /// Adds a packet at the back, with its bytes copied.
     pub fn add(&mut self, alloc: Global, packet: &[u8]) -> Result<(), OutOfMemory>
-        requires { 1 ≤ length packet.now }
+        requires some { 1 ≤ length packet.now }
+        requires few { length packet.now < 2 ^ 32 }
+        requires fit { DoFit self.old.counts }
+        requires room { self.old.counts.bytes_given + length packet.now ≤ most_bytes }
         ensures ok { OnOk result ((sizes : BurstSizes) (packets : List (List ℕ)) (done : ℕ) → HasLeft self.old sizes packets done → HasLeft self.new sizes (packets ++ packet.now ∷ []) done) }
         ensures err { OnErr result ((sizes : BurstSizes) (packets : List (List ℕ)) (done : ℕ) → HasLeft self.old sizes packets done → HasLeft self.new sizes packets done) }
         ensures channel { self.new.channel ≡ self.old.channel }
     {
         let own = Vec::from_slice(alloc, packet)?;
         self.packets.push_back(own)?;
+        self.counts.packets_given += 1;
+        self.counts.bytes_given += packet.len() as u64;
         Ok(())
     }
 
@@ -94,7 +116,9 @@ impl Waiting {
         let bytes = sizes.next(left);
         let words = fill(run, &packet[start..start + bytes]);
         let last = bytes == left;
+        self.counts.bytes_sent += bytes as u64;
         if last {
+            self.counts.packets_sent += 1;
             self.packets.pop_front();
             self.taken = 0;
         } else {

@@ -93,6 +93,7 @@ returns-clause-next c packets done h =
           (let t = w.if-last.true in omega (arith, sz, rm, len, t))
           (ap (λ p. packets_in p) w.self-is ∙ ap (map (λ p. p.items)) w.pop_front.ensures.rest ∙ rest_is q.packets.items hd.0 hd.1 hd.2)
           (ap (λ p. p.taken) w.self-is)
+          (record { packets = ap (λ p. p.counts.packets_given) w.self-is; bytes = ap (λ p. p.counts.bytes_given) w.self-is; ends = ap (λ p. p.counts.packets_sent) w.self-is; sent = ap (λ p. p.counts.bytes_sent) w.self-is ∙ ap (λ n. q.counts.bytes_sent + n) sz })
       | else-last w ↦ next_part sizes q packets done h hd.0 hd.1 hd.2 can_cut c.if-last.self
           (let most = size_within sizes.most sizes.least (length (drop q.taken hd.0)) in
           elim (cases_lt (piece_size sizes.most sizes.least (length (drop q.taken hd.0))) (length (drop q.taken hd.0))) [
@@ -101,4 +102,5 @@ returns-clause-next c packets done h =
           ])
           (ap (λ s. packets_in s) w.self-is)
           (ap (λ s. s.taken) w.self-is ∙ ap (λ n. q.taken + n) sz)
+          (record { packets = ap (λ p. p.counts.packets_given) w.self-is; bytes = ap (λ p. p.counts.bytes_given) w.self-is; ends = ap (λ p. p.counts.packets_sent) w.self-is ∙ omega arith; sent = ap (λ p. p.counts.bytes_sent) w.self-is ∙ ap (λ n. q.counts.bytes_sent + n) sz })
     ]
