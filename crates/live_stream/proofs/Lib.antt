@@ -1,18 +1,16 @@
--- What other crates cite.
-pub mod Sources
-pub mod Right
-pub mod LiveWords
-pub mod OneLive
-pub mod Later
-pub mod AtOnce
-pub mod Ends
--- What this crate alone cites.
+mod Sources
+mod Right
+mod LiveWords
+mod OneLive
+mod Later
+mod AtOnce
 mod Left
 mod InTurn
 mod Telling
 mod Places
 mod EmptyQueues
 mod Steps
+mod Ends
 mod More
 mod Refusals
 mod Making
