@@ -5,17 +5,14 @@ ghost use Rattle.lane_lock.specs.Bytes.{BringsBatch};
 
 use circular_buffer::HeapCircularBuffer;
 use deskew::Deskew;
-use lane_lock::StepList;
+use lane_lock::{MOST_BYTES, StepList};
 use lane_steps::LaneSteps;
 use lk_base::OutOfMemory;
 use std::alloc::Global;
 use std::marker::Model;
 
-/// How many bytes of each lane are taken at once at most: those of 64 words, and fewer than a loss and another word lock take.
-pub const MOST_BYTES: usize = 536;
-
 /// The steps that there is room for: one for each bit, and one.
-const ROOM: usize = 8 * 536 + 1;
+const ROOM: usize = 8 * MOST_BYTES + 1;
 
 /// The steps that one lane shows in many bytes.
 #[derive(Drop)]

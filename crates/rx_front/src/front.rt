@@ -14,7 +14,7 @@ ghost use Rattle.rx_front.specs.Standing.{GivesItem, MovesOn, MovesQuietly, Prog
 ghost use Rattle.rx_front.specs.States.{with_lanes};
 ghost use Rattle.rx_front.specs.Waiting.{words_in};
 
-use crate::batch::{Batch, MOST_BYTES};
+use crate::batch::Batch;
 use crate::block::Block;
 use crate::fed_lane::{FedLane, lock_of};
 use crate::lanes::{
@@ -22,6 +22,7 @@ use crate::lanes::{
     state_at, take_all, take_batches, take_rounds, whole_rounds, zeros_from,
 };
 use deskew::Deskew;
+use lane_lock::MOST_BYTES;
 use lk_base::{Aligned, Link, OutOfMemory, Pos, RxWord};
 use lock_model::{LaneReport, LaneState};
 use std::alloc::Global;
