@@ -2,9 +2,9 @@
 use Rattle.std.proofs.Common.{ℕ, ◌≡◌, refl, sym, ap, ◌∙◌, subst, ◌+◌, ◌*◌, ◌%◌, ◌<◌, ◌==◌, Bool, true, false, List, [], ◌∷◌, ◌++◌, length, get_or, set, map, take, drop, arith, inl, inr, append_assoc, append-nil, length-append}
 use Rattle.std.proofs.Math.Nat.{mod-add-mod, zero-mod, zero-mul}
 use Rattle.std.proofs.Math.Seq.{take-append_seam}
-use Rattle.std.proofs.lemmas.Bool.{cond-false, cond-true, eq-eqb, false≢true}
+use Rattle.std.proofs.lemmas.Bool.{cases_lt, cond-false, cond-true, eq-eqb, false≢true}
 use Rattle.std.proofs.lemmas.Bool.Decides.{eqb_tells}
-use Rattle.std.proofs.lemmas.List.{get_or-set_other, get_or-set_same, length-map, length-set, map-set, take-append-drop}
+use Rattle.std.proofs.lemmas.List.{get_or-set_other, get_or-set_same, get_or_past, length-map, length-set, map-set, take-append-drop}
 use Rattle.lk_base.specs.declared.word.Word.{Word}
 use Rattle.lk_base.specs.declared.word.Word.TheVariants.{Data}
 use Rattle.lk_base.specs.Link.{Settings, IsLink}
@@ -15,7 +15,7 @@ use Rattle.tx_end.specs.Lanes.{Carries}
 use Rattle.tx_end.proofs.Groups.{no_payload}
 use Rattle.tx_end.proofs.LanePlaces.{place_at}
 use Rattle.live_lanes.specs.States.{Lane, Lanes, lanes_of}
-use Rattle.live_lanes.specs.Lanes.{AreEach, AreGone, AreLonger, IsFresh, MakesEnd, MakesFraming, MakesPayload, MakesWord, waiting_on}
+use Rattle.live_lanes.specs.Lanes.{AreEach, AreGone, AreKept, AreLonger, IsFresh, MakesEnd, MakesFraming, MakesPayload, MakesWord, waiting_on}
 use Rattle.live_lanes.specs.Standing.{IsSent, Progress, Stands, begun, framed, progress, took, with_row}
 use Rattle.live_lanes.proofs.Places.{given_count, lane_of, row_more, waiting_is}
 
@@ -94,7 +94,7 @@ module _ (link : Settings) (old new : List Lane) (place next : ℕ) (p : Progres
     place = k.place;
     rows = k.rows;
     whole = λ e. whole;
-    each = λ i e h. made.each i lane e (there i h) s i (own i) p.columns (p.taken i) (before i h);
+    each = λ i e h. (made.each i lane e (there i h)).all s i (own i) p.columns (p.taken i) (before i h);
   }
 
 -- the same of lanes that have not ended
@@ -136,6 +136,17 @@ pub are_longer : (link : Settings) (old new : List Lane) (place next : ℕ) (end
 are_longer link [] new place next ended now now_given made i h = absurd (omega (arith, h))
 are_longer link (l ∷ old) new place next ended now now_given made i h =
     rw (waiting_is (lanes_of link (l ∷ old) place ended) i l h, waiting_is (lanes_of link new next now) i l (let e = made.same in omega (arith, e, h))) (made.each i l l h).longer
+
+-- after their ends no fewer wait
+pub are_kept : (link : Settings) (old new : List Lane) (place next : ℕ) (ended now : Bool) → AreEach (λ i. MakesEnd) old new → AreKept (lanes_of link old place ended) (lanes_of link new next now)
+are_kept link [] [] place next ended now made i = omega arith
+are_kept link [] (m ∷ new) place next ended now made i = absurd (let e = made.same in omega (arith, e))
+are_kept link (l ∷ old) new place next ended now made i = elim (cases_lt i (length (l ∷ old))) [
+  | inl h ↦ rw (waiting_is (lanes_of link (l ∷ old) place ended) i l h, waiting_is (lanes_of link new next now) i l (let e = made.same in omega (arith, e, h))) (made.each i l l h).kept
+  | inr past ↦
+      let none : waiting_on i (lanes_of link (l ∷ old) place ended) ≡ [] = get_or_past (map (λ (m : Lane). m.waiting) (l ∷ old)) i [] (let e = length-map (l ∷ old) (λ (m : Lane). m.waiting) in omega (arith, e, past)) in
+      rw none (omega arith)
+]
 
 -- lanes that were lent as a slice, in their vector
 pub written : (n : ℕ) (later old : List Lane) → length later ≡ n → take n (later ++ drop (length later) old) ≡ later

@@ -1,5 +1,5 @@
 -- What calls ask of the lanes of a link, and what they make of each.
-use Rattle.std.specs.Prelude.{ℕ, ◌≡◌, ◌<◌, ◌+◌, ◌==◌, cond, Bool, List, [], ◌∷◌, ◌++◌, length, map, get_or, drop, nat_le}
+use Rattle.std.specs.Prelude.{ℕ, ◌≡◌, ◌<◌, ◌≤◌, ◌+◌, ◌==◌, cond, Bool, List, [], ◌∷◌, ◌++◌, length, map, get_or, drop, nat_le}
 use Rattle.std.specs.List.{list_all}
 use Rattle.lk_base.specs.declared.word.Word.{Word}
 use Rattle.lk_base.specs.Link.{Settings}
@@ -48,10 +48,11 @@ MakesFraming old new = MakesWord (λ given. given) old new
 abbrev pub MakesPayload : Word → Lane → Lane → Type 0
 MakesPayload word old new = MakesWord (λ given. given ++ word ∷ []) old new
 
--- its bytes are all, the last with zeros after the last bits
-abbrev pub MakesEnd : Lane → Lane → Type 0
-MakesEnd old new = (s : Settings) (lane : ℕ) (given : List Word) (made : ℕ) (taken : List ℕ) →
-    Carries old.writer s lane given made (taken ++ old.waiting) → IsCarried s lane given made (taken ++ new.waiting)
+-- A lane made its last byte: its bytes are all, the last with zeros after the last bits.
+pub record MakesEnd (old new : Lane) : Type 0 where
+  pub all : (s : Settings) (lane : ℕ) (given : List Word) (made : ℕ) (taken : List ℕ) →
+      Carries old.writer s lane given made (taken ++ old.waiting) → IsCarried s lane given made (taken ++ new.waiting)
+  pub kept : length old.waiting ≤ length new.waiting
 
 -- each lane of one list is so to the one at its place in the other
 pub record AreEach (R : ℕ → Lane → Lane → Type 0) (old new : List Lane) : Type 0 where
@@ -61,6 +62,10 @@ pub record AreEach (R : ℕ → Lane → Lane → Type 0) (old new : List Lane) 
 -- on each lane more bytes wait than before
 abbrev pub AreLonger : Lanes → Lanes → Type 0
 AreLonger old new = (i : ℕ) → i < length old.lanes → length (waiting_on i old) < length (waiting_on i new)
+
+-- on each lane as many bytes wait as before, or more
+abbrev pub AreKept : Lanes → Lanes → Type 0
+AreKept old new = (i : ℕ) → length (waiting_on i old) ≤ length (waiting_on i new)
 
 -- the first n of the bytes that waited on a lane are gone, and the others wait as before
 abbrev pub AreGone : ℕ → ℕ → Lanes → Lanes → Type 0

@@ -1,5 +1,5 @@
 ghost use Rattle.std.specs.Prelude.{◌≡◌, ◌++◌, ◌==◌, ℕ, true, false, length, take, drop, min, IfOk};
-ghost use Rattle.live_lanes.specs.Lanes.{AreGone, AreLonger, has_room, waiting_on, wants_payload};
+ghost use Rattle.live_lanes.specs.Lanes.{AreGone, AreKept, AreLonger, has_room, waiting_on, wants_payload};
 ghost use Rattle.live_lanes.specs.Standing.{Progress, Stands, begun, framed, took, with_row};
 
 use crate::columns::{finish_each, frame_each, have_room, make_lanes, next_place, put_each};
@@ -130,6 +130,7 @@ impl LiveLanes {
         requires room { has_room self.old ≡ true }
         requires whole { self.old.place ≡ 0 }
         ensures stands { (p : Progress) → Stands self.old p → Stands self.new p }
+        ensures kept { AreKept self.old self.new }
         ensures ended { self.new.ended ≡ true }
     {
         finish_each(&mut self.lanes);
