@@ -9,6 +9,7 @@ use Rattle.words_files.specs.WordsFile.{words_file}
 use Rattle.run_shell.specs.Outputs.{Prefixes}
 use Rattle.stream_commands.proofs.PartsOfStreams.{words_before}
 use Rattle.resend_events.specs.declared.event.Event.{Event}
+use Rattle.resend_events.specs.declared.row.EventRow.{EventRow}
 use Rattle.resend_events.specs.declared.event.Event.TheVariants.{Send, Rewind, Take, Lose, Repeat, TakeBack, LoseBack, RepeatBack}
 use Rattle.retransmit.specs.Pieces.{Piece, words_of, words_of_piece}
 use Rattle.retransmit.specs.Rows.{events_of}
@@ -91,15 +92,15 @@ no_words before (w ∷ ws) e = absurd (omega arith)
 
 -- ---- rows
 
-abbrev times : Event × ℕ → List Event
-times row = replicate row.1 row.0
+abbrev of_row : EventRow → List Event
+of_row row = replicate row.count row.event
 
 -- the events of the rows from one on come after those before
-pub rows_behind : (rows : List (Event × ℕ)) (i : ℕ) → events_of rows ≡ events_of (take i rows) ++ events_of (drop i rows)
-rows_behind rows i = ap events_of (sym (take-append-drop i rows)) ∙ flat_map-append times (take i rows) (drop i rows)
+pub rows_behind : (rows : List EventRow) (i : ℕ) → events_of rows ≡ events_of (take i rows) ++ events_of (drop i rows)
+rows_behind rows i = ap events_of (sym (take-append-drop i rows)) ∙ flat_map-append of_row (take i rows) (drop i rows)
 
-pub count_first : (rows : List (Event × ℕ)) (i : ℕ) → count_of (take i rows) ≤ count_of rows
-count_first rows i = sum_by-take-le (λ (row : Event × ℕ). row.1) rows i
+pub count_first : (rows : List EventRow) (i : ℕ) → count_of (take i rows) ≤ count_of rows
+count_first rows i = sum_by-take-le (λ (row : EventRow). row.count) rows i
 
 -- ---- one event
 

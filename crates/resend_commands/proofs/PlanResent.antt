@@ -9,7 +9,7 @@ use Rattle.retransmit.specs.Pieces.{Piece, AreSealed, words_of}
 use Rattle.retransmit.specs.Resending.{State, state_from}
 use Rattle.retransmit.specs.Rows.{events_of}
 use Rattle.retransmit.specs.Carried.{Carried, IsFresh}
-use Rattle.resend_events.specs.declared.event.Event.{Event}
+use Rattle.resend_events.specs.declared.row.EventRow.{EventRow}
 use Rattle.retransmit.proofs.Cutting.{one_cut, streams_are_sealed}
 use Rattle.run_shell.specs.Outcome.{Outcome}
 use Rattle.link_plan.specs.Listing.{numbers_of, channels_in_order, fit_width}
@@ -28,7 +28,7 @@ use Rattle.resend_commands.specs.Plan.{ResendReading, IsPlanResent}
 use Rattle.resend_commands.specs.Carried.{events_done, accepted_file, line_of, IsBegun, IsWritten, written}
 
 -- words come to one outcome
-one_resent : (prefix : List ℕ) (words : List Word) (window : ℕ) (rows : List (Event × ℕ)) (o p : Outcome) → IsResent prefix words window rows o → IsResent prefix words window rows p → o ≡ p
+one_resent : (prefix : List ℕ) (words : List Word) (window : ℕ) (rows : List EventRow) (o p : Outcome) → IsResent prefix words window rows o → IsResent prefix words window rows p → o ≡ p
 one_resent prefix words window rows o p a b =
     a.outcome
     ∙ ap (λ (ps : List Piece). outcome_of prefix ps (state_of ps window rows)) (one_cut words a.pieces b.pieces a.cut b.cut)

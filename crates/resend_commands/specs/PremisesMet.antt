@@ -4,7 +4,8 @@ use Rattle.std.specs.FinMap.{from_entries}
 use Rattle.lk_outside.specs.Files.{Files, AreBytes}
 use Rattle.link_plan.specs.Plan.{PlanValue}
 use Rattle.pcap_files.specs.Written.{capture_bytes}
-use Rattle.resend_events.specs.declared.event.Event.{Event}
+use Rattle.resend_events.specs.declared.row.EventRow.{EventRow}
+use Rattle.resend_events.specs.Events.{times}
 use Rattle.resend_events.specs.declared.event.Event.TheVariants.{Send, Lose, Take}
 use Rattle.run_shell.specs.Outcome.{Outcome}
 use Rattle.resend_commands.specs.Accepted.{IsResentInOrder}
@@ -51,8 +52,8 @@ resent_plan = record {
   events = Some (codes "e");
 }
 
-abbrev pub resent_rows : List (Event × ℕ)
-resent_rows = (Send, 3) ∷ (Take, 1) ∷ (Lose, 1) ∷ (Take, 1) ∷ []
+abbrev pub resent_rows : List EventRow
+resent_rows = times Send 3 ∷ times Take 1 ∷ times Lose 1 ∷ times Take 1 ∷ []
 
 abbrev pub resent_reading : ResendReading
 resent_reading = record {

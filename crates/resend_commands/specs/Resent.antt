@@ -6,13 +6,13 @@ use Rattle.link_reports.specs.Lines.{resend_line}
 use Rattle.retransmit.specs.Pieces.{Piece, IsCutInto, words_of}
 use Rattle.retransmit.specs.Resending.{State, state_after}
 use Rattle.retransmit.specs.Rows.{events_of}
-use Rattle.resend_events.specs.declared.event.Event.{Event}
+use Rattle.resend_events.specs.declared.row.EventRow.{EventRow}
 use Rattle.run_shell.specs.declared.status.Status.TheVariants.{Done}
 use Rattle.run_shell.specs.Outcome.{Outcome}
 use Rattle.run_shell.specs.Names.{words_name}
 
 -- the state of these pieces, with this window, after the events of these rows
-abbrev pub state_of : List Piece → ℕ → List (Event × ℕ) → State
+abbrev pub state_of : List Piece → ℕ → List EventRow → State
 state_of pieces window rows = state_after (record { pieces = length pieces; window = window }) (events_of rows)
 
 -- the words that are accepted in a state
@@ -32,7 +32,7 @@ outcome_of prefix pieces state = record {
 }
 
 -- what these words come to
-pub record IsResent (prefix : List ℕ) (words : List Word) (window : ℕ) (rows : List (Event × ℕ)) (o : Outcome) : Type 0 where
+pub record IsResent (prefix : List ℕ) (words : List Word) (window : ℕ) (rows : List EventRow) (o : Outcome) : Type 0 where
   pub pieces : List Piece
   pub cut : IsCutInto words pieces
   pub outcome : o ≡ outcome_of prefix pieces (state_of pieces window rows)

@@ -9,7 +9,7 @@ ghost use Rattle.resend_commands.specs.Carried.{accepted_file, events_done};
 
 use crate::words::do_event;
 use lk_outside::Store;
-use resend_events::Event;
+use resend_events::EventRow;
 use retransmit::Resend;
 use run_shell::Outputs;
 use run_stops::Stop;
@@ -23,23 +23,23 @@ fn do_often<S: Store>(
     outputs: &mut Outputs,
     bytes: &mut Vec<u8>,
     resend: &mut Resend,
-    row: (Event, u32),
+    row: EventRow,
 ) -> Result<(), Stop>
     requires count { S.faults store.old < 2 ^ 60 }
-    requires few { resend.old.state.sends + row.1 ≤ 2 ^ 60 }
+    requires few { resend.old.state.sends + row.count ≤ 2 ^ 60 }
     requires one { length outputs.old ≡ 1 }
     requires differ { Differ (open_names outputs.old) }
     requires open { (was : Option Files) × IsOpen outputs.old (accepted_file resend.old ∷ []) was (S.files store.old) }
-    ensures done { OnOk result (resend.new ≡ events_done resend.old (replicate row.1 row.0)) }
-    ensures sends { OnOk result (resend.new.state.sends ≤ resend.old.state.sends + row.1) }
+    ensures done { OnOk result (resend.new ≡ events_done resend.old (replicate row.count row.event)) }
+    ensures sends { OnOk result (resend.new.state.sends ≤ resend.old.state.sends + row.count) }
     ensures names { open_names outputs.new ≡ open_names outputs.old }
     ensures cause { StopCount result (S.faults store.old) (S.faults store.new) }
     ensures stops { StoreStops (Contains (open_names outputs.old)) result }
     ensures grown { (was : Option Files) → IsOpen outputs.old (accepted_file resend.old ∷ []) was (S.files store.old) →
-        Grown outputs.old outputs.new (accepted_file (events_done resend.old (replicate row.1 row.0)) ∷ []) result was (S.files store.new) }
+        Grown outputs.old outputs.new (accepted_file (events_done resend.old (replicate row.count row.event)) ∷ []) result was (S.files store.new) }
 {
-    for _turn in 0..row.1 {
-        do_event(alloc, store, outputs, bytes, resend, row.0)?;
+    for _turn in 0..row.count {
+        do_event(alloc, store, outputs, bytes, resend, row.event)?;
     }
     Ok(())
 }
@@ -50,7 +50,7 @@ pub fn carry<S: Store>(
     store: &mut S,
     outputs: &mut Outputs,
     resend: &mut Resend,
-    rows: &[(Event, u32)],
+    rows: &[EventRow],
 ) -> Result<(), Stop>
     requires count { S.faults store.old < 2 ^ 60 }
     requires few { resend.old.state.sends + count_of rows.now ≤ 2 ^ 60 }

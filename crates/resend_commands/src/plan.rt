@@ -13,7 +13,7 @@ use link_reports::resend_line;
 use lk_base::OutOfMemory;
 use lk_outside::Store;
 use plan_inputs::PlanReading;
-use resend_events::Event;
+use resend_events::EventRow;
 use retransmit::Resend;
 use run_shell::Outputs;
 use run_stops::Stop;
@@ -56,7 +56,7 @@ pub fn fill_words<S: Store>(
     outputs: &mut Outputs,
     reading: &PlanReading,
     window: u32,
-    rows: &[(Event, u32)],
+    rows: &[EventRow],
 ) -> Result<Vec<u8>, Stop>
     requires count { S.faults store.old < 2 ^ 60 }
     requires fit { FitPlan (numbers_of reading.now.plan.channels.items) (inputs_value reading.now.inputs) }

@@ -14,7 +14,7 @@ use link_plan::{Key, Plan, PlanError};
 use lk_base::ROWS_LIMIT;
 use lk_outside::Store;
 use plan_inputs::{PlanReading, read_inputs, read_plan_file, rows_stop};
-use resend_events::{Event, read_events};
+use resend_events::{EventRow, read_events};
 use run_stops::{Stop, read_input};
 use std::alloc::Global;
 
@@ -24,7 +24,7 @@ pub struct ResendInputs {
     /// The plan and its inputs.
     pub reading: PlanReading,
     /// The events, each with how often it comes.
-    pub rows: Vec<(Event, u32)>,
+    pub rows: Vec<EventRow>,
 }
 
 // The number of the row that says that a plan is wide, which each wide plan has.
@@ -74,7 +74,7 @@ fn read_events_file<S: Store>(
     alloc: Global,
     store: &mut S,
     plan: &Plan,
-) -> Result<Vec<(Event, u32)>, Stop>
+) -> Result<Vec<EventRow>, Stop>
     requires { S.faults store.old < 2 ^ 60 }
     ensures cause { StopCount result (S.faults store.old) (S.faults store.new) }
     ensures unchanged { S.files store.new ≡ S.files store.old }

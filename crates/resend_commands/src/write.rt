@@ -12,7 +12,7 @@ ghost use Rattle.resend_commands.specs.Plan.{IsPlanResent};
 use crate::plan::fill_words;
 use lk_outside::Store;
 use plan_inputs::PlanReading;
-use resend_events::Event;
+use resend_events::EventRow;
 use run_shell::{Finished, Outputs, words_name};
 use run_stops::Stop;
 use std::alloc::{AllocError, Global};
@@ -34,7 +34,7 @@ pub fn write_plan<S: Store>(
     store: &mut S,
     reading: &PlanReading,
     window: u32,
-    rows: &[(Event, u32)],
+    rows: &[EventRow],
 ) -> Result<Finished, Stop>
     requires count { S.faults store.old < 2 ^ 60 }
     requires fit { FitPlan (numbers_of reading.now.plan.channels.items) (inputs_value reading.now.inputs) }

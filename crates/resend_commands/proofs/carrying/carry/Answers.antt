@@ -4,7 +4,9 @@ use Rattle.std.proofs.lemmas.List.{take_all}
 use Rattle.run_shell.proofs.OutputNames.{as_many_opens}
 use Rattle.run_stops.specs.Stops.{StoreStops, StopCount}
 use Rattle.run_shell.specs.Outputs.{IsOpen, Differ}
+use Rattle.resend_events.specs.Events.{times}
 use Rattle.resend_events.specs.declared.event.Event.{Event}
+use Rattle.resend_events.specs.declared.row.EventRow.{EventRow}
 use Rattle.resend_events.specs.declared.event.Event.TheVariants.{Send}
 use Rattle.retransmit.specs.Rows.{events_of}
 use Rattle.retransmit.proofs.Runs.{list_more, rows_more, count_more}
@@ -42,14 +44,14 @@ loop-row-preserved g c =
     let start = c.args.resend.now in
     let rows = c.args.rows.now in
     let i = c.loop-row.row-index in
-    let row = get_or rows i (Send, 0) in
+    let row = get_or rows i (times Send 0) in
     let before = inv.sends in
     let here = e.sends in
     let count = count_more rows i c.loop-row-test.true in
     record {
       same_faults = e.cause ∙ inv.same_faults;
       names = e.names ∙ inv.names;
-      done = list_more start c.loop-row.resend c.do_often.new.resend (events_of (take i rows)) inv.done (replicate row.1 row.0) e.done
+      done = list_more start c.loop-row.resend c.do_often.new.resend (events_of (take i rows)) inv.done (replicate row.count row.event) e.done
           ∙ ap (λ (es : List Event). events_done start es) (sym (rows_more rows i c.loop-row-test.true));
       sends = omega (arith, before, here, count);
       open_so_far = λ was o. subst (λ (f : List ℕ). IsOpen c.do_often.new.outputs (f ∷ []) was (g.S.Store.files c.do_often.new.store)) (ap accepted_file (sym e.done)) (e.grown was (inv.open_so_far was o));
@@ -76,9 +78,9 @@ returns-in_err-do_often-clause-grown g c =
     let start = c.args.resend.now in
     let rows = c.args.rows.now in
     let i = c.loop-row.row-index in
-    let row = get_or rows i (Send, 0) in
-    let now = events_done c.loop-row.resend (replicate row.1 row.0) in
-    let done = list_more start c.loop-row.resend now (events_of (take i rows)) inv.done (replicate row.1 row.0) refl
+    let row = get_or rows i (times Send 0) in
+    let now = events_done c.loop-row.resend (replicate row.count row.event) in
+    let done = list_more start c.loop-row.resend now (events_of (take i rows)) inv.done (replicate row.count row.event) refl
     ∙ ap (λ (es : List Event). events_done start es) (sym (rows_more rows i c.loop-row-test.true)) in
     rw p.1 (λ was o. grown_less (Unit {0}) c.args.outputs.now c.loop-row.outputs c.do_often.new.outputs c.in_err-do_often.field-0.0 (accepted_file now) (accepted_file (events_done start (events_of rows))) was _ inv.names
     (begins_further start now (events_of (take (i + 1) rows)) (events_of (drop (i + 1) rows)) (events_of rows) done (rows_behind rows (i + 1)))
@@ -87,7 +89,7 @@ returns-in_err-do_often-clause-grown g c =
 pub returns-clause-done : goal.returns-clause-done
 returns-clause-done g c =
     let stop = c.loop-row-test.false in
-    c.loop-row.invariant.done ∙ ap (λ (rs : List (Event × ℕ)). events_done c.args.resend.now (events_of rs)) (take_all c.loop-row.row-index c.args.rows.now (omega (arith, stop)))
+    c.loop-row.invariant.done ∙ ap (λ (rs : List EventRow). events_done c.args.resend.now (events_of rs)) (take_all c.loop-row.row-index c.args.rows.now (omega (arith, stop)))
 
 pub returns-clause-names : goal.returns-clause-names
 returns-clause-names g c = c.loop-row.invariant.names
@@ -99,5 +101,5 @@ pub returns-clause-grown : goal.returns-clause-grown
 returns-clause-grown g c = λ was o.
     let inv = c.loop-row.invariant in
     let stop = c.loop-row-test.false in
-    let done = inv.done ∙ ap (λ (rs : List (Event × ℕ)). events_done c.args.resend.now (events_of rs)) (take_all c.loop-row.row-index c.args.rows.now (omega (arith, stop))) in
+    let done = inv.done ∙ ap (λ (rs : List EventRow). events_done c.args.resend.now (events_of rs)) (take_all c.loop-row.row-index c.args.rows.now (omega (arith, stop))) in
     subst (λ (f : List ℕ). IsOpen c.loop-row.outputs (f ∷ []) was (g.S.Store.files c.loop-row.store)) (ap accepted_file done) (inv.open_so_far was o)

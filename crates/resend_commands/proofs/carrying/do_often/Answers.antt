@@ -40,8 +40,8 @@ loop-turn-preserved g c =
     record {
       same_faults = e.cause ∙ i.same_faults;
       names = e.names ∙ i.names;
-      done = list_more start c.loop-turn.resend c.do_event.new.resend (replicate c.loop-turn._turn c.args.row.0) i.done (c.args.row.0 ∷ []) e.done
-          ∙ ap (λ (es : List Event). events_done start es) (replicate_more c.loop-turn._turn c.args.row.0);
+      done = list_more start c.loop-turn.resend c.do_event.new.resend (replicate c.loop-turn._turn c.args.row.event) i.done (c.args.row.event ∷ []) e.done
+          ∙ ap (λ (es : List Event). events_done start es) (replicate_more c.loop-turn._turn c.args.row.event);
       sends = omega (arith, before, here);
       open_so_far = λ was o. e.grown was (i.open_so_far was o);
     }
@@ -65,15 +65,15 @@ returns-in_err-do_event-clause-grown g c =
     let i = c.loop-turn.invariant in
     let e = c.in_err-do_event.ensures {u = tt} in
     let start = c.args.resend.now in
-    let event = c.args.row.0 in
+    let event = c.args.row.event in
     let turn = c.loop-turn._turn in
     let here = c.loop-turn-test.true in
     let done = list_more start c.loop-turn.resend c.do_event.new.resend (replicate turn event) i.done (event ∷ []) e.done
     ∙ ap (λ (es : List Event). events_done start es) (replicate_more turn event) in
-    let all : turn + 1 + (c.args.row.1 - (turn + 1)) ≡ c.args.row.1 = omega (arith, here) in
-    rw p.1 (λ was o. grown_less (Unit {0}) c.args.outputs.now c.loop-turn.outputs c.do_event.new.outputs c.in_err-do_event.field-0.0 (accepted_file c.do_event.new.resend) (accepted_file (events_done start (replicate c.args.row.1 event))) was _ i.names
-    (begins_further start c.do_event.new.resend (replicate (turn + 1) event) (replicate (c.args.row.1 - (turn + 1)) event) (replicate c.args.row.1 event) done
-    (ap (λ (n : ℕ). replicate n event) (sym all) ∙ sym (replicate-append-replicate (turn + 1) (c.args.row.1 - (turn + 1)) event)))
+    let all : turn + 1 + (c.args.row.count - (turn + 1)) ≡ c.args.row.count = omega (arith, here) in
+    rw p.1 (λ was o. grown_less (Unit {0}) c.args.outputs.now c.loop-turn.outputs c.do_event.new.outputs c.in_err-do_event.field-0.0 (accepted_file c.do_event.new.resend) (accepted_file (events_done start (replicate c.args.row.count event))) was _ i.names
+    (begins_further start c.do_event.new.resend (replicate (turn + 1) event) (replicate (c.args.row.count - (turn + 1)) event) (replicate c.args.row.count event) done
+    (ap (λ (n : ℕ). replicate n event) (sym all) ∙ sym (replicate-append-replicate (turn + 1) (c.args.row.count - (turn + 1)) event)))
     (e.grown was (i.open_so_far was o)))
 
 pub returns-clause-names : goal.returns-clause-names
@@ -88,6 +88,6 @@ returns-clause-grown g c = λ was o.
     let start = c.args.resend.now in
     let stop = c.loop-turn-test.false in
     let end = c.loop-turn.auto._turn-end in
-    let all : c.loop-turn._turn ≡ c.args.row.1 = omega (arith, stop, end) in
-    let done = i.done ∙ ap (λ (n : ℕ). events_done start (replicate n c.args.row.0)) all in
+    let all : c.loop-turn._turn ≡ c.args.row.count = omega (arith, stop, end) in
+    let done = i.done ∙ ap (λ (n : ℕ). events_done start (replicate n c.args.row.event)) all in
     subst (λ (f : List ℕ). IsOpen c.loop-turn.outputs (f ∷ []) was (g.S.Store.files c.loop-turn.store)) (ap accepted_file done) (i.open_so_far was o)

@@ -9,7 +9,7 @@ abbrev pub invariant-loop-turn : goal.invariant-loop-turn
 invariant-loop-turn g l = record {
   same_faults : g.S.Store.faults l.store ≡ g.S.Store.faults l.fn.store;
   names : open_names l.outputs ≡ open_names l.fn.outputs;
-  done : l.resend ≡ events_done l.fn.resend (replicate l._turn l.row.0);
+  done : l.resend ≡ events_done l.fn.resend (replicate l._turn l.row.event);
   sends : l.resend.state.sends ≤ l.fn.resend.state.sends + l._turn;
   open_so_far : (was : Option Files) → IsOpen l.fn.outputs (accepted_file l.fn.resend ∷ []) was (g.S.Store.files l.fn.store) → IsOpen l.outputs (accepted_file l.resend ∷ []) was (g.S.Store.files l.store);
 }

@@ -1,8 +1,8 @@
-use Rattle.std.proofs.Common.{subst, List, ℕ, [], ◌∷◌, string_bytes}
+use Rattle.std.proofs.Common.{subst, List, [], ◌∷◌, string_bytes}
 use Rattle.std.proofs.lemmas.Result.{err_from_is_err_and}
 use Rattle.run_shell.specs.Writing.{Writes}
 use Rattle.plan_inputs.specs.Values.{reading_value}
-use Rattle.resend_events.specs.declared.event.Event.{Event}
+use Rattle.resend_events.specs.declared.row.EventRow.{EventRow}
 use Rattle.run_shell.proofs.Writing.{writes_comes, writes_leaves}
 use Rattle.run_shell.proofs.Works.{reading_ends}
 use Rattle.run_shell.proofs.OutputNames.{one_name}
@@ -31,14 +31,14 @@ returns-clause-comes g c =
     let name = c.args.file.now in
     let out = string_bytes c.in_ok-inputs.inputs.reading.plan.out in
     writes_comes (resend_work name) (resend_value c.in_ok-inputs.inputs) (words_name out ∷ []) (λ q h. one_name (words_name out) q h) c.write_plan.result _ _ _ c.in_ok-inputs.ensures.unchanged c.in_ok-inputs.ensures.reads
-    (subst (λ (rows : List (Event × ℕ)). Writes (IsPlanResent (record { reading = reading_value c.in_ok-inputs.inputs.reading; window = c.in_ok-inputs.inputs.reading.plan.window; rows = rows })) (words_name out ∷ []) c.write_plan.result (g.S.Store.files c.read_resend.new.store) (g.S.Store.files c.write_plan.new.store)) c.deref.ensures.value c.write_plan.ensures.writes)
+    (subst (λ (rows : List EventRow). Writes (IsPlanResent (record { reading = reading_value c.in_ok-inputs.inputs.reading; window = c.in_ok-inputs.inputs.reading.plan.window; rows = rows })) (words_name out ∷ []) c.write_plan.result (g.S.Store.files c.read_resend.new.store) (g.S.Store.files c.write_plan.new.store)) c.deref.ensures.value c.write_plan.ensures.writes)
 
 pub returns-clause-others : goal.returns-clause-others
 returns-clause-others g c =
     let name = c.args.file.now in
     let out = string_bytes c.in_ok-inputs.inputs.reading.plan.out in
     writes_leaves (resend_work name) (resend_value c.in_ok-inputs.inputs) (words_name out ∷ []) (λ q h. one_name (words_name out) q h) c.write_plan.result _ _ _ c.in_ok-inputs.ensures.unchanged c.in_ok-inputs.ensures.reads
-    (subst (λ (rows : List (Event × ℕ)). Writes (IsPlanResent (record { reading = reading_value c.in_ok-inputs.inputs.reading; window = c.in_ok-inputs.inputs.reading.plan.window; rows = rows })) (words_name out ∷ []) c.write_plan.result (g.S.Store.files c.read_resend.new.store) (g.S.Store.files c.write_plan.new.store)) c.deref.ensures.value c.write_plan.ensures.writes)
+    (subst (λ (rows : List EventRow). Writes (IsPlanResent (record { reading = reading_value c.in_ok-inputs.inputs.reading; window = c.in_ok-inputs.inputs.reading.plan.window; rows = rows })) (words_name out ∷ []) c.write_plan.result (g.S.Store.files c.read_resend.new.store) (g.S.Store.files c.write_plan.new.store)) c.deref.ensures.value c.write_plan.ensures.writes)
 
 pub returns-in_err-inputs-clause-cause : goal.returns-in_err-inputs-clause-cause
 returns-in_err-inputs-clause-cause g c =
