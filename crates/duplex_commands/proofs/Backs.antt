@@ -1,6 +1,5 @@
 -- The rows with captures of end b, one after the other.
-use Rattle.std.proofs.Common.{◌≡◌, ℕ, zero, suc, ◌+◌, ◌<◌, ◌≤◌, cond, List, [], ◌∷◌, length, map, drop, get_or, refl, sym, ap, ◌∙◌, subst, arith, Contains, Some, None, Global, add-one}
-use Rattle.std.specs.declared.string.String.{String}
+use Rattle.std.proofs.Common.{◌≡◌, ℕ, zero, suc, ◌+◌, ◌<◌, ◌≤◌, cond, List, [], ◌∷◌, length, map, drop, get_or, refl, sym, ap, ◌∙◌, subst, arith, Contains, Some, None, add-one}
 use Rattle.std.proofs.lemmas.List.{drop_all}
 use Rattle.std.proofs.Math.Seq.{drop-cons}
 use Rattle.link_plan.proofs.OrderSorted.{listed-contains}
@@ -13,13 +12,11 @@ use Rattle.plan_inputs.specs.Values.{AreOn}
 use Rattle.plan_inputs.proofs.InputsRead.{same_numbers}
 use Rattle.duplex_plan.specs.Duplex.{BackValue}
 use Rattle.duplex_plan.specs.Views.{back_value}
+use Rattle.duplex_plan.specs.declared.back.BackRow.{BackRow}
 use Rattle.duplex_commands.specs.Reading.{first_unlisted, backs}
 
-abbrev pub BackRow : Type 0
-BackRow = ℕ × String Global × ℕ
-
 pub next_row : (numbers : List ℕ) (back : List BackRow) (i : ℕ) (row : BackRow) → i < length back → row ≡ get_or back i row
-    → first_unlisted numbers (map back_value (drop i back)) ≡ cond (is_listed numbers row.0) (first_unlisted numbers (map back_value (drop (i + 1) back))) (Some row.2)
+    → first_unlisted numbers (map back_value (drop i back)) ≡ cond (is_listed numbers row.channel) (first_unlisted numbers (map back_value (drop (i + 1) back))) (Some row.row)
 unfolding first_unlisted
 next_row numbers back i row lt is =
     let d : drop i back ≡ get_or back i row ∷ drop (i + 1) back = rw (add-one, drop-cons back i row lt) refl in

@@ -1,6 +1,5 @@
 -- What was read for `duplex`, part by part, where the files are told.
-use Rattle.std.proofs.Common.{◌≡◌, ◌⊎◌, inl, inr, ℕ, ◌-◌, List, map, sym, ap, ◌∙◌, subst, Option, Some, None, IfSome, Result, Ok, Err, MatchResult, Global}
-use Rattle.std.specs.declared.string.String.{String}
+use Rattle.std.proofs.Common.{◌≡◌, ◌⊎◌, inl, inr, ℕ, ◌-◌, List, map, sym, ap, ◌∙◌, subst, Option, Some, None, IfSome, Result, Ok, Err, MatchResult}
 use Rattle.lk_base.specs.Limits.{capture_limit}
 use Rattle.lk_outside.specs.Files.{Files}
 use Rattle.link_plan.specs.Plan.{Listed, PlanValue}
@@ -11,6 +10,7 @@ use Rattle.link_plan.specs.declared.channel.ChannelRow.{ChannelRow}
 use Rattle.plan_errors.specs.declared.error.PlanError.TheVariants.{Clash}
 use Rattle.duplex_plan.specs.Duplex.{DuplexValue}
 use Rattle.duplex_plan.specs.Views.{back_value, duplex_value}
+use Rattle.duplex_plan.specs.declared.back.BackRow.{BackRow}
 use Rattle.duplex_plan.specs.declared.plan.DuplexPlan.{DuplexPlan}
 use Rattle.run_stops.specs.declared.stop.Stop.{Stop}
 use Rattle.run_stops.specs.declared.stop.Stop.TheVariants as stop
@@ -169,13 +169,13 @@ of_room plan rows room limit x are is h =
     (subst (λ (cs : List ChannelRow). IfSome x (λ files. room ≡ limit - capture_sizes files (map listed_of cs))) are h)
 
 -- whether each channel of end b is listed, by the rows of the plan
-pub by_rows : (plan : Plan) (settings : DuplexPlan) (rows : List ChannelRow) (back : List (ℕ × String Global × ℕ)) (o : Option ℕ) → rows ≡ plan.channels.items → back ≡ settings.back.items
+pub by_rows : (plan : Plan) (settings : DuplexPlan) (rows : List ChannelRow) (back : List BackRow) (o : Option ℕ) → rows ≡ plan.channels.items → back ≡ settings.back.items
     → o ≡ first_unlisted (numbers_of rows) (map back_value back) → back_channels (plan_value plan) (duplex_value settings).back ≡ unless_unlisted (duplex_value settings).back o
 by_rows plan settings rows back o are is e =
     let same : first_unlisted (numbers_in (plan_value plan)) (duplex_value settings).back ≡ o =
     ap (λ ns. first_unlisted ns (duplex_value settings).back) (sym (same_numbers plan.channels.items))
     ∙ ap (λ (cs : List ChannelRow). first_unlisted (numbers_of cs) (duplex_value settings).back) (sym are)
-    ∙ ap (λ (bs : List (ℕ × String Global × ℕ)). first_unlisted (numbers_of rows) (map back_value bs)) (sym is) ∙ sym e in
+    ∙ ap (λ (bs : List BackRow). first_unlisted (numbers_of rows) (map back_value bs)) (sym is) ∙ sym e in
     ap (unless_unlisted (duplex_value settings).back) same
 
 -- of the channels of end b as they are listed
