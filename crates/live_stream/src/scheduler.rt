@@ -327,6 +327,14 @@ impl LiveScheduler {
         }
     }
 
+    /// Whether no word is made any more: the stream is whole, which is so only after `finish`, or it has `MOST_WORDS` words.
+    pub fn is_over(&self) -> bool
+        requires { (g : Given) × (w : List Word) × Gives self.now g w }
+        ensures { (g : Given) (w : List Word) → Gives self.now g w → (result ≡ true) ↔ (IsWholeLiveStream g w ⊎ (most_words ≤ length w)) }
+    {
+        self.slot >= MOST_WORDS || self.ends_here()
+    }
+
     /// How many words were made.
     pub fn slot(&self) -> u64
         requires { (g : Given) × (w : List Word) × Gives self.now g w }

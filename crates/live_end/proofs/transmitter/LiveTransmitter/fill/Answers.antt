@@ -1,0 +1,32 @@
+-- Each step leaves less room on the first lane.
+use Rattle.std.proofs.Common.{◌∙◌, ap, length, arith}
+use Rattle.live_lanes.specs.Lanes.{has_room, waiting_on}
+use Rattle.live_end.specs.States.{State}
+use Rattle.live_end.specs.Sending.{progress_of}
+use Rattle.live_end.proofs.Going.{first_below, lanes_there, makes_both, makes_none}
+use Rattle.live_end.proofs.transmitter.LiveTransmitter.fill.Goals as goal
+
+pub loop-self-init : goal.loop-self-init
+loop-self-init c = makes_none c.args.self.now
+
+pub loop-self-smaller : goal.loop-self-smaller
+loop-self-smaller c =
+    let v = c.self.inside in
+    let (x, k) = c.self.invariant in
+    let goes = c.rests.ensures.goes c.if-rests.false in
+    let room = ap (λ (t : State). has_room t.lanes) c.self.view_is ∙ goes.1 in
+    let low = first_below v.lanes (progress_of x) k.stands room in
+    let some = lanes_there v.lanes (progress_of x) k.stands in
+    let many = ap (λ (t : State). length t.lanes.lanes) c.self.view_is in
+    let same = ap (λ (t : State). length (waiting_on 0 t.lanes)) c.self.view_is in
+    let longer = c.step.ensures.longer 0 (omega (arith, some, many)) in
+    omega (arith, low, same, longer)
+
+pub loop-self-preserved : goal.loop-self-preserved
+loop-self-preserved c = makes_both c.args.self.now c.loop-self.self c.step.new.self c.loop-self.invariant c.step.ensures.makes
+
+pub returns-then-rests-clause-rests : goal.returns-then-rests-clause-rests
+returns-then-rests-clause-rests c low = c.rests.ensures.rests c.if-rests.true
+
+pub step-requires : goal.step-requires
+step-requires c = record { goes = c.rests.ensures.goes c.if-rests.false }

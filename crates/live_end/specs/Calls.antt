@@ -1,0 +1,67 @@
+-- What the calls on a live transmitter do.
+use Rattle.std.specs.Prelude.{ℕ, ◌≡◌, ◌⊎◌, ◌+◌, ◌<◌, Bool, true, false, List, ◌++◌, length, min, take, drop, Some, None, is_some, Result, Ok, Err}
+use Rattle.lk_base.specs.declared.word.Word.{Word}
+use Rattle.live_stream.specs.LiveStream.{Given, IsWholeLiveStream}
+use Rattle.live_stream.specs.Gives.{most_words, refusal_of}
+use Rattle.live_stream.specs.declared.refused.Closed.{Closed}
+use Rattle.live_stream.specs.declared.refused.Refused.{Refused}
+use Rattle.live_stream.specs.declared.refused.Refused.TheVariants as refused
+use Rattle.live_lanes.specs.Lanes.{has_room, waiting_on}
+use Rattle.live_end.specs.States.{State}
+use Rattle.live_end.specs.Sending.{IsOver, Sends, Sent, with_close, with_columns, with_flow, with_local, with_packet, with_taken}
+
+-- ---- what is given
+
+-- a packet is taken; or it is refused so, or memory ran out, and nothing has changed
+abbrev pub IsPacket : State → State → ℕ → List ℕ → Result (Unit {0}) Refused → Type 0
+IsPacket t u channel bytes (Ok done) = (x : Sent) → Sends t x → (refusal_of x.given channel bytes ≡ None) × Sends u (with_packet channel bytes x)
+IsPacket t u channel bytes (Err why) =
+    (x : Sent) → Sends t x → ((refusal_of x.given channel bytes ≡ Some why) ⊎ ((refusal_of x.given channel bytes ≡ None) × (why ≡ refused.OutOfMemory))) × Sends u x
+
+-- a row is taken; or the transmitter was closed, and nothing has changed
+abbrev pub IsRow : (Sent → Sent) → State → State → Result (Unit {0}) Closed → Type 0
+IsRow with_row t u (Ok done) = (x : Sent) → Sends t x → (x.given.closed ≡ None) × Sends u (with_row x)
+IsRow with_row t u (Err why) = (x : Sent) → Sends t x → (is_some x.given.closed ≡ true) × Sends u x
+
+abbrev pub IsFlow : State → State → ℕ → Result (Unit {0}) Closed → Type 0
+IsFlow t u word result = IsRow (with_flow word) t u result
+
+abbrev pub IsLocal : State → State → ℕ → Bool → Result (Unit {0}) Closed → Type 0
+IsLocal t u channel on result = IsRow (with_local channel on) t u result
+
+abbrev pub IsClose : State → State → Type 0
+IsClose t u = (x : Sent) → Sends t x → Sends u (with_close x)
+
+-- ---- what is made
+
+-- so many words of a payload stream are not its last, and are below the most
+abbrev pub GoesOn : ℕ → Given → List Word → Type 0
+GoesOn n g w = (more : List Word) → length more < n → IsOver g (w ++ more) → ⊥
+
+-- each lane made words more
+abbrev pub MakesWords : State → State → Type 0
+MakesWords t u = (x : Sent) → Sends t x → (n : ℕ) × (words : List Word) × Sends u (with_columns n words x)
+
+-- No word is made: the lanes have ended, or a ring has no room, or the stream is whole at the end of a metaframe, or it has nearly the
+-- most words.
+abbrev pub Rests : State → Type 0
+Rests t = (t.lanes.ended ≡ true) ⊎ (has_room t.lanes ≡ false) ⊎ ((x : Sent) → Sends t x → ((t.lanes.place ≡ 0) × IsWholeLiveStream x.given x.words) ⊎ (most_words < length x.words + 64))
+
+-- the same, where the lanes end with the stream as soon as each ring has room
+abbrev pub IsStill : State → Type 0
+IsStill t = (t.lanes.ended ≡ true) ⊎ (has_room t.lanes ≡ false) ⊎ ((x : Sent) → Sends t x → most_words < length x.words + 64)
+
+-- words are made until so many bytes of a lane wait, as far as that goes
+pub record IsFilled (t u : State) (lane count : ℕ) : Type 0 where
+  pub makes : MakesWords t u
+  pub still : length (waiting_on lane u.lanes) < count → IsStill u
+
+-- the next bytes of a lane are taken, as many as wait and there is room for
+pub record AreTaken (t u : State) (lane : ℕ) (old new : List ℕ) (n : ℕ) : Type 0 where
+  pub count : n ≡ min (length old) (length (waiting_on lane t.lanes))
+  pub copied : new ≡ take n (waiting_on lane t.lanes) ++ drop n old
+  pub sends : (x : Sent) → Sends t x → Sends u (with_taken lane (take n (waiting_on lane t.lanes)) x)
+
+-- words are made first, and then bytes are taken
+abbrev pub IsTake : State → State → ℕ → List ℕ → List ℕ → ℕ → Type 0
+IsTake t u lane old new n = (filled : State) × IsFilled t filled lane (length old) × AreTaken filled u lane old new n

@@ -1,0 +1,4 @@
+pub mod States
+pub mod Sending
+pub mod Calls
+pub mod Laws

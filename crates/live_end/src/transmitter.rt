@@ -1,0 +1,216 @@
+ghost use Rattle.std.specs.Prelude.{◌≡◌, ◌≤◌, ◌<◌, ◌+◌, ◌⊎◌, ◌↔◌, ℕ, List, true, false, length, IfOk};
+ghost use Rattle.std.specs.Bool.{OnFalse, OnTrue};
+ghost use Rattle.std.specs.List.{AllPairs};
+ghost use Rattle.live_stream.specs.LiveStream.{IsWholeLiveStream};
+ghost use Rattle.live_stream.specs.Gives.{most_words};
+ghost use Rattle.live_lanes.specs.Lanes.{AreLonger, has_room, waiting_on, wants_payload};
+ghost use Rattle.tx_end.specs.Whole.{IsShapeOf};
+ghost use Rattle.live_end.specs.Calls.{IsClose, IsFilled, IsFlow, IsLocal, IsPacket, IsStill, IsTake, MakesWords, Rests};
+ghost use Rattle.live_end.specs.Sending.{IsOver, Sends, Sent, nothing_sent, with_columns};
+
+use crate::row::next_row;
+use live_lanes::LiveLanes;
+use live_stream::{Closed, LiveScheduler, MOST_WORDS, Refused};
+use lk_base::{Link, OutOfMemory, Shape, Word};
+use std::alloc::Global;
+use std::marker::Model;
+
+/// A transmitter of the lanes of a link whose packets and rows are given while it sends. Words are made as bytes of lanes are asked
+/// for, one of each lane at a time, so what is given counts from the next word on.
+#[derive(Drop)]
+pub struct LiveTransmitter {
+    scheduler: LiveScheduler,
+    lanes: LiveLanes,
+    /// The row of words that was made last: one for each lane.
+    row: Vec<Word>,
+}
+
+impl Model for LiveTransmitter {
+    ghost use Rattle.live_end.specs.States.{State, state};
+    ghost use Rattle.live_end.specs.Sending.{Sends, Sent};
+
+    ghost Value = { State };
+
+    ghost view = { λ a. state a.scheduler a.lanes a.row.items };
+
+    ghost invariant = { λ a. (x : Sent) × Sends (state a.scheduler a.lanes a.row.items) x };
+}
+
+impl LiveTransmitter {
+    /// A transmitter of a link that was given nothing and made no word. The shape is that of the link, with any BurstMin; the channels
+    /// are different numbers, and the entries are those of the calendar.
+    ///
+    /// # Errors
+    ///
+    /// `OutOfMemory` where memory ran out, and nowhere else.
+    pub fn new(
+        alloc: Global,
+        link: &Link,
+        shape: Shape,
+        channels: &[u16],
+        entries: &[u16],
+    ) -> Result<LiveTransmitter, OutOfMemory>
+        requires suits { IsShapeOf link.now shape }
+        requires entries_low { 1 ≤ length entries.now }
+        requires entries_high { length entries.now ≤ 1024 }
+        requires distinct { AllPairs (λ x y. x ≡ y → ⊥) channels.now }
+        ensures { IfOk result (λ t. Sends t (nothing_sent link.now shape channels.now entries.now) × (t.lanes.ended ≡ false)) }
+    {
+        let scheduler = LiveScheduler::new(alloc, shape, channels, entries)?;
+        let lanes = LiveLanes::new(alloc, link)?;
+        let row = vec![in alloc; Word::Data(0); link.lanes() as usize]?;
+        Ok(LiveTransmitter {
+            scheduler,
+            lanes,
+            row,
+        })
+    }
+
+    /// How many lanes there are: 1 to 64.
+    pub fn lane_count(&self) -> usize
+        ensures { result ≡ length self.now.lanes.lanes }
+    {
+        self.lanes.count()
+    }
+
+    /// Gives a packet, with its bytes copied. It counts from the next word on.
+    ///
+    /// # Errors
+    ///
+    /// In this order: it was closed, the channel is not listed, the packet has no bytes or more than `LONGEST_PACKET`, memory ran out.
+    /// Nothing has changed then.
+    pub fn packet(&mut self, channel: u16, bytes: &[u8]) -> Result<(), Refused>
+        ensures { IsPacket self.old self.new channel bytes.now result }
+    {
+        self.scheduler.packet(channel, bytes)
+    }
+
+    /// Gives the word of a flow row of the far end. It counts from the next word on, if it is valid.
+    ///
+    /// # Errors
+    ///
+    /// It was closed. Nothing has changed then.
+    pub fn flow(&mut self, word: u64) -> Result<(), Closed>
+        ensures { IsFlow self.old self.new word result }
+    {
+        self.scheduler.flow(word)
+    }
+
+    /// Gives a state of this end's own. The control words tell it, from the next one on.
+    ///
+    /// # Errors
+    ///
+    /// It was closed. Nothing has changed then.
+    pub fn local(&mut self, channel: u16, on: bool) -> Result<(), Closed>
+        ensures { IsLocal self.old self.new channel on result }
+    {
+        self.scheduler.local(channel, on)
+    }
+
+    /// Closes it: no packet and no row is taken from now on, and the lanes end once what may be sent is sent. Of one that was closed
+    /// it changes nothing.
+    pub fn finish(&mut self)
+        ensures { IsClose self.old self.new }
+    {
+        self.scheduler.finish();
+    }
+
+    // Makes the next word of each lane, a payload word.
+    fn put_row(&mut self)
+        requires going { self.old.lanes.ended ≡ false }
+        requires room { has_room self.old.lanes ≡ true }
+        requires wants { wants_payload self.old.lanes ≡ true }
+        requires few { (x : Sent) → Sends self.old x → length x.words + 64 ≤ most_words }
+        ensures makes { MakesWords self.old self.new }
+        ensures longer { AreLonger self.old.lanes self.new.lanes }
+    {
+        next_row(&mut self.scheduler, &mut self.row);
+        self.lanes.put(&self.row);
+    }
+
+    // Makes the next word of each lane, a framing word.
+    fn frame(&mut self)
+        requires going { self.old.lanes.ended ≡ false }
+        requires room { has_room self.old.lanes ≡ true }
+        requires wants { wants_payload self.old.lanes ≡ false }
+        requires goes { (x : Sent) → Sends self.old x → self.old.lanes.place ≡ 0 → IsWholeLiveStream x.given x.words → ⊥ }
+        ensures makes { MakesWords self.old self.new }
+        ensures longer { AreLonger self.old.lanes self.new.lanes }
+    {
+        self.lanes.frame();
+    }
+
+    // Whether the stream is whole, where it has fewer than the most words.
+    fn is_whole(&self) -> bool
+        ensures whole { (x : Sent) → Sends self.now x → length x.words < most_words → (result ≡ true) ↔ IsWholeLiveStream x.given x.words }
+        ensures few { (x : Sent) → Sends self.now x → result ≡ true → IsWholeLiveStream x.given x.words }
+    {
+        self.scheduler.slot() < MOST_WORDS && self.scheduler.is_over()
+    }
+
+    // Whether no word is made: the lanes have ended, or a ring has no room, or the stream has nearly the most words, or it is whole at the
+    // end of a metaframe.
+    fn rests(&self) -> bool
+        ensures rests { result ≡ true → Rests self.now }
+        ensures goes { result ≡ false → (self.now.lanes.ended ≡ false) × (has_room self.now.lanes ≡ true) × ((x : Sent) → Sends self.now x → (length x.words + 64 ≤ most_words) × (self.now.lanes.place ≡ 0 → IsWholeLiveStream x.given x.words → ⊥)) }
+    {
+        let room = self.lanes.has_room();
+        if self.lanes.has_ended() || !room {
+            return true;
+        }
+        if self.scheduler.slot() > MOST_WORDS - 64 {
+            return true;
+        }
+        let whole = self.is_whole();
+        self.lanes.is_whole() && whole
+    }
+
+    // Makes the next word of each lane.
+    fn step(&mut self)
+        requires goes { (self.old.lanes.ended ≡ false) × (has_room self.old.lanes ≡ true) × ((x : Sent) → Sends self.old x → (length x.words + 64 ≤ most_words) × (self.old.lanes.place ≡ 0 → IsWholeLiveStream x.given x.words → ⊥)) }
+        ensures makes { MakesWords self.old self.new }
+        ensures longer { AreLonger self.old.lanes self.new.lanes }
+    {
+        if self.lanes.wants_payload() {
+            self.put_row();
+        } else {
+            self.frame();
+        }
+    }
+
+    // Makes words until so many bytes of a lane wait, as far as that goes.
+    fn fill(&mut self, lane: u32, count: usize)
+        ensures makes { MakesWords self.old self.new }
+        ensures rests { length (waiting_on lane self.new.lanes) < count → Rests self.new }
+    {
+        while self.lanes.waiting(lane) < count {
+            if self.rests() {
+                return;
+            }
+            self.step();
+        }
+    }
+
+    // Ends the lanes where the stream is whole at the end of a metaframe, and each ring has room.
+    fn close(&mut self)
+        ensures makes { MakesWords self.old self.new }
+        ensures still { Rests self.old → IsStill self.new }
+        ensures kept { (lane : ℕ) → length (waiting_on lane self.old.lanes) ≤ length (waiting_on lane self.new.lanes) }
+    {
+        let whole = self.is_whole();
+        let room = self.lanes.has_room();
+        if !self.lanes.has_ended() && self.lanes.is_whole() && whole && room {
+            self.lanes.finish();
+        }
+    }
+
+    /// Takes the next bytes of a lane, and returns how many: words are made until as many wait as there is room for, or a ring has no
+    /// room, or the lanes have ended. A lane that is not there gives none.
+    pub fn take(&mut self, lane: u32, out: &mut [u8]) -> usize
+        ensures { IsTake self.old self.new lane out.old out.new result }
+    {
+        self.fill(lane, out.len());
+        self.close();
+        self.lanes.take(lane, out)
+    }
+}
