@@ -117,7 +117,7 @@ not_closed (Some c) rest e = absurd (cc)
 
 -- a packet that is not refused comes before the stream is closed
 not_refused : (g : Given) (channel : ℕ) (bytes : List ℕ) → refusal_of g channel bytes ≡ None → g.closed ≡ None
-not_refused g channel bytes e = not_closed g.closed (if not (is_among g.channels channel) then Some refused.UnknownChannel else if nat_lt (length bytes) 1 then Some refused.Empty else if nat_lt longest_packet (length bytes) then Some refused.TooLong else None) e
+not_refused g channel bytes e = not_closed g.closed _ e
 
 pub packet_is : (sch now : LiveScheduler) (lanes : Lanes) (row : List Word) (channel : ℕ) (bytes : List ℕ) (r : Result (Unit {0}) Refused) →
     OnOk r ((g : Given) (w : List Word) → Gives sch g w → Gives now (packet_added g w channel bytes) w) → OnErr r ((g : Given) (w : List Word) → Gives sch g w → Gives now g w) →

@@ -1,8 +1,9 @@
 -- What the calls on a live transmitter do.
-use Rattle.std.specs.Prelude.{ℕ, ◌≡◌, ◌⊎◌, ◌+◌, ◌<◌, Bool, true, false, List, ◌++◌, length, min, take, drop, Some, None, is_some, Result, Ok, Err}
+use Rattle.std.specs.Prelude.{ℕ, ◌≡◌, ◌⊎◌, ◌+◌, ◌<◌, Bool, true, false, List, ◌++◌, length, min, take, drop, Contains, MatchOption, Option, Some, None, is_some, Result, Ok, Err}
 use Rattle.lk_base.specs.declared.word.Word.{Word}
 use Rattle.live_stream.specs.LiveStream.{Given, IsWholeLiveStream}
-use Rattle.live_stream.specs.Gives.{most_words, refusal_of}
+use Rattle.live_stream.specs.Gives.{AreCountsOf, most_words, refusal_of}
+use Rattle.live_stream.specs.declared.counts.Counts.{Counts}
 use Rattle.live_stream.specs.declared.refused.Closed.{Closed}
 use Rattle.live_stream.specs.declared.refused.Refused.{Refused}
 use Rattle.live_stream.specs.declared.refused.Refused.TheVariants as refused
@@ -31,6 +32,17 @@ IsLocal t u channel on result = IsRow (with_local channel on) t u result
 
 abbrev pub IsClose : State → State → Type 0
 IsClose t u = (x : Sent) → Sends t x → Sends u (with_close x)
+
+-- ---- what is told
+
+-- the counts of a listed channel: what was given to it, and what its bursts carry whose words were made; of another channel none
+abbrev pub AreCounted : State → ℕ → Option Counts → Type 0
+AreCounted t channel result =
+    (x : Sent) → Sends t x → MatchOption result (Contains x.given.channels channel → ⊥) (λ counts. Contains x.given.channels channel × AreCountsOf counts x.given x.words channel)
+
+-- so many payload words were made: what is given counts from the word of this number on
+abbrev pub AreMade : State → ℕ → Type 0
+AreMade t n = (x : Sent) → Sends t x → n ≡ length x.words
 
 -- ---- what is made
 

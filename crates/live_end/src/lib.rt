@@ -5,5 +5,5 @@ pub mod laws;
 mod row;
 mod transmitter;
 
-pub use live_stream::{Closed, Refused};
+pub use live_stream::{Closed, Counts, Refused};
 pub use transmitter::LiveTransmitter;

@@ -5,12 +5,12 @@ ghost use Rattle.live_stream.specs.LiveStream.{IsWholeLiveStream};
 ghost use Rattle.live_stream.specs.Gives.{most_words};
 ghost use Rattle.live_lanes.specs.Lanes.{AreLonger, has_room, waiting_on, wants_payload};
 ghost use Rattle.tx_end.specs.Whole.{IsShapeOf};
-ghost use Rattle.live_end.specs.Calls.{IsClose, IsFilled, IsFlow, IsLocal, IsPacket, IsStill, IsTake, MakesWords, Rests};
+ghost use Rattle.live_end.specs.Calls.{AreCounted, AreMade, IsClose, IsFilled, IsFlow, IsLocal, IsPacket, IsStill, IsTake, MakesWords, Rests};
 ghost use Rattle.live_end.specs.Sending.{IsOver, Sends, Sent, nothing_sent, with_columns};
 
 use crate::row::next_row;
 use live_lanes::LiveLanes;
-use live_stream::{Closed, LiveScheduler, MOST_WORDS, Refused};
+use live_stream::{Closed, Counts, LiveScheduler, MOST_WORDS, Refused};
 use lk_base::{Link, OutOfMemory, Shape, Word};
 use std::alloc::Global;
 use std::marker::Model;
@@ -77,8 +77,8 @@ impl LiveTransmitter {
     ///
     /// # Errors
     ///
-    /// In this order: it was closed, the channel is not listed, the packet has no bytes or more than `LONGEST_PACKET`, memory ran out.
-    /// Nothing has changed then.
+    /// In this order: it was closed, the channel is not listed, the packet has no bytes or more than `LONGEST_PACKET`, the channel would be
+    /// given more than `MOST_BYTES`, memory ran out. Nothing has changed then.
     pub fn packet(&mut self, channel: u16, bytes: &[u8]) -> Result<(), Refused>
         ensures { IsPacket self.old self.new channel bytes.now result }
     {
@@ -113,6 +113,21 @@ impl LiveTransmitter {
         ensures { IsClose self.old self.new }
     {
         self.scheduler.finish();
+    }
+
+    /// What was given to a channel and what was sent of it, or `None` where the channel is not listed. A burst is sent once its burst
+    /// word was made.
+    pub fn counts(&self, channel: u16) -> Option<Counts>
+        ensures { AreCounted self.now channel result }
+    {
+        self.scheduler.counts(channel)
+    }
+
+    /// How many payload words were made: the number of the next one, from which on counts what is given now.
+    pub fn slots(&self) -> u64
+        ensures { AreMade self.now result }
+    {
+        self.scheduler.slot()
     }
 
     // Makes the next word of each lane, a payload word.

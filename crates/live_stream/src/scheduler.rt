@@ -317,7 +317,7 @@ impl LiveScheduler {
     /// What was given to a channel and what was sent of it, or `None` where the channel is not listed.
     pub fn counts(&self, channel: u16) -> Option<Counts>
         requires { (g : Given) × (w : List Word) × Gives self.now g w }
-        ensures { (g : Given) (w : List Word) → Gives self.now g w → MatchOption result (Contains g.channels channel → ⊥) (λ counts. AreCountsOf counts g w channel) }
+        ensures { (g : Given) (w : List Word) → Gives self.now g w → MatchOption result (Contains g.channels channel → ⊥) (λ counts. Contains g.channels channel × AreCountsOf counts g w channel) }
     {
         let at = place(&self.turns, channel);
         if at < self.turns.len() {
