@@ -20,9 +20,9 @@ include=$folder/library/include
 strict=(-Wall -Wextra -Werror -pedantic -O1 "-I$include")
 
 holds 'calls of the header and of the archive' "$(grep -o '^uint32_t interlaken_[a-z_]*' "$include/interlaken.h" | cut -d ' ' -f 2 | sort)" \
-  "$(nm -g --defined-only "$archive" 2>/dev/null | grep -oE '\binterlaken_(receiver|damage)_[a-z_]*$' | sort -u)"
+  "$(nm -g --defined-only "$archive" 2>/dev/null | grep -oE '\binterlaken_(receiver|transmitter|damage)_[a-z_]*$' | sort -u)"
 holds 'calls of the shared library' "$(nm -D --defined-only library/lib/libinterlaken.so | awk '$2 == "T" { sub(/@.*/, "", $3); print $3 }' | sort)" \
-  "$(nm -g --defined-only "$archive" 2>/dev/null | grep -oE '\binterlaken_(receiver|damage)_[a-z_]*$' | sort -u)"
+  "$(nm -g --defined-only "$archive" 2>/dev/null | grep -oE '\binterlaken_(receiver|transmitter|damage)_[a-z_]*$' | sort -u)"
 
 # The keys after `out` are of other files, and no plan of lanes lacks one.
 numbers=$(grep -oE '\bINTERLAKEN_[A-Z_]+ = [0-9]+' "$include/interlaken.h" | sed 's/^INTERLAKEN_//; s/ = / /' | LC_ALL=C sort)
@@ -167,6 +167,57 @@ with i.Damage(2, "library/lib/libinterlaken.so") as damage:
         except i.Misuse as misuse:
             print(misuse)
 ' "$top/examples/python" 2>&1)" $'True False True\nTrue False True\nPASSED\nPASSED\nOUT_OF_RANGE\nOUT_OF_RANGE\nNO_LANE\nNO_LANE\nOUT_OF_RANGE\nNO_DAMAGE'
+  # Two ends, each with a transmitter and a receiver: the far end turns channel 1 off, and on again.
+  holds 'flow control between two ends in Python' "$(python3 -B -c '
+import sys
+sys.path.insert(0, sys.argv[1])
+import interlaken as i
+plan, library = open("damaged.plan", "rb").read(), "library/lib/libinterlaken.so"
+packets = [(1 + n % 2, bytes([n]) * (100 + n)) for n in range(20)]
+came = []
+with i.Transmitter(plan, library) as near, i.Transmitter(plan, library) as far, i.Receiver(plan, library) as at_near, i.Receiver(plan, library) as at_far:
+    def go_on():
+        for _ in range(200):
+            for lane in (0, 1):
+                at_far.feed(lane, near.take(lane, 64))
+                at_near.feed(lane, far.take(lane, 64))
+            for event in at_near.events():
+                if isinstance(event, (i.Flow, i.Span)):
+                    near.flow(event.word if isinstance(event, i.Flow) else 0)
+            came.extend(event for event in at_far.events() if isinstance(event, i.Packet))
+        print(near.slots() == far.slots(), len(came))
+    far.local(1, False)
+    go_on()
+    for channel, data in packets:
+        near.packet(channel, data)
+    go_on()
+    print(near.sent(1))
+    print(near.sent(2))
+    far.local(1, True)
+    go_on()
+    print(near.sent(1).bytes_sent, all([event.data for event in came if event.channel == c] == [data for channel, data in packets if channel == c] for c in (1, 2)))
+    near.finish()
+    print([len(data) for data in near.take_all(2)].count(0), near.take(0, 9))
+    for wrong in (lambda: near.packet(1, b"a"), lambda: near.flow(0), lambda: near.local(1, True), lambda: far.packet(3, b"a"), lambda: far.packet(1, b""),
+                  lambda: far.packet(2, bytes(262145)), lambda: far.take(2, 1), lambda: far.take(-1, 1), lambda: far.sent(3), far.close, lambda: far.slots(),
+                  lambda: far.sent(1), far.finish, lambda: near.take(0, -1), lambda: near.packet(65536, b"a"), lambda: near.flow(1 << 64),
+                  lambda: i.Transmitter(b"lanes,0", library)):
+        try:
+            wrong()
+        except (i.Misuse, i.BadPlan, ValueError) as error:
+            print(error)
+' "$top/examples/python" 2>&1)" "True 0
+True 10
+Counts(packets_given=10, packets_sent=0, bytes_given=1090, bytes_sent=0)
+Counts(packets_given=10, packets_sent=10, bytes_given=1100, bytes_sent=1100)
+True 20
+1090 True
+0 b''
+$(printf '%s\n' FINISHED FINISHED FINISHED NO_CHANNEL BAD_LENGTH BAD_LENGTH NO_LANE NO_LANE NO_CHANNEL NO_TRANSMITTER NO_TRANSMITTER NO_TRANSMITTER)
+no count: -1
+no channel number: 65536
+no word: 18446744073709551616
+row 1: RANGE"
   holds 'examples/python' "$(python3 -B "$top/examples/python/packets.py" library/lib/libinterlaken.so damaged.plan damaged.lane.0 damaged.lane.1 2>&1)" "$printed"
 fi
 ends

@@ -1,5 +1,6 @@
-/* The receiving end of an Interlaken link, for C and C++: bytes of lanes in, packets, fault spans and control words out; and damage of
- * lanes on their way, so that a bench can injure a lane while it runs.
+/* Both ends of an Interlaken link, for C and C++. A receiver: bytes of lanes in, packets, fault spans and control words out. A
+ * transmitter: packets and rows of flow control in, at any time, bytes of lanes out. And damage of lanes on their way, so that a bench can
+ * injure a lane while it runs.
  *
  * A call returns one of `enum interlaken_result`, and is defined for every value of its numbers and every content of its bytes, as
  * long as
@@ -9,9 +10,10 @@
  *   copied of only one is used from then on;
  * - a handle is used by one call at a time: where threads share it, one call has returned before the next begins, as by a mutex.
  * Misuse of any other kind has a result, and leaves what the handle has as it was. Where several results apply it is the first of
- * NO_RECEIVER or NO_DAMAGE, IN_USE, NO_LANE, FINISHED, TOO_MANY, OUT_OF_RANGE, PASSED, OUT_OF_MEMORY. What a call only writes need not be
- * initialised before, and is written whatever the result is. After `interlaken_receiver_new` no call on a receiver takes memory; of those
- * on damage `new`, `flip` and `dark` do.
+ * NO_RECEIVER or NO_DAMAGE or NO_TRANSMITTER, IN_USE, NO_LANE, FINISHED, NO_CHANNEL, BAD_LENGTH, TOO_MANY, OUT_OF_RANGE, PASSED,
+ * OUT_OF_MEMORY. What a call only writes need not be initialised before, and is written whatever the result is. After
+ * `interlaken_receiver_new` no call on a receiver takes memory; of those on damage `new`, `flip` and `dark` do, and of those on a
+ * transmitter `new` and `packet`.
  *
  * Memory comes from the three functions of interlaken_alloc.h. The libraries that tools/library makes have them over malloc, realloc
  * and free. */
@@ -26,22 +28,25 @@ extern "C" {
 #endif
 
 /* The version of these calls. The shared library has the first number in its name. */
-#define INTERLAKEN_VERSION "1.3.0"
+#define INTERLAKEN_VERSION "1.4.0"
 
 /* The results of calls. */
 enum interlaken_result {
   INTERLAKEN_DONE = 0,          /* the call did what it was asked */
-  INTERLAKEN_OUT_OF_MEMORY = 1, /* memory ran out: there is no receiver, no damage, or no row more */
-  INTERLAKEN_BAD_PLAN = 2,      /* the plan is refused: there is no receiver */
+  INTERLAKEN_OUT_OF_MEMORY = 1, /* memory ran out: there is no receiver, no transmitter, no damage, no row more, or no packet more */
+  INTERLAKEN_BAD_PLAN = 2,      /* the plan is refused: there is no receiver, or no transmitter */
   INTERLAKEN_NO_LANE = 3,       /* there is no such lane */
-  INTERLAKEN_FINISHED = 4,      /* the lane was finished before */
-  INTERLAKEN_TOO_MANY = 5,      /* the lane has 2^40 bytes or more, or the piece has */
+  INTERLAKEN_FINISHED = 4,      /* the lane, or the transmitter, was finished before */
+  INTERLAKEN_TOO_MANY = 5,      /* the lane has 2^40 bytes or more, or the piece has; or the channel would be given more than 2^60 */
   INTERLAKEN_NO_PACKET = 6,     /* the last event was no packet */
   INTERLAKEN_NO_RECEIVER = 7,   /* the handle has no receiver: it is all zeros, or its receiver was freed */
-  INTERLAKEN_IN_USE = 8,        /* the handle has a receiver, or damage, already, and keeps it */
+  INTERLAKEN_IN_USE = 8,        /* the handle has a receiver, a transmitter, or damage, already, and keeps it */
   INTERLAKEN_NO_DAMAGE = 9,     /* the handle has no damage: it is all zeros, or its damage was freed */
   INTERLAKEN_OUT_OF_RANGE = 10, /* there is no such number of lanes, or a lane has no such bit */
-  INTERLAKEN_PASSED = 11        /* all bits that are named have passed: nothing happens to them any more */
+  INTERLAKEN_PASSED = 11,       /* all bits that are named have passed: nothing happens to them any more */
+  INTERLAKEN_NO_TRANSMITTER = 12, /* the handle has no transmitter: it is all zeros, or its transmitter was freed */
+  INTERLAKEN_NO_CHANNEL = 13,   /* the plan does not list the channel */
+  INTERLAKEN_BAD_LENGTH = 14    /* the packet has no bytes, or more than 262,144 */
 };
 
 /* A handle of a receiver, or of none. All zeros is a handle of none, as in `interlaken_receiver r = {0};`. Both members are the
@@ -50,6 +55,21 @@ typedef struct interlaken_receiver {
   void *at;
   uint8_t live;
 } interlaken_receiver;
+
+/* A handle of a transmitter, or of none. All zeros is a handle of none. Both members are the library's own. */
+typedef struct interlaken_transmitter {
+  void *at;
+  uint8_t live;
+} interlaken_transmitter;
+
+/* What a transmitter was given on a channel, and what it sent of it. A burst is sent once its burst word was made: then all its bytes
+ * count, and its packet where it is the last burst of one. Both differences are what is left. */
+typedef struct interlaken_counts {
+  uint64_t packets_given;
+  uint64_t packets_sent;
+  uint64_t bytes_given; /* 2^60 at most */
+  uint64_t bytes_sent;
+} interlaken_counts;
 
 /* A handle of the damage of lanes, or of none. All zeros is a handle of none. Both members are the library's own. */
 typedef struct interlaken_damage {
@@ -200,6 +220,64 @@ uint32_t interlaken_receiver_lane_state(interlaken_receiver *receiver, uint32_t 
  * missing, no word counts up to the next with Reset Calendar.
  * Results: DONE, NO_RECEIVER; `on` is 0 where it is not DONE. */
 uint32_t interlaken_receiver_is_on(interlaken_receiver *receiver, uint16_t channel, uint32_t *on);
+
+/* A transmitter of the lanes of a link. Packets and rows of flow control may come at any time; the words of the link are made one by one,
+ * as bytes of its lanes are asked for, so that what comes counts from the next word on, and not from the next metaframe on. The lanes are
+ * in step: each word that one makes all make, and of each up to 4,096 bytes wait until they are taken. So all lanes are to be taken in
+ * turn: one that is not holds back the others. A word on each lane comes to 8.375 bytes of each. As long as no packet waits, or none may
+ * be sent, idles are made: the lanes go on until `finish`. */
+
+/* Opens a transmitter of the plan of these bytes (the text of a plan file, of any length) behind a handle that has none. The plan is not
+ * kept: its bytes are the caller's. Its rows are all read, and refused where they are wrong, but no file that they name is opened, and
+ * packets, flow and local rows come by calls alone. It sends on the lanes, channels and calendar of the plan. No word is made yet, and
+ * all channels are on. `refusal` has the cause INTERLAKEN_NO_CAUSE where the plan is not refused.
+ * Results: DONE, OUT_OF_MEMORY, BAD_PLAN, IN_USE. */
+uint32_t interlaken_transmitter_new(interlaken_transmitter *transmitter, const uint8_t *plan, size_t count, interlaken_refusal *refusal);
+
+/* Frees a transmitter with all its memory; what it has not sent is lost. Its handle is one of none afterwards.
+ * Results: DONE, NO_TRANSMITTER. */
+uint32_t interlaken_transmitter_free(interlaken_transmitter *transmitter);
+
+/* Gives a packet of 1 to 262,144 bytes to be sent on a channel that the plan lists, after those that were given on this channel before. Its
+ * bytes are copied: they are the caller's. It may begin with the next word that is made.
+ * Results: DONE, OUT_OF_MEMORY, FINISHED, TOO_MANY, NO_TRANSMITTER, NO_CHANNEL, BAD_LENGTH; the packet is not taken where it is not
+ * DONE. */
+uint32_t interlaken_transmitter_packet(interlaken_transmitter *transmitter, uint16_t channel, const uint8_t *bytes, size_t count);
+
+/* Gives a control word of the far end that the caller has verified, as INTERLAKEN_FLOW has it: its checksum covers the data before it,
+ * and is not looked at. What it tells of the far end's channels by the plan's calendar counts from the next word on that is made: on a
+ * channel that is off no burst begins. After a fault span, in which words may be missing, give a word that is no control word, as 0: it
+ * tells nothing, and after it no word counts up to the next with Reset Calendar. All channels are on, and no word counts, until one with
+ * Reset Calendar. A channel stays as the last entry for it has it.
+ * Results: DONE, FINISHED, NO_TRANSMITTER. */
+uint32_t interlaken_transmitter_flow(interlaken_transmitter *transmitter, uint64_t word);
+
+/* Says whether the far end may send on a channel: it may where `on` is not 0. The control words tell it by the plan's calendar, from the next
+ * one on that is made. A channel is on until it is said that it is off; of one that has no entry nothing is told.
+ * Results: DONE, FINISHED, NO_TRANSMITTER. */
+uint32_t interlaken_transmitter_local(interlaken_transmitter *transmitter, uint16_t channel, uint32_t on);
+
+/* Takes the next bytes of a lane, counted from 0, first bit first: `taken` is how many. While fewer wait than `count`, the next word of each
+ * lane is made, as long as those that wait of each lane leave room for its bytes. So it gives fewer than `count` where another lane
+ * has too many bytes that were not taken, or after the last byte of a transmitter that was finished: of a lane whose bytes wait it gives some.
+ * The bytes of `bytes` after these stay as they are.
+ * Results: DONE, NO_LANE, NO_TRANSMITTER; `taken` is 0 where it is not DONE. */
+uint32_t interlaken_transmitter_take(interlaken_transmitter *transmitter, uint32_t lane, uint8_t *bytes, size_t count, size_t *taken);
+
+/* No further packet and no further row comes. What was given is sent, as far as the channels are on, and the lanes end a few metaframes
+ * after: `take` gives 0 from then on. It may be called again, and changes nothing then.
+ * Results: DONE, NO_TRANSMITTER. */
+uint32_t interlaken_transmitter_finish(interlaken_transmitter *transmitter);
+
+/* Says what was given on a channel so far, and what was sent of it: what is left is the difference. Words are made ahead of what is taken
+ * of a lane, by 4,096 bytes of it at most.
+ * Results: DONE, NO_TRANSMITTER, NO_CHANNEL; all of `counts` is 0 where it is not DONE. */
+uint32_t interlaken_transmitter_sent(interlaken_transmitter *transmitter, uint16_t channel, interlaken_counts *counts);
+
+/* Says how many payload words were made so far, those of all lanes: the number of the next one, counted from 0. What is given now counts
+ * from this one on.
+ * Results: DONE, NO_TRANSMITTER; `slots` is 0 where it is not DONE. */
+uint32_t interlaken_transmitter_slots(interlaken_transmitter *transmitter, uint64_t *slots);
 
 /* Damage of lanes on their way. The bytes of each lane pass through `apply`, piece by piece, in pieces of any length; what comes out is
  * fed to a receiver, or to a device. Bits of a lane are counted from 0, the highest bit of its first byte, over all its pieces, as in the

@@ -392,6 +392,265 @@ static void damage_sequence(void) {
   want("nothing of damage leaks", live == 0);
 }
 
+/* ---- a transmitter */
+
+#define GIVEN 30
+#define SENT_BYTES 300
+#define TAKEN_BYTES 400000
+#define TOO_LONG 262145
+#define TOLD 300
+#define GROUP (2 * 28) /* slots of a group: 32 words of each lane, less 4 */
+#define GROUP_BITS (32 * 67)
+
+/* What `sent` said when so many words were made. */
+struct told {
+  uint64_t slot;
+  uint32_t channel;
+  interlaken_counts counts;
+};
+
+/* A handle of a transmitter, the packets that it took, the words that it was told by the far end, and the bytes that were taken of its
+ * lanes. */
+struct sender {
+  interlaken_transmitter transmitter;
+  int has, finished;
+  uint32_t given, channel[GIVEN], length[GIVEN];
+  uint8_t bytes[GIVEN][SENT_BYTES], lane[2][TAKEN_BYTES];
+  size_t taken[2];
+  int off[3]; /* channels 1 and 2, the entries of the calendar */
+  uint32_t turns, counted;
+  uint64_t turned_at[TOLD];
+  int turned[TOLD][3];
+  struct told told[TOLD];
+  uint64_t slots;
+};
+
+static uint32_t sender_result(const struct sender *k) {
+  if (!k->has) return INTERLAKEN_NO_TRANSMITTER;
+  return k->finished ? INTERLAKEN_FINISHED : INTERLAKEN_DONE;
+}
+
+static uint64_t slots_of(struct sender *k) {
+  uint64_t slots = 99;
+  want("slots", interlaken_transmitter_slots(&k->transmitter, &slots) == (uint32_t)(k->has ? INTERLAKEN_DONE : INTERLAKEN_NO_TRANSMITTER));
+  want("no slots", k->has || slots == 0);
+  want("words are not unmade", !k->has || slots >= k->slots);
+  if (k->has) k->slots = slots;
+  return slots;
+}
+
+static void try_sender_new(struct sender *k) {
+  interlaken_refusal refusal;
+  int bad = below(4) == 0, fails = may_fail();
+  uint32_t wanted = k->has ? INTERLAKEN_IN_USE : bad ? INTERLAKEN_BAD_PLAN : INTERLAKEN_DONE, result;
+  result = interlaken_transmitter_new(&k->transmitter, bad ? (const uint8_t *)"lanes,x\n" : plan.at, bad ? 8 : plan.count, &refusal);
+  failing = -1;
+  want("transmitter new", result == wanted || (fails && !k->has && result == INTERLAKEN_OUT_OF_MEMORY));
+  want("transmitter refusal", (refusal.cause != 0) == (result == INTERLAKEN_BAD_PLAN));
+  if (result == INTERLAKEN_DONE) {
+    k->has = 1, k->finished = 0, k->given = 0, k->taken[0] = k->taken[1] = 0, k->off[1] = k->off[2] = 0;
+    k->turns = k->counted = 0, k->slots = 0;
+    want("no word is made yet", slots_of(k) == 0);
+  }
+  want("transmitter is live", (k->transmitter.live != 0) == (k->has != 0));
+}
+
+static void try_packet(struct sender *k) {
+  static const uint16_t few[] = {1, 2, 1, 2, 1, 2, 0, 3, 258, 0xffff};
+  static uint8_t zeros[TOO_LONG];
+  uint32_t wanted = sender_result(k), length = below(SENT_BYTES), n, result;
+  uint16_t channel = few[below(10)];
+  int is_long = below(20) == 0, fails;
+  uint8_t *bytes = is_long ? zeros : k->bytes[k->given % GIVEN];
+  if (k->given == GIVEN) return;
+  for (n = 0; n < length && !is_long; n++) bytes[n] = (uint8_t)below(256);
+  if (is_long) length = TOO_LONG;
+  if (wanted == INTERLAKEN_DONE && channel != 1 && channel != 2) wanted = INTERLAKEN_NO_CHANNEL;
+  if (wanted == INTERLAKEN_DONE && (length == 0 || is_long)) wanted = INTERLAKEN_BAD_LENGTH;
+  fails = may_fail();
+  result = interlaken_transmitter_packet(&k->transmitter, channel, bytes, length);
+  want("packet", result == settled(result, wanted, fails));
+  if (result == INTERLAKEN_DONE) k->channel[k->given] = channel, k->length[k->given] = length, k->given++;
+}
+
+/* The word's checksum is not looked at. One without Reset Calendar goes on after the two entries, so it tells of none. */
+static void try_flow(struct sender *k) {
+  uint64_t word = (uint64_t)below(0xffff) << 48 | (uint64_t)below(0xffff) << 32 | below(0xffff) << 8 | below(256);
+  uint32_t format, channel;
+  if (below(4) > 0) word |= (uint64_t)1 << 63 | (uint64_t)1 << 60;
+  if (below(3) > 0) word |= (uint64_t)3 << 54;
+  if (below(8) == 0) word = 0;
+  if (k->turns == TOLD) return;
+  want("flow", interlaken_transmitter_flow(&k->transmitter, word) == sender_result(k));
+  format = (uint32_t)(word >> 57) & 15;
+  if (sender_result(k) != INTERLAKEN_DONE || !(word >> 63) || (format > 1 && format < 8) || !(word >> 56 & 1)) return;
+  for (channel = 1; channel <= 2; channel++) k->off[channel] = !(word >> (56 - channel) & 1);
+  memcpy(k->turned[k->turns], k->off, sizeof k->off);
+  k->turned_at[k->turns++] = slots_of(k);
+}
+
+static void try_local(struct sender *k) {
+  want("local", interlaken_transmitter_local(&k->transmitter, (uint16_t)below(4), below(3)) == sender_result(k));
+}
+
+static void try_sent(struct sender *k) {
+  interlaken_counts counts;
+  uint16_t channel = (uint16_t)(below(10) == 0 ? 0xffff : below(4));
+  int listed = channel == 1 || channel == 2;
+  uint32_t wanted = !k->has ? INTERLAKEN_NO_TRANSMITTER : listed ? INTERLAKEN_DONE : INTERLAKEN_NO_CHANNEL, n;
+  uint64_t packets = 0, bytes = 0;
+  memset(&counts, 0xa5, sizeof counts);
+  want("sent", interlaken_transmitter_sent(&k->transmitter, channel, &counts) == wanted);
+  for (n = 0; n < k->given && wanted == INTERLAKEN_DONE; n++)
+    if (k->channel[n] == channel) packets++, bytes += k->length[n];
+  want("packets and bytes given", counts.packets_given == packets && counts.bytes_given == bytes);
+  want("no more is sent than given", counts.packets_sent <= packets && counts.bytes_sent <= bytes);
+  want("all bytes with all packets", (counts.packets_sent == packets) == (counts.bytes_sent == bytes));
+  if (wanted != INTERLAKEN_DONE || k->counted == TOLD) return;
+  k->told[k->counted].slot = slots_of(k), k->told[k->counted].channel = channel, k->told[k->counted++].counts = counts;
+}
+
+static size_t try_take(struct sender *k, uint32_t lane, size_t count) {
+  uint32_t from = lane < 2 ? lane : 0, result;
+  uint32_t wanted = !k->has ? INTERLAKEN_NO_TRANSMITTER : lane >= 2 ? INTERLAKEN_NO_LANE : INTERLAKEN_DONE;
+  size_t taken = 99;
+  if (count > TAKEN_BYTES - k->taken[from]) count = TAKEN_BYTES - k->taken[from];
+  result = interlaken_transmitter_take(&k->transmitter, lane, k->lane[from] + k->taken[from], count, &taken);
+  want("take", result == wanted);
+  want("taken of a lane", result == INTERLAKEN_DONE ? taken <= count && taken <= 4096 : taken == 0);
+  if (result == INTERLAKEN_DONE && !k->finished && count <= 2000 && k->taken[lane] <= k->taken[1 - lane]) want("all that is asked of the lane behind", taken == count);
+  if (result == INTERLAKEN_DONE) k->taken[lane] += taken;
+  return result == INTERLAKEN_DONE ? taken : 0;
+}
+
+/* ---- what a receiver makes of its lanes */
+
+#define BURSTS 4000
+
+/* The burst words, and the packets by the slot of the last burst word of each. */
+struct decoded {
+  uint32_t bursts, packets, channel[BURSTS], packet_channel[GIVEN];
+  uint64_t slot[BURSTS], packet_slot[GIVEN];
+};
+
+static uint64_t slot_of(interlaken_place place) { return place.group / GROUP_BITS * GROUP + place.index; }
+
+static int is_off(const struct sender *k, uint32_t channel, uint64_t slot) {
+  uint32_t n = k->turns;
+  while (n > 0 && k->turned_at[n - 1] > slot) n--;
+  return n > 0 && k->turned[n - 1][channel];
+}
+
+/* On a channel that was turned off before this word none begins. */
+static void see_word(const struct sender *k, struct decoded *d, const interlaken_event *event) {
+  uint32_t channel = (uint32_t)(event->word >> 32) & 255;
+  uint64_t slot = slot_of(event->first);
+  if (!(event->word >> 62 & 1)) return;
+  want("a burst on a listed channel", channel == 1 || channel == 2);
+  want("no burst on a channel that is off", !is_off(k, channel, slot));
+  if (d->bursts < BURSTS) d->channel[d->bursts] = channel, d->slot[d->bursts++] = slot;
+}
+
+/* It is the next one that was given on its channel. */
+static void see_packet(const struct sender *k, struct decoded *d, interlaken_receiver *receiver, const interlaken_event *event) {
+  uint32_t n, passed = 0, before;
+  uint8_t bytes[SENT_BYTES];
+  size_t copied;
+  for (n = 0; n < d->packets; n++) passed += d->packet_channel[n] == event->channel;
+  for (n = 0; n < k->given && (k->channel[n] != event->channel || passed-- > 0); n++) {}
+  interlaken_receiver_read(receiver, 0, bytes, sizeof bytes, &copied);
+  want("delivered", n < k->given && event->length == k->length[n] && memcmp(bytes, k->bytes[n], copied) == 0);
+  for (before = d->bursts; before > 0 && d->slot[before - 1] >= slot_of(event->last); before--) {}
+  want("its last burst", before > 0 && d->channel[before - 1] == event->channel);
+  if (d->packets == GIVEN || before == 0) return;
+  d->packet_slot[d->packets] = d->slot[before - 1], d->packet_channel[d->packets++] = event->channel;
+}
+
+static void decode(struct sender *k, struct decoded *d) {
+  interlaken_receiver receiver = {0, 0};
+  interlaken_refusal refusal;
+  interlaken_event event;
+  size_t fed[2] = {0, 0}, taken;
+  uint32_t lane;
+  want("receiver", interlaken_receiver_new(&receiver, plan.at, plan.count, &refusal) == INTERLAKEN_DONE);
+  do {
+    for (lane = 0; lane < 2; lane++) {
+      if (fed[lane] > k->taken[lane]) continue;
+      interlaken_receiver_feed(&receiver, lane, k->lane[lane] + fed[lane], k->taken[lane] - fed[lane], &taken);
+      fed[lane] += taken;
+      if (fed[lane] == k->taken[lane]) interlaken_receiver_finish(&receiver, lane), fed[lane]++;
+    }
+    while (interlaken_receiver_next(&receiver, &event) == INTERLAKEN_DONE && event.kind != INTERLAKEN_NONE && event.kind != INTERLAKEN_ENDED) {
+      want("only a packet of a channel that stays off is cut", event.kind != INTERLAKEN_DROPPED || (event.why == INTERLAKEN_DROP_END && k->off[event.channel % 3]));
+      if (event.kind == INTERLAKEN_FLOW) see_word(k, d, &event);
+      if (event.kind == INTERLAKEN_PACKET) see_packet(k, d, &receiver, &event);
+    }
+  } while (event.kind != INTERLAKEN_ENDED);
+  interlaken_receiver_free(&receiver);
+}
+
+/* The packets that a receiver of its lanes gives are those that it took, of each channel in their order: all where the channel is on at the
+ * end. What `sent` said is so by the words that were made then. */
+static void try_delivery(struct sender *k) {
+  static struct decoded decoded;
+  interlaken_counts counts;
+  uint32_t n, packets, came;
+  uint16_t channel;
+  while (try_take(k, 0, 3000) + try_take(k, 1, 3000) > 0) {}
+  want("it ends", k->taken[0] == k->taken[1] && k->taken[0] < TAKEN_BYTES);
+  want("all words are on the lanes", slots_of(k) == 8 * (uint64_t)k->taken[0] / GROUP_BITS * GROUP);
+  memset(&decoded, 0, sizeof decoded);
+  decode(k, &decoded);
+  for (channel = 1; channel <= 2; channel++) {
+    for (came = n = 0; n < decoded.packets; n++) came += decoded.packet_channel[n] == channel;
+    want("counts at the end", interlaken_transmitter_sent(&k->transmitter, channel, &counts) == INTERLAKEN_DONE && counts.packets_sent == came);
+    want("all are delivered", k->off[channel] || (came == counts.packets_given && counts.bytes_sent == counts.bytes_given));
+  }
+  for (n = 0; n < k->counted; n++) {
+    for (came = packets = 0; packets < decoded.packets; packets++)
+      came += decoded.packet_channel[packets] == k->told[n].channel && decoded.packet_slot[packets] < k->told[n].slot;
+    want("packets sent by then", k->told[n].counts.packets_sent == came);
+  }
+}
+
+static void try_sender_free(struct sender *k) {
+  want("transmitter free", interlaken_transmitter_free(&k->transmitter) == (uint32_t)(k->has ? INTERLAKEN_DONE : INTERLAKEN_NO_TRANSMITTER));
+  want("transmitter freed", k->transmitter.live == 0);
+  k->has = 0;
+}
+
+static void try_sender_finish(struct sender *k) {
+  want("transmitter finish", interlaken_transmitter_finish(&k->transmitter) == (uint32_t)(k->has ? INTERLAKEN_DONE : INTERLAKEN_NO_TRANSMITTER));
+  k->finished = k->has;
+}
+
+static void sender_sequence(void) {
+  static struct sender one;
+  uint32_t calls = 20 + below(200);
+  while (calls-- > 0) {
+    long before = allocations;
+    int takes_memory = 0;
+    switch (below(40)) {
+      case 0: case 1: try_sender_new(&one), takes_memory = 1; break;
+      case 2: if (below(8) == 0) try_sender_free(&one); break;
+      case 3: if (below(8) == 0) try_sender_finish(&one); break;
+      case 4: case 5: case 6: try_flow(&one); break;
+      case 7: try_local(&one); break;
+      case 8: case 9: case 10: try_sent(&one); break;
+      case 11: slots_of(&one); break;
+      case 12: case 13: case 14: case 15: case 16: case 17: case 18: try_packet(&one), takes_memory = 1; break;
+      default: try_take(&one, some_lane(), below(below(3) == 0 ? 5000 : 300)); break;
+    }
+    want("no allocation but of new and packet", takes_memory || allocations == before);
+  }
+  if (one.has) {
+    try_sender_finish(&one);
+    try_delivery(&one);
+  }
+  try_sender_free(&one);
+  want("nothing of a transmitter leaks", live == 0);
+}
+
 int main(int argc, char **argv) {
   long left;
   void *many = mmap(NULL, LONG_PIECE, PROT_READ, MAP_PRIVATE | MAP_ANONYMOUS | MAP_NORESERVE, -1, 0);
@@ -404,6 +663,7 @@ int main(int argc, char **argv) {
     state = (uint64_t)left * 2654435761u + 88172645463325252u;
     sequence();
     damage_sequence();
+    sender_sequence();
   }
   printf("%ld tried, %ld wrong\n", tries, wrong);
   free(plan.at), free(lanes[0].at), free(lanes[1].at);

@@ -1,5 +1,5 @@
-"""The receiving end of an Interlaken link: bytes of lanes in, packets, fault spans and control words out; and damage of lanes on their
-way.
+"""Both ends of an Interlaken link: a receiver, bytes of lanes in, packets, fault spans and control words out; a transmitter, packets and
+rows of flow control in, at any time, bytes of lanes out; and damage of lanes on their way.
 
     with Receiver(plan, library="lib/libinterlaken.so") as receiver:
         for event in receiver.feed_all(lanes):
@@ -7,12 +7,19 @@ way.
 
 Where bytes come live, call `feed` and `finish` for each lane, and take `events()` after each.
 
+    with Transmitter(plan, library="lib/libinterlaken.so") as transmitter:
+        transmitter.packet(3, b"..")
+        transmitter.finish()
+        lanes = transmitter.take_all(2)
+
+Where lanes go live, call `take` for each in turn, and `packet`, `flow` and `local` at any time between.
+
     with Damage(2, library="lib/libinterlaken.so") as damage:
         damage.flip(0, 12345)
         damaged = damage.apply(0, data)
 
 It calls the C library that tools/library makes. A call that is misused raises Misuse, and changes nothing; a plan that is refused
-raises BadPlan, with the row and the cause. A Receiver takes one call at a time, and so does a Damage. It needs Python 3.10.
+raises BadPlan, with the row and the cause. A Receiver takes one call at a time, and so do a Transmitter and a Damage. It needs Python 3.10.
 """
 
 from __future__ import annotations
@@ -39,6 +46,9 @@ class Result(enum.IntEnum):
     NO_DAMAGE = 9
     OUT_OF_RANGE = 10
     PASSED = 11
+    NO_TRANSMITTER = 12
+    NO_CHANNEL = 13
+    BAD_LENGTH = 14
 
 
 class Cause(enum.IntEnum):
@@ -190,6 +200,17 @@ class Report:
     diag: int
 
 
+@dataclass(frozen=True)
+class Counts:
+    """What a transmitter was given on a channel, and what it sent of it. A burst is sent once its burst word was made: then all its bytes
+    count, and its packet where it is the last burst of one."""
+
+    packets_given: int
+    packets_sent: int
+    bytes_given: int
+    bytes_sent: int
+
+
 class _Handle(ctypes.Structure):
     _fields_ = [("at", ctypes.c_void_p), ("live", ctypes.c_uint8)]
 
@@ -220,6 +241,10 @@ class _Report(ctypes.Structure):
     ]
 
 
+class _Counts(ctypes.Structure):
+    _fields_ = [(name, ctypes.c_uint64) for name in ("packets_given", "packets_sent", "bytes_given", "bytes_sent")]
+
+
 _size = ctypes.c_size_t
 _u32 = ctypes.c_uint32
 _u64 = ctypes.c_uint64
@@ -236,6 +261,17 @@ _RECEIVER_CALLS = {
     "report": (_handle, _u32, ctypes.POINTER(_Report)),
     "lane_state": (_handle, _u32, ctypes.POINTER(_u32)),
     "is_on": (_handle, ctypes.c_uint16, ctypes.POINTER(_u32)),
+}
+_TRANSMITTER_CALLS = {
+    "new": (_handle, ctypes.c_char_p, _size, ctypes.POINTER(_Refusal)),
+    "free": (_handle,),
+    "packet": (_handle, ctypes.c_uint16, ctypes.c_char_p, _size),
+    "flow": (_handle, _u64),
+    "local": (_handle, ctypes.c_uint16, _u32),
+    "take": (_handle, _u32, ctypes.c_char_p, _size, ctypes.POINTER(_size)),
+    "finish": (_handle,),
+    "sent": (_handle, ctypes.c_uint16, ctypes.POINTER(_Counts)),
+    "slots": (_handle, ctypes.POINTER(_u64)),
 }
 _DAMAGE_CALLS = {
     "new": (_handle, _u32),
@@ -296,18 +332,36 @@ class _Opened:
         self.close()
 
 
-class Receiver(_Opened):
-    """A receiver of the lanes of a plan. As a context manager it is closed at the end."""
+class _OfPlan(_Opened):
+    """What is opened with a plan."""
 
-    def __init__(self, plan: bytes, library: str = "libinterlaken.so"):
-        """`plan` is the text of a plan file, and `library` the path of the shared library."""
-        super().__init__(library, "interlaken_receiver_", _RECEIVER_CALLS)
+    def __init__(self, plan: bytes, library: str, prefix: str, calls: dict[str, tuple[type, ...]]):
+        super().__init__(library, prefix, calls)
         refusal = _Refusal()
         result = self._result("new", plan, len(plan), refusal)
         if result is Result.BAD_PLAN:
             raise BadPlan(Cause(refusal.cause), refusal.row, Key(refusal.key))
         self._check(result)
         self._opened()
+
+
+def _within(number: int, bits: int, what: str) -> int:
+    """A number of so many bits; one that C cannot have, which ctypes would cut, is refused."""
+    if not 0 <= number < 1 << bits:
+        raise ValueError("no %s: %d" % (what, number))
+    return number
+
+
+def _channel(number: int) -> int:
+    return _within(number, 16, "channel number")
+
+
+class Receiver(_OfPlan):
+    """A receiver of the lanes of a plan. As a context manager it is closed at the end."""
+
+    def __init__(self, plan: bytes, library: str = "libinterlaken.so"):
+        """`plan` is the text of a plan file, and `library` the path of the shared library."""
+        super().__init__(plan, library, "interlaken_receiver_", _RECEIVER_CALLS)
 
     def feed(self, lane: int, data: bytes) -> int:
         """Feeds a lane with the next of its bytes, as many as its ring of 4,096 bytes has room for, and returns how many."""
@@ -380,11 +434,63 @@ class Receiver(_Opened):
 
     def is_on(self, channel: int) -> bool:
         """Whether the far end lets packets be sent on a channel, 0 to 65,535, by the control words that were given as Flow."""
-        if not 0 <= channel <= 0xFFFF:
-            raise ValueError("no channel number: %d" % channel)
         on = _u32()
-        self._call("is_on", channel, on)
+        self._call("is_on", _channel(channel), on)
         return bool(on.value)
+
+
+class Transmitter(_OfPlan):
+    """A transmitter of the lanes of a plan. Its words are made as bytes of lanes are taken, one of each lane at a time, so what is given
+    counts from the next word on. As a context manager it is closed at the end."""
+
+    def __init__(self, plan: bytes, library: str = "libinterlaken.so"):
+        """`plan` is the text of a plan file, and `library` the path of the shared library."""
+        super().__init__(plan, library, "interlaken_transmitter_", _TRANSMITTER_CALLS)
+
+    def packet(self, channel: int, data: bytes) -> None:
+        """Gives a packet of 1 to 262,144 bytes to be sent on a channel that the plan lists."""
+        self._call("packet", _channel(channel), data, len(data))
+
+    def flow(self, word: int) -> None:
+        """Gives a control word of the far end, as a receiver's Flow has it: it says on which channels bursts may begin, from the next word on
+        that is made. After a Span, in which words may be missing, give 0: after it no word counts up to the next with Reset Calendar."""
+        self._call("flow", _within(word, 64, "word"))
+
+    def local(self, channel: int, on: bool) -> None:
+        """Says whether the far end may send on a channel, which the control words tell it."""
+        self._call("local", _channel(channel), on)
+
+    def take(self, lane: int, count: int) -> bytes:
+        """The next bytes of a lane, at most so many: fewer where another lane has too many that were not taken, none after the end."""
+        data, taken = ctypes.create_string_buffer(max(_within(count, 63, "count"), 1)), _size()
+        self._call("take", _lane(lane), data, count, taken)
+        return data.raw[: taken.value]
+
+    def finish(self) -> None:
+        """No further packet and no further row comes: what may be sent is sent, and then the lanes end."""
+        self._call("finish")
+
+    def sent(self, channel: int) -> Counts:
+        """What was given on a channel that the plan lists, and what was sent of it."""
+        counts = _Counts()
+        self._call("sent", _channel(channel), counts)
+        return Counts(counts.packets_given, counts.packets_sent, counts.bytes_given, counts.bytes_sent)
+
+    def slots(self) -> int:
+        """How many payload words were made so far: the number of the next one, from which on counts what is given now."""
+        slots = _u64()
+        self._call("slots", slots)
+        return slots.value
+
+    def take_all(self, lanes: int) -> list[bytes]:
+        """The bytes of all lanes of a transmitter that was finished, from what was taken of them on to their ends."""
+        taken = [bytearray() for _ in range(lanes)]
+        while True:
+            pieces = [self.take(lane, 2048) for lane in range(lanes)]
+            if not any(pieces):
+                return [bytes(data) for data in taken]
+            for data, piece in zip(taken, pieces):
+                data += piece
 
 
 class Damage(_Opened):

@@ -3,3 +3,5 @@ mod Feeding
 mod Following
 mod Hearing
 mod DamageBox
+mod TransmitterBox
+mod Holding

@@ -2,8 +2,12 @@
 use Rattle.std.specs.Prelude.{ℕ}
 use Rattle.lane_damage.specs.declared.refused.Refused.{Refused}
 use Rattle.lane_damage.specs.declared.refused.Refused.TheVariants as refusals
+use Rattle.live_stream.specs.declared.refused.Refused as packets
+use Rattle.live_stream.specs.declared.refused.Refused.TheVariants as packet_refusals
 use Rattle.interlaken_c.specs.declared.misuse.Misuse.{Misuse}
 use Rattle.interlaken_c.specs.declared.misuse.Misuse.TheVariants as misuses
+use Rattle.plan_errors.specs.declared.error.PlanError.{PlanError}
+use Rattle.plan_errors.specs.declared.error.PlanError.TheVariants as errors
 use Rattle.lock_model.specs.declared.types.LaneState.{LaneState}
 use Rattle.lock_model.specs.declared.types.LaneState.TheVariants as states
 
@@ -28,6 +32,18 @@ no_damage = 9
 abbrev pub out_of_range : ℕ
 out_of_range = 10
 
+abbrev pub no_lane : ℕ
+no_lane = 3
+
+abbrev pub finished : ℕ
+finished = 4
+
+abbrev pub no_transmitter : ℕ
+no_transmitter = 12
+
+abbrev pub no_channel : ℕ
+no_channel = 13
+
 -- ---- the states of a lane
 
 abbrev pub state_code : LaneState → ℕ
@@ -41,6 +57,11 @@ code_of misuses.Finished = 4
 code_of misuses.TooMany = 5
 code_of misuses.NoPacket = 6
 
+-- of a plan that is refused
+abbrev pub plan_code : PlanError → ℕ
+plan_code errors.OutOfMemory = out_of_memory
+plan_code why = bad_plan
+
 -- of a call on damage that is refused
 abbrev pub damage_code : Refused → ℕ
 damage_code refusals.NoLane = 3
@@ -48,3 +69,12 @@ damage_code refusals.OutOfRange = out_of_range
 damage_code refusals.Passed = 11
 damage_code refusals.TooMany = 5
 damage_code refusals.OutOfMemory = out_of_memory
+
+-- of a packet that a transmitter refuses
+abbrev pub packet_code : packets.Refused → ℕ
+packet_code packet_refusals.Closed = finished
+packet_code packet_refusals.UnknownChannel = no_channel
+packet_code packet_refusals.Empty = 14
+packet_code packet_refusals.TooLong = 14
+packet_code packet_refusals.TooMuch = 5
+packet_code packet_refusals.OutOfMemory = out_of_memory

@@ -6,8 +6,7 @@ use Rattle.lock_model.specs.declared.types.LaneState.{LaneState}
 use Rattle.rx_end.specs.declared.event.RxEvent.{RxEvent}
 use Rattle.interlaken_c.specs.Calls.{IsChannelState, IsFeed, IsFinish, IsLaneState, IsNextOf, IsRead, IsReport}
 use Rattle.plan_errors.specs.declared.error.PlanError.{PlanError}
-use Rattle.plan_errors.specs.declared.error.PlanError.TheVariants as errors
-use Rattle.interlaken_c.specs.Codes.{bad_plan, code_of, done, in_use, no_receiver, out_of_memory, state_code}
+use Rattle.interlaken_c.specs.Codes.{code_of, done, in_use, no_receiver, plan_code, state_code}
 use Rattle.interlaken_c.specs.OnHeld.{OnHeld}
 use Rattle.interlaken_c.specs.Opens.{IsOfPlan, IsRefused}
 use Rattle.interlaken_c.specs.Refusals.{of_row, refusal_of}
@@ -37,17 +36,12 @@ abbrev pub GivesState : Result LaneState Misuse → ℕ → ℕ → Type 0
 GivesState (Ok found) code state = (code ≡ done) × (state ≡ state_code found)
 GivesState (Err why) code state = (code ≡ code_of why) × (state ≡ 0)
 
--- the result of a refusal
-abbrev pub refused_code : PlanError → ℕ
-refused_code errors.OutOfMemory = out_of_memory
-refused_code why = bad_plan
-
 -- ---- the calls
 
 -- a receiver of the plan is made, or the plan is refused so, or memory ran out
 abbrev pub Opens : List ℕ → Option Session → ℕ → Refusal → Type 0
 Opens plan (Some s) code refusal = IsOfPlan plan s × (code ≡ done) × (refusal ≡ of_row 0 0)
-Opens plan None code refusal = (why : PlanError) × IsRefused plan why × (code ≡ refused_code why) × (refusal ≡ refusal_of why)
+Opens plan None code refusal = (why : PlanError) × IsRefused plan why × (code ≡ plan_code why) × (refusal ≡ refusal_of why)
 
 -- a handle that has a receiver keeps it
 abbrev pub Makes : Option Session → Option Session → List ℕ → ℕ → Refusal → Type 0

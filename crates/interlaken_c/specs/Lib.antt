@@ -13,3 +13,5 @@ pub mod Shown
 pub mod HeldDamage
 pub mod OnHeld
 pub mod OwnedDamage
+pub mod HeldTransmitter
+pub mod OwnedTransmitter

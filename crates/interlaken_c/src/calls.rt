@@ -1,12 +1,10 @@
 //! The calls on a receiver.
 ghost use Rattle.std.specs.Prelude.{◌≡◌, IfOk, IfErr};
-ghost use Rattle.interlaken_c.specs.Held.{Feeds, Finishes, Frees, GivesCode, GivesCount, GivesEvent, GivesReport, GivesState, Makes, Reads, Reports, TellsChannel, TellsState, refused_code};
+ghost use Rattle.interlaken_c.specs.Held.{Feeds, Finishes, Frees, GivesCode, GivesCount, GivesEvent, GivesReport, GivesState, Makes, Reads, Reports, TellsChannel, TellsState};
 ghost use Rattle.interlaken_c.specs.Reports.{no_report};
 ghost use Rattle.interlaken_c.specs.Opens.{IsOfPlan, IsRefused};
 
-use crate::codes::{
-    BAD_PLAN, DONE, IN_USE, LANE_SEARCHING, NO_RECEIVER, OUT_OF_MEMORY, code_of, state_code,
-};
+use crate::codes::{DONE, IN_USE, LANE_SEARCHING, NO_RECEIVER, code_of, plan_code, state_code};
 use crate::event::{CEvent, shown};
 use crate::misuse::Misuse;
 use crate::receiver::ReceiverHandle;
@@ -46,16 +44,6 @@ fn boxed(alloc: Global, plan: &[u8]) -> Result<Box<Session, Global>, PlanError>
     Ok(held)
 }
 
-// The result of a refusal.
-fn refused(why: PlanError) -> u32
-    ensures { result ≡ refused_code why }
-{
-    match why {
-        PlanError::OutOfMemory => OUT_OF_MEMORY,
-        _ => BAD_PLAN,
-    }
-}
-
 /// Opens a receiver of the plan of these bytes behind a handle that has none, and writes why a plan is refused. It is `DONE`,
 /// `OUT_OF_MEMORY`, `BAD_PLAN` or `IN_USE`.
 #[unsafe(no_mangle)]
@@ -79,7 +67,7 @@ pub extern "C" fn interlaken_receiver_new(
         }
         Err(why) => {
             *refusal = refusal_of(why);
-            refused(why)
+            plan_code(why)
         }
     }
 }

@@ -1,11 +1,13 @@
 //! The numbers that C sees, by the names of the header without its prefix: results, kinds of events, causes and keys of refusals, drops,
 //! faults and states of lanes.
 ghost use Rattle.std.specs.Prelude.{◌≡◌};
-ghost use Rattle.interlaken_c.specs.Codes.{code_of, damage_code, state_code};
+ghost use Rattle.interlaken_c.specs.Codes.{code_of, damage_code, packet_code, plan_code, state_code};
 
 use crate::misuse::Misuse;
 use lane_damage::Refused;
+use live_end::Refused as PacketRefused;
 use lock_model::LaneState;
+use plan_errors::PlanError;
 
 // ---- results
 
@@ -21,10 +23,10 @@ pub const BAD_PLAN: u32 = 2;
 /// There is no such lane.
 pub const NO_LANE: u32 = 3;
 
-/// The lane was finished before.
+/// The lane, or the transmitter, was finished before.
 pub const FINISHED: u32 = 4;
 
-/// The lane has 2^40 bytes or more, or the piece has.
+/// The lane has 2^40 bytes or more, or the piece has; or the channel would be given more than 2^60 bytes.
 pub const TOO_MANY: u32 = 5;
 
 /// The last event is no packet.
@@ -33,7 +35,7 @@ pub const NO_PACKET: u32 = 6;
 /// There is no receiver behind the handle.
 pub const NO_RECEIVER: u32 = 7;
 
-/// There is a receiver, or damage, behind the handle already.
+/// There is a receiver, a transmitter, or damage, behind the handle already.
 pub const IN_USE: u32 = 8;
 
 /// There is no damage behind the handle.
@@ -44,6 +46,15 @@ pub const OUT_OF_RANGE: u32 = 10;
 
 /// All bits that a row names have passed.
 pub const PASSED: u32 = 11;
+
+/// There is no transmitter behind the handle.
+pub const NO_TRANSMITTER: u32 = 12;
+
+/// The plan does not list the channel.
+pub const NO_CHANNEL: u32 = 13;
+
+/// A packet has no bytes, or too many.
+pub const BAD_LENGTH: u32 = 14;
 
 // ---- kinds of events
 
@@ -209,6 +220,16 @@ pub fn code_of(why: Misuse) -> u32
     }
 }
 
+/// The result of a plan that is refused.
+pub fn plan_code(why: PlanError) -> u32
+    ensures { result ≡ plan_code why }
+{
+    match why {
+        PlanError::OutOfMemory => OUT_OF_MEMORY,
+        _ => BAD_PLAN,
+    }
+}
+
 /// The result of a call on damage that is refused.
 pub fn damage_code(why: Refused) -> u32
     ensures { result ≡ damage_code why }
@@ -219,5 +240,18 @@ pub fn damage_code(why: Refused) -> u32
         Refused::Passed => PASSED,
         Refused::TooMany => TOO_MANY,
         Refused::OutOfMemory => OUT_OF_MEMORY,
+    }
+}
+
+/// The result of a packet that a transmitter refuses.
+pub fn packet_code(why: PacketRefused) -> u32
+    ensures { result ≡ packet_code why }
+{
+    match why {
+        PacketRefused::Closed => FINISHED,
+        PacketRefused::UnknownChannel => NO_CHANNEL,
+        PacketRefused::Empty | PacketRefused::TooLong => BAD_LENGTH,
+        PacketRefused::TooMuch => TOO_MANY,
+        PacketRefused::OutOfMemory => OUT_OF_MEMORY,
     }
 }

@@ -1,4 +1,4 @@
-//! Calls for C: a receiver of the lanes of a link, and damage of lanes on their way, each behind a handle.
+//! Calls for C: a receiver of the lanes of a link, a transmitter of them, and damage of lanes on their way, each behind a handle.
 #![tactic(auto)]
 
 mod calls;
@@ -15,4 +15,8 @@ mod parts;
 mod receiver;
 mod refusal;
 mod report;
+mod sent;
 mod session;
+mod transmitter_block;
+mod transmitter_calls;
+mod transmitter_handle;
