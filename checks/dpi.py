@@ -101,6 +101,30 @@ def try_layer(tally, folder):
     tally.expect("a lane without room", full, True)
 
 
+def build(tally, folder, bench, name, shape):
+    """A bench of other parameters."""
+    parameters = ["-G%s=%d" % pair for pair in zip(("LANES", "METAFRAME", "SKIPS"), shape)]
+    words = ["--binary", "--timing", "-f", bench + ".f", "--top-module", "tb_" + bench, "--Mdir", name, "-MAKEFLAGS", "OPT_FAST=-O0 OPT_GLOBAL=-O0", *parameters]
+    tally.expect("tb_%s of other parameters" % bench, run("verilator", *words, folder=folder)[0], 0)
+
+
+def try_drive(tally, folder):
+    """The transmitter of the library on another link, with more packets."""
+    build(tally, folder, "drive", "obj_drive_other", (3, 40, 2))
+    for count in (8, 150):
+        status, text = run("obj_drive_other/Vtb_drive", "+packets=%d" % count, folder=folder)
+        what = "tb_drive, %d packets" % count
+        tally.expect(what + ": status", status, 0)
+        packets = [tuple(map(int, found)) for found in re.findall(r"^packet (\d+) channel=(\d+) bytes=(\d+)$", text, re.M)]
+        tally.expect(what + ": packets", sorted(number for number, _, _ in packets), list(range(count)))
+        for channel in (1, 2):
+            numbers = [number for number, on, _ in packets if on == channel]
+            tally.expect("%s: order on channel %d" % (what, channel), numbers, sorted(numbers))
+        turned = [(state, int(slot)) for state, slot in re.findall(r"^channel 1 is (off|on) from word (\d+) on$", text, re.M)]
+        tally.expect(what + ": turns", [state for state, _ in turned], ["off", "on"])
+        tally.expect(what + ": words while it is off", turned[1][1] - turned[0][1] > 0, True)
+
+
 def numbers_in(packets):
     """The numbers with which packets begin, in order."""
     return sorted(packet[0] << 8 | packet[1] for found in packets.values() for packet in found)
@@ -171,7 +195,7 @@ def main():
     tally = Tally("dpi")
     with tempfile.TemporaryDirectory(prefix="dpi.") as top:
         folder = top + "/examples"
-        shutil.copytree(TOP + "/examples", folder, ignore=shutil.ignore_patterns("obj_dir", "library"))
+        shutil.copytree(TOP + "/examples", folder, ignore=shutil.ignore_patterns("obj_*", "library"))
         os.symlink(TOP + "/tools", top + "/tools")
         status, text = run(PROGRAM, "link", "damaged.plan", folder=folder)
         if status or "got channel=1 packets=1" not in text:
@@ -181,14 +205,14 @@ def main():
             tally.give_up("the bench", "it is not built")
         names = numbers_of(TOP + "/include/interlaken.h") + [("INTERLAKEN_NO_ROOM", "100")]
         tally.expect("names and numbers of the header and of the package", numbers_of(folder + "/dpi/interlaken_dpi.sv"), sorted(names))
-        lint = run("verilator", "--lint-only", "-Wall", "--timing", "-f", "live.f", "--top-module", "tb_live", folder=folder + "/dpi")
-        tally.expect("lint", lint, (0, ""))
+        for files, top_module in (("live.f", "tb_live"), ("drive.f", "tb_drive")):
+            lint = run("verilator", "--lint-only", "-Wall", "--timing", "-f", files, "--top-module", top_module, folder=folder + "/dpi")
+            tally.expect("lint of " + top_module, lint, (0, ""))
         try_layer(tally, folder)
+        try_drive(tally, folder + "/dpi")
         for shape, name in PLANS.items():
             if not os.path.exists(folder + "/dpi/" + name):
-                parameters = ["-G%s=%d" % pair for pair in zip(("LANES", "METAFRAME", "SKIPS"), shape)]
-                words = ["--binary", "--timing", "-f", "live.f", "--top-module", "tb_live", "--Mdir", name, "-MAKEFLAGS", "OPT_FAST=-O0 OPT_GLOBAL=-O0", *parameters]
-                tally.expect("a bench of other parameters", run("verilator", *words, folder=folder + "/dpi")[0], 0)
+                build(tally, folder + "/dpi", "live", name, shape)
             Bench(tally, folder, shape, name).try_all()
     return tally.end()
 

@@ -1,5 +1,5 @@
-/* The functions of examples/dpi/interlaken_dpi.c without a simulator: lanes in drawn pieces and orders, and each misuse. Its prototypes are
- * those that verilator made of the imports.
+/* The functions of examples/dpi/interlaken_dpi.c without a simulator: lanes in drawn pieces and orders, a transmitter whose lanes come back,
+ * and each misuse. Its prototypes are those that verilator made of the imports.
  *
  *     layer PLAN SEED LANE..
  *
@@ -10,7 +10,7 @@
 #include <stdlib.h>
 #include <string.h>
 
-enum { DONE, NO_LANE = 3, FINISHED = 4, TOO_MANY = 5, NO_PACKET = 6, NO_RECEIVER = 7, NO_ROOM = 100 };
+enum { DONE, NO_LANE = 3, FINISHED, TOO_MANY, NO_PACKET, NO_RECEIVER, NO_TRANSMITTER = 12, NO_CHANNEL, BAD_LENGTH, NO_ROOM = 100 };
 enum { NONE, PACKET, DROPPED, SPAN, FLOW, ENDED };
 
 struct file {
@@ -115,6 +115,103 @@ static void try_plan(const char *plan, unsigned wanted_cause, unsigned wanted_ro
   want("its key", (int)key, (int)wanted_key);
 }
 
+/* All that a handle without a transmitter answers. */
+static void try_no_transmitter(void *transmitter) {
+  unsigned char byte;
+  unsigned long long slots;
+  want("close of no transmitter", interlaken_dpi_close_transmitter(transmitter), NO_TRANSMITTER);
+  want("put_byte of none", interlaken_dpi_put_byte(transmitter, 1), NO_TRANSMITTER);
+  want("send_packet of none", interlaken_dpi_send_packet(transmitter, 1), NO_TRANSMITTER);
+  want("flow of none", interlaken_dpi_flow(transmitter, 0), NO_TRANSMITTER);
+  want("local of none", interlaken_dpi_local(transmitter, 1, 0), NO_TRANSMITTER);
+  want("take_byte of none", interlaken_dpi_take_byte(transmitter, 0, &byte), NO_TRANSMITTER);
+  want("slots of none", interlaken_dpi_slots(transmitter, &slots), NO_TRANSMITTER);
+  want("finish of no transmitter", interlaken_dpi_finish_packets(transmitter), NO_TRANSMITTER);
+}
+
+static void give_packet(void *transmitter, unsigned channel, unsigned length, int wanted) {
+  unsigned i;
+  for (i = 0; i < length; i++) want("put_byte", interlaken_dpi_put_byte(transmitter, (unsigned char)(length + i)), DONE);
+  want("send_packet", interlaken_dpi_send_packet(transmitter, channel), wanted);
+}
+
+static void try_wrong_packets(void *transmitter, unsigned count) {
+  unsigned char byte;
+  unsigned i;
+  give_packet(transmitter, 1, 0, BAD_LENGTH);
+  give_packet(transmitter, 9, 3, NO_CHANNEL);
+  give_packet(transmitter, 65537, 3, NO_CHANNEL);
+  for (i = 0; i < 262144; i++) (void)interlaken_dpi_put_byte(transmitter, 1);
+  want("a byte too many", interlaken_dpi_put_byte(transmitter, 1), TOO_MANY);
+  give_packet(transmitter, 3, 0, NO_CHANNEL);
+  want("local of a number that is none", interlaken_dpi_local(transmitter, 65537, 0), NO_CHANNEL);
+  want("take_byte of no lane", interlaken_dpi_take_byte(transmitter, count, &byte), NO_LANE);
+}
+
+/* The bytes of a lane to the receiver, at most so many; 1 where one came. */
+static int pass(void *transmitter, void *receiver, unsigned lane, unsigned most) {
+  unsigned char byte;
+  unsigned i;
+  for (i = 0; i < most; i++) {
+    int result = interlaken_dpi_take_byte(transmitter, lane, &byte);
+    if (result != DONE) want("take_byte", result, NO_ROOM);
+    if (result != DONE) break;
+    want("feed", interlaken_dpi_feed(receiver, lane, byte, 8), DONE);
+  }
+  return i > 0;
+}
+
+/* The packets that come, each as `give_packet` made it. */
+static unsigned count_packets(void *receiver) {
+  unsigned kind, channel, length, u[5], i, packets = 0;
+  unsigned long long n[3];
+  unsigned char byte;
+  do {
+    (void)interlaken_dpi_next(receiver, &kind, &channel, &length, &u[0], &u[1], &u[2], &n[0], &u[3], &u[4], &n[1], &n[2]);
+    packets += kind == PACKET;
+    for (i = 0; i < length; i++) {
+      (void)interlaken_dpi_byte(receiver, i, &byte);
+      want("a byte that was sent", byte, (length + i) & 255);
+    }
+  } while (kind != NONE && kind != ENDED);
+  return packets;
+}
+
+static void try_transmitter(const char *plan, unsigned count) {
+  unsigned cause, row, key, packets = 0, came = 0, lane, passed;
+  unsigned long long slots = 1;
+  void *receiver = interlaken_dpi_open(plan, &cause, &row, &key), *transmitter = interlaken_dpi_open_transmitter("lanes,x\n", &cause, &row, &key);
+  want("a refused plan of a transmitter", transmitter == NULL && cause == 4 && row == 1, 1);
+  transmitter = interlaken_dpi_open_transmitter(plan, &cause, &row, &key);
+  if (transmitter == NULL || receiver == NULL) exit(1);
+  want("slots", interlaken_dpi_slots(transmitter, &slots), DONE);
+  want("no word so far", slots == 0, 1);
+  try_wrong_packets(transmitter, count);
+  want("flow", interlaken_dpi_flow(transmitter, 0), DONE);
+  want("local", interlaken_dpi_local(transmitter, 1, 0), DONE);
+  while (packets < 40) {
+    if (below(3) == 0) give_packet(transmitter, 1 + below(2), 1 + below(300), DONE), packets++;
+    lane = below(count);
+    (void)pass(transmitter, receiver, lane, below(600));
+    came += count_packets(receiver);
+  }
+  want("finish_packets", interlaken_dpi_finish_packets(transmitter), DONE);
+  give_packet(transmitter, 1, 1, FINISHED);
+  want("flow after the finish", interlaken_dpi_flow(transmitter, 0), FINISHED);
+  do {
+    for (passed = lane = 0; lane < count; lane++) {
+      passed |= (unsigned)pass(transmitter, receiver, lane, 2000);
+      came += count_packets(receiver);
+    }
+  } while (passed);
+  for (lane = 0; lane < count; lane++) want("finish of a lane", interlaken_dpi_finish(receiver, lane), DONE);
+  came += count_packets(receiver);
+  want("packets that came back", (int)came, (int)packets);
+  want("close of the receiver", interlaken_dpi_close(receiver), DONE);
+  want("close of the transmitter", interlaken_dpi_close_transmitter(transmitter), DONE);
+  try_no_transmitter(transmitter);
+}
+
 int main(int argc, char **argv) {
   static struct file lanes[64], plan;
   unsigned count = (unsigned)argc - 3, cause, row, key, i;
@@ -126,6 +223,8 @@ int main(int argc, char **argv) {
   plan = load(argv[1]);
   for (i = 0; i < count; i++) lanes[i] = load(argv[i + 3]);
   try_none(NULL);
+  try_no_transmitter(NULL);
+  try_transmitter((const char *)plan.at, count);
   try_plan("lanes,2\nlanes,3\n", 6, 2, 0);
   try_plan("lanes,2\n", 7, 0, 2);
   receiver = interlaken_dpi_open((const char *)plan.at, &cause, &row, &key);

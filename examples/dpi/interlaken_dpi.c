@@ -1,8 +1,8 @@
-/* The receiving end of an Interlaken link for a bench in SystemVerilog: the functions that interlaken_dpi.sv imports, over the C library
- * of interlaken.h. It is C99 and C++, and needs no header of a simulator. The calls are said in interlaken_dpi.sv.
+/* Both ends of an Interlaken link for a bench in SystemVerilog: the functions that interlaken_dpi.sv imports, over the C library of
+ * interlaken.h. It is C99 and C++, and needs no header of a simulator. The calls are said in interlaken_dpi.sv.
  *
- * A handle is the address of a `live`, which stays until the simulation ends: a call on a closed one has the result NO_RECEIVER, as one
- * on null has. */
+ * A handle is the address of a `live` or of a `drive`, which stays until the simulation ends: a call on a closed one has the result
+ * NO_RECEIVER or NO_TRANSMITTER, as one on null has. */
 #include "interlaken.h"
 #include <stdlib.h>
 #include <string.h>
@@ -30,6 +30,16 @@ struct live {
 
 static struct live *all; /* the handles of this simulation */
 
+/* A transmitter, and the bytes of the packet that is put together for it. */
+struct drive {
+  interlaken_transmitter transmitter;
+  uint8_t *packet;
+  uint32_t length;
+  struct drive *other;
+};
+
+static struct drive *drives;
+
 #ifdef __cplusplus
 extern "C" {
 #endif
@@ -46,6 +56,16 @@ int interlaken_dpi_report(void *receiver, unsigned int lane, unsigned long long 
                           unsigned long long *first, unsigned long long *lost, unsigned long long *unframed, unsigned long long *bad,
                           unsigned long long *sync, unsigned long long *state, unsigned long long *diag);
 int interlaken_dpi_lane_state(void *receiver, unsigned int lane, unsigned int *state);
+
+void *interlaken_dpi_open_transmitter(const char *plan, unsigned int *cause, unsigned int *row, unsigned int *key);
+int interlaken_dpi_close_transmitter(void *transmitter);
+int interlaken_dpi_put_byte(void *transmitter, unsigned char value);
+int interlaken_dpi_send_packet(void *transmitter, unsigned int channel);
+int interlaken_dpi_flow(void *transmitter, unsigned long long word);
+int interlaken_dpi_local(void *transmitter, unsigned int channel, unsigned int on);
+int interlaken_dpi_take_byte(void *transmitter, unsigned int lane, unsigned char *value);
+int interlaken_dpi_slots(void *transmitter, unsigned long long *slots);
+int interlaken_dpi_finish_packets(void *transmitter);
 
 #ifdef __cplusplus
 }
@@ -201,4 +221,86 @@ int interlaken_dpi_lane_state(void *receiver, unsigned int lane, unsigned int *s
   if (live != NULL) result = interlaken_receiver_lane_state(&live->receiver, lane, &found);
   *state = found;
   return (int)result;
+}
+
+void *interlaken_dpi_open_transmitter(const char *plan, unsigned int *cause, unsigned int *row, unsigned int *key) {
+  struct drive *drive = (struct drive *)calloc(1, sizeof *drive);
+  interlaken_refusal refusal = {0, 0, 0};
+  if (drive != NULL) drive->packet = (uint8_t *)malloc(LONGEST);
+  if (drive == NULL || drive->packet == NULL ||
+      interlaken_transmitter_new(&drive->transmitter, (const uint8_t *)plan, strlen(plan), &refusal) != INTERLAKEN_DONE) {
+    if (drive != NULL) free(drive->packet);
+    free(drive);
+    drive = NULL;
+  } else {
+    drive->other = drives;
+    drives = drive;
+  }
+  *cause = refusal.cause;
+  *row = refusal.row;
+  *key = refusal.key;
+  return drive;
+}
+
+int interlaken_dpi_close_transmitter(void *transmitter) {
+  struct drive *drive = (struct drive *)transmitter;
+  if (drive == NULL) return INTERLAKEN_NO_TRANSMITTER;
+  free(drive->packet);
+  drive->packet = NULL;
+  return (int)interlaken_transmitter_free(&drive->transmitter);
+}
+
+int interlaken_dpi_put_byte(void *transmitter, unsigned char value) {
+  struct drive *drive = (struct drive *)transmitter;
+  if (drive == NULL || drive->packet == NULL) return INTERLAKEN_NO_TRANSMITTER;
+  if (drive->length == LONGEST) return INTERLAKEN_TOO_MANY;
+  drive->packet[drive->length++] = value;
+  return INTERLAKEN_DONE;
+}
+
+int interlaken_dpi_send_packet(void *transmitter, unsigned int channel) {
+  struct drive *drive = (struct drive *)transmitter;
+  uint32_t length;
+  if (drive == NULL || drive->packet == NULL) return INTERLAKEN_NO_TRANSMITTER;
+  length = drive->length;
+  drive->length = 0;
+  if (channel > 65535) return INTERLAKEN_NO_CHANNEL;
+  return (int)interlaken_transmitter_packet(&drive->transmitter, (uint16_t)channel, drive->packet, length);
+}
+
+int interlaken_dpi_flow(void *transmitter, unsigned long long word) {
+  struct drive *drive = (struct drive *)transmitter;
+  if (drive == NULL) return INTERLAKEN_NO_TRANSMITTER;
+  return (int)interlaken_transmitter_flow(&drive->transmitter, word);
+}
+
+int interlaken_dpi_local(void *transmitter, unsigned int channel, unsigned int on) {
+  struct drive *drive = (struct drive *)transmitter;
+  if (drive == NULL) return INTERLAKEN_NO_TRANSMITTER;
+  if (channel > 65535) return INTERLAKEN_NO_CHANNEL;
+  return (int)interlaken_transmitter_local(&drive->transmitter, (uint16_t)channel, on);
+}
+
+int interlaken_dpi_take_byte(void *transmitter, unsigned int lane, unsigned char *value) {
+  struct drive *drive = (struct drive *)transmitter;
+  size_t taken = 0;
+  uint32_t result = INTERLAKEN_NO_TRANSMITTER;
+  *value = 0;
+  if (drive != NULL) result = interlaken_transmitter_take(&drive->transmitter, lane, value, 1, &taken);
+  return result == INTERLAKEN_DONE && taken == 0 ? NO_ROOM : (int)result;
+}
+
+int interlaken_dpi_slots(void *transmitter, unsigned long long *slots) {
+  struct drive *drive = (struct drive *)transmitter;
+  uint64_t made = 0;
+  uint32_t result = INTERLAKEN_NO_TRANSMITTER;
+  if (drive != NULL) result = interlaken_transmitter_slots(&drive->transmitter, &made);
+  *slots = made;
+  return (int)result;
+}
+
+int interlaken_dpi_finish_packets(void *transmitter) {
+  struct drive *drive = (struct drive *)transmitter;
+  if (drive == NULL) return INTERLAKEN_NO_TRANSMITTER;
+  return (int)interlaken_transmitter_finish(&drive->transmitter);
 }
