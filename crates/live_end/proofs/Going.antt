@@ -1,5 +1,5 @@
 -- How a live transmitter goes on.
-use Rattle.std.proofs.Common.{ℕ, ◌≡◌, ◌⊎◌, ◌↔◌, inl, inr, refl, sym, ap, ◌∙◌, subst, ◌+◌, ◌-◌, ◌*◌, ◌/◌, ◌%◌, ◌<◌, ◌≤◌, Bool, true, false, not, if◌then◌else◌, nat_lt, nat_le, List, [], ◌++◌, length, get_or, arith, append_assoc, append-nil, length-append, Option, Some, None, is_some, Result, Ok, Err, OnOk, OnErr, is_err, MatchOption}
+use Rattle.std.proofs.Common.{ℕ, ◌≡◌, ◌⊎◌, ◌↔◌, inl, inr, refl, sym, ap, ◌∙◌, subst, ◌+◌, ◌-◌, ◌*◌, ◌/◌, ◌%◌, ◌<◌, ◌≤◌, Bool, true, false, if◌then◌else◌, nat_le, List, [], ◌++◌, length, get_or, arith, append_assoc, append-nil, length-append, Option, Some, None, is_some, Result, Ok, Err, OnOk, OnErr, is_err, MatchOption}
 use Rattle.std.specs.Option.{option_or}
 use Rattle.std.proofs.Math.Nat.{mod-add-mod, mod-eq_of_lt, mod-lt, mod_self, mul-le-mul}
 use Rattle.std.proofs.lemmas.Bool.{cases_lt, false≢true}
@@ -10,14 +10,13 @@ use Rattle.std.proofs.lemmas.Nat.{mod-mul-add, mul-add-lt}
 use Rattle.std.proofs.lemmas.Option.{slice_get_within}
 use Rattle.lk_base.specs.declared.word.Word.{Word}
 use Rattle.lk_base.specs.declared.word.Word.TheVariants.{Control}
-use Rattle.lk_base.specs.Limits.{longest_packet}
 use Rattle.lk_base.specs.Link.{Settings, IsLink, group_of}
 use Rattle.lane_model.specs.Framing.{payloads, role_of}
 use Rattle.metaframe.specs.Writing.{is_payload, payload_place}
 use Rattle.metaframe.proofs.Places.{stands as stands_at}
 use Rattle.tx_end.proofs.LanePlaces.{payload_there}
 use Rattle.live_stream.specs.LiveStream.{Given, IsWholeLiveStream}
-use Rattle.live_stream.specs.Gives.{Gives, closed_at, is_among, most_words, packet_added, refusal_of}
+use Rattle.live_stream.specs.Gives.{Gives, closed_at, most_words, packet_added, refusal_of}
 use Rattle.live_stream.specs.declared.refused.Closed.{Closed}
 use Rattle.live_stream.specs.declared.refused.Refused.{Refused}
 use Rattle.live_stream.specs.declared.refused.Refused.TheVariants as refused

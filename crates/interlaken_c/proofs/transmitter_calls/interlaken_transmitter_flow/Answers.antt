@@ -1,6 +1,5 @@
 -- The word is heard with the checksum of itself alone.
 use Rattle.std.proofs.Common.{ℕ, subst}
-use Rattle.duplex_model.specs.DuplexRun.{heard_word}
 use Rattle.live_end.specs.States.{State}
 use Rattle.live_end.specs.Calls.{IsFlow}
 use Rattle.interlaken_c.proofs.Holding.{on_held}
