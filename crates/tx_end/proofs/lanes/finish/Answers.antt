@@ -1,63 +1,50 @@
 use Rattle.std.proofs.Common.{ℕ, ◌≡◌, ◌+◌, ◌<◌, [], ◌++◌, ◌∙◌, refl, sym, ap, subst, map, length, get_or, List, arith}
-use Rattle.std.proofs.lemmas.List.{get_or-map, get_or-set_other, get_or-set_same, length-map, length-set, map-set}
+use Rattle.std.proofs.lemmas.List.{get_or-map, length-map, length-set, map-set}
 use Rattle.std.proofs.Math.ListN.{set}
-use Rattle.tx_end.specs.declared.lane_writer.LaneWriter.{LaneWriter}
-use Rattle.tx_end.specs.Lanes.{InTurn, IsEnded, IsFilled}
-use Rattle.tx_end.proofs.Turns.{first_lane, one_turn}
+use Rattle.lk_base.specs.Link.{Settings}
+use Rattle.tx_end.specs.Rounds.{InLastRound, longer}
+use Rattle.tx_end.proofs.Rounds.{last_begins, last_ends, last_turn, last_waiting}
 use Rattle.tx_end.proofs.lanes.finish.Goals as goal
 
 pub loop-number-init : goal.loop-number-init
 loop-number-init c = record {
-  room = c.requires.room;
-  lanes_count = refl;
+  settings = refl;
   files_count = refl;
-  turns = λ s words made k. record {
-    count = k.lanes_count;
-    had = λ i d h there. absurd (omega (arith, h));
-    still = λ i d h there. k.each i d there;
-  };
+  round = λ words made k. last_begins c.args.filler.now.settings words made c.args.filler.now.lanes _ k;
 }
 
-pub end_lane-requires-clause-waiting : goal.end_lane-requires-clause-waiting
-end_lane-requires-clause-waiting c =
-    let (s, words, made, k) = c.requires.filled in
-    let n : ℕ = c.loop-number.number in
-    let there : n < s.lanes = omega (arith, c.loop-number-test.true, k.lanes_count) in
-    ((c.loop-number.invariant.turns s words made k).still n c.index-lanes-number.result (omega arith) there).waiting
+pub make_end-requires-clause-lane : goal.make_end-requires-clause-lane
+make_end-requires-clause-lane c =
+    let same : c.loop-number.filler.settings.lanes ≡ c.args.filler.now.settings.lanes = ap (λ (s : Settings). s.lanes) c.loop-number.invariant.settings in
+    omega (arith, same, c.loop-number-test.true, c.count-number-end.ensures)
+
+pub make_end-requires-clause-waiting : goal.make_end-requires-clause-waiting
+make_end-requires-clause-waiting c =
+    let (words, made, k) = c.requires.filled in
+    let low : c.loop-number.number < c.args.filler.now.settings.lanes = omega (arith, c.loop-number-test.true, c.count-number-end.ensures) in
+    last_waiting c.args.filler.now.settings words made c.loop-number.number c.loop-number.filler.lanes _ low (c.loop-number.invariant.round words made k)
 
 pub loop-number-preserved : goal.loop-number-preserved
 loop-number-preserved c =
+    let s = c.args.filler.now.settings in
     let n : ℕ = c.loop-number.number in
+    let low : n < s.lanes = omega (arith, c.loop-number-test.true, c.count-number-end.ensures) in
+    let (words, made, k) = c.requires.filled in
+    let many : length c.loop-number.files ≡ s.lanes = c.loop-number.invariant.files_count ∙ sym (length-map c.args.files.now (λ file. file.items)) ∙ k.files_count in
     let files : List (List ℕ) = map (λ file. file.items) c.loop-number.files in
     let file : List ℕ = c.extend_from_slice.new.self.items in
-    let long = c.loop-number.invariant.files_count in
+    let old : List ℕ = get_or files n [] in
+    let own : (get_or c.loop-number.files n c.index-files-number.result).items ≡ old = sym (get_or-map (λ file. file.items) c.loop-number.files n c.index-files-number.result [] (omega (arith, low, many))) in
+    let now : file ≡ old ++ c.make_end.new.self.bytes = (c.in_ok-extend_from_slice.ensures {u = tt}).items ∙ ap (λ b. b ++ c.bytes.result.now) own ∙ ap (λ b. old ++ b) c.bytes.ensures in
+    let all : map (λ file. file.items) (set c.loop-number.files n c.extend_from_slice.new.self) ≡ longer files n c.make_end.new.self.bytes = map-set (λ file. file.items) c.loop-number.files n c.extend_from_slice.new.self ∙ ap (λ b. set files n b) now in
     record {
-      room = (let r = c.loop-number.invariant.room in omega (arith, r, c.end_lane.ensures.room));
-      lanes_count = length-set c.loop-number.lanes n c.end_lane.new.lane ∙ c.loop-number.invariant.lanes_count;
+      settings = c.make_end.ensures.settings ∙ c.loop-number.invariant.settings;
       files_count = length-set c.loop-number.files n c.extend_from_slice.new.self ∙ c.loop-number.invariant.files_count;
-      turns = λ s words made k.
-          let i = c.loop-number.invariant.turns s words made k in
-          let low : n < s.lanes = omega (arith, c.loop-number-test.true, k.lanes_count) in
-          let same : length c.loop-number.files ≡ s.lanes = long ∙ sym (length-map c.args.files.now (λ file. file.items)) ∙ k.files_count in
-          let there : n < length files = (let m = length-map c.loop-number.files (λ file. file.items) in omega (arith, m, low, same)) in
-          let lane : LaneWriter = get_or c.loop-number.lanes n c.index-lanes-number.result in
-          let old : List ℕ = get_or files n [] in
-          let own : (get_or c.loop-number.files n c.index-files-number.result).items ≡ old = sym (get_or-map (λ file. file.items) c.loop-number.files n c.index-files-number.result [] (omega (arith, low, same))) in
-          let now : file ≡ old ++ c.end_lane.new.bytes.items = (c.in_ok-extend_from_slice.ensures {u = tt}).items ∙ ap (λ b. b ++ c.deref.result.now) own ∙ ap (λ b. old ++ b) c.deref.ensures.value in
-          let ended = c.end_lane.ensures.ended old s n _ _ (i.still n c.index-lanes-number.result (omega arith) low).carries in
-          subst (λ (fs : List (List ℕ)). InTurn s.lanes (n + 1) (set c.loop-number.lanes n c.end_lane.new.lane) (λ m. get_or fs m []) (IsFilled s words made) (λ i _. IsEnded s words made i))
-          (sym (map-set (λ file. file.items) c.loop-number.files n c.extend_from_slice.new.self))
-          (one_turn s.lanes n c.loop-number.lanes (λ m. get_or files m []) (λ m. get_or (set files n file) m []) (IsFilled s words made) (λ i _. IsEnded s words made i) c.end_lane.new.lane i low
-          (λ m h other. get_or-set_other files n m file [] other)
-          (subst (λ (b : List ℕ). IsEnded s words made n b) (sym (get_or-set_same files n file [] there))
-          (subst (λ (b : List ℕ). IsEnded s words made n b) (sym now) ended)));
+      round = λ words made k.
+          subst (λ (fs : List (List ℕ)). InLastRound s words made (n + 1) c.make_end.new.self.lanes fs) (sym all)
+          (last_turn s words made n c.loop-number.filler.lanes c.make_end.new.self.lanes files c.make_end.new.self.bytes low (c.loop-number.invariant.round words made k) c.make_end.ensures.makes);
     }
 
 pub returns-clause-ended : goal.returns-clause-ended
-returns-clause-ended c s words made k =
-    let i = c.loop-number.invariant.turns s words made k in
-    let over = c.loop-number-test.false in
-    record {
-      count = length-map c.loop-number.files (λ file. file.items) ∙ c.loop-number.invariant.files_count ∙ sym (length-map c.args.files.now (λ file. file.items)) ∙ k.files_count;
-      each = λ m h. i.had m (first_lane c.loop-number.lanes (omega (arith, h, i.count))) (omega (arith, h, over, k.lanes_count)) h;
-    }
+returns-clause-ended c words made k =
+    last_ends c.args.filler.now.settings words made c.loop-number.number c.loop-number.filler.lanes _ (omega (arith, c.loop-number-test.false, c.count-number-end.ensures)) (c.loop-number.invariant.round words made k)
