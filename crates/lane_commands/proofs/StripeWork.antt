@@ -1,6 +1,5 @@
 -- `stripe`: its outcomes, and the readings before it.
-use Rattle.std.proofs.Common.{◌≡◌, ℕ, ◌<◌, ◌≤◌, ◌*◌, ◌-◌, mul-le-mul, false, List, length, map, refl, sym, ap, ◌∙◌, subst, arith, Option, Some, None, IfSome, Result, Ok, Err, MatchResult, inl, inr}
-use Rattle.std.proofs.lemmas.List.FromFn.{length-map-range_with_len}
+use Rattle.std.proofs.Common.{◌≡◌, ℕ, ◌<◌, ◌≤◌, ◌*◌, ◌-◌, mul-le-mul, List, length, refl, sym, ap, ◌∙◌, subst, arith, Option, Some, None, IfSome, Ok, Err, MatchResult, inl, inr}
 use Rattle.lk_base.specs.Link.{Settings, IsLink, group_of}
 use Rattle.lk_base.specs.declared.word.Word.{Word}
 use Rattle.lk_outside.specs.Files.{Files}
@@ -12,27 +11,20 @@ use Rattle.plan_inputs.specs.Inputs.{plan_in}
 use Rattle.plan_inputs.proofs.SomeSource.{plan_limits}
 use Rattle.run_stops.specs.declared.stop.Stop.{Stop}
 use Rattle.run_stops.specs.declared.stop.Stop.TheVariants as stop
-use Rattle.run_stops.specs.Reading.{Reads, behind, vec_items}
+use Rattle.run_stops.specs.Reading.{Reads, behind}
 use Rattle.run_stops.proofs.Readings.{behind_ok, behind_stops, first_stops, second_reads}
 use Rattle.run_shell.specs.declared.status.Status.TheVariants.{Done}
-use Rattle.run_shell.specs.Names.{lane_name, lane_names, words_name}
+use Rattle.run_shell.specs.Names.{words_name}
 use Rattle.run_shell.specs.Outcome.{Outcome}
 use Rattle.run_shell.specs.Meaning.{IsMeaning}
 use Rattle.run_shell.specs.Work.{IsWork}
-use Rattle.run_shell.specs.Ends.{held_status}
-use Rattle.run_shell.specs.Outputs.{outs}
-use Rattle.run_shell.specs.Writing.{Writes, delivered}
-use Rattle.run_shell.specs.declared.finished.Finished.{Finished}
-use Rattle.run_shell.proofs.Writing.{one_writes}
 use Rattle.run_shell.proofs.Works.{is_meaning}
 use Rattle.stream_commands.specs.Outputs.{AreLaneOutputs}
 use Rattle.stream_commands.proofs.LaneContents.{one_list, some_list}
 use Rattle.stream_commands.proofs.OneOutcome.{same_parts}
 use Rattle.lane_commands.specs.SentWords.{sent_words_in}
 use Rattle.lane_commands.specs.Stripe.{IsReadFor, IsStriped, StripeInputs, plan_words_in, stripe_meaning, stripe_work, with_words}
-use Rattle.tx_end.specs.Lanes.{AreLaneFiles}
-use Rattle.lane_commands.specs.Values.{AreStriped, words_value}
-use Rattle.lane_commands.specs.declared.striped.StripedLanes.{StripedLanes}
+use Rattle.lane_commands.specs.Values.{words_value}
 use Rattle.lane_commands.specs.declared.plan_words.StripeInputs as code
 use Rattle.lane_commands.proofs.Filling.{stripe_once, stripe_some}
 
@@ -51,7 +43,7 @@ plan_had files name i e = let (plan, is, more) = behind_ok (plan_in files name) 
     same : (plan : PlanValue) → with_words files plan ≡ Ok i → plan ≡ i.plan
     same plan more = let (words, had, k) = behind_ok (sent_words_in files (words_name plan.out)) (λ ws. Ok (record { plan = plan; words = ws })) i more in cc
 
-one_made : (i : StripeInputs) (o p : Outcome) → IsStriped i o → IsStriped i p → o ≡ p
+pub one_made : (i : StripeInputs) (o p : Outcome) → IsStriped i o → IsStriped i p → o ≡ p
 one_made i o p h k =
     let e : k.stream ≡ h.stream = stripe_once i.plan.settings i.words k.stream h.stream k.stripes h.stripes in
     same_parts o p (h.status ∙ sym k.status)
@@ -73,27 +65,6 @@ stripe_is_work name = record {
 
 pub stripe_means : (name : List ℕ) → IsMeaning (stripe_meaning name)
 stripe_means name = is_meaning (stripe_work name) (stripe_is_work name)
-
--- ---- what is written
-
--- the lanes' names are as many as their files
-pub as_many : (names contents : List (List ℕ)) (prefix out : List ℕ) (n lanes : ℕ) → names ≡ lane_names prefix n → n ≡ lanes → length contents ≡ lanes → length contents ≡ length names
-as_many names contents prefix out n lanes named e count =
-    count ∙ sym e ∙ sym (length-map-range_with_len (lane_name prefix) 0 n) ∙ ap length (sym named)
-
--- the files of the lanes of these words are written
-pub writes_striped : (i : StripeInputs) (lanes : StripedLanes) (names contents : List (List ℕ)) (f : Finished) (r : Result Finished Stop) (x y : Option Files) → AreStriped i lanes
-    → names ≡ lane_names i.plan.out i.plan.settings.lanes → contents ≡ map vec_items lanes.files.items → f.held ≡ false → f.text.items ≡ slots_line lanes.slots
-    → Writes (λ o. o ≡ delivered names contents f) names r x y → Writes (IsStriped i) (lane_names i.plan.out i.plan.settings.lanes) r x y
-writes_striped i lanes names contents f r x y are named is held text h =
-    let made : IsStriped i (delivered names contents f) = record {
-      stream = are.stream;
-      stripes = are.stripes;
-      status = ap held_status held;
-      files = (contents, subst (AreLaneFiles i.plan.settings are.stream) (sym is) are.files, ap (λ (ns : List (List ℕ)). outs ns contents) named);
-      text = text ∙ ap slots_line are.slots;
-    } in
-    subst (λ (ns : List (List ℕ)). Writes (IsStriped i) ns r x y) named (one_writes (IsStriped i) names (delivered names contents f) made (λ p k. one_made i p (delivered names contents f) k made) r x y h)
 
 -- ---- a plan and its words
 

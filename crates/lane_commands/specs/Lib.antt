@@ -4,3 +4,4 @@ pub mod Stripe
 pub mod StripeLaws
 -- needed by private functions and proofs alone
 pub mod Values
+pub mod Making

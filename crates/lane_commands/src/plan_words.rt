@@ -5,6 +5,7 @@ ghost use Rattle.run_stops.specs.Reading.{Reads};
 ghost use Rattle.lane_commands.specs.Stripe.{IsReadFor, plan_words_in};
 ghost use Rattle.lane_commands.specs.Values.{words_value};
 
+use crate::sent_file::SentFile;
 use crate::sent_words::read_sent_words_file;
 use link_plan::Plan;
 use lk_outside::Store;
@@ -12,7 +13,6 @@ use plan_inputs::read_plan_file;
 use run_shell::words_name;
 use run_stops::Stop;
 use std::alloc::Global;
-use word_list::WordList;
 
 /// A plan and the words of its words file.
 #[derive(Drop)]
@@ -20,7 +20,7 @@ pub struct StripeInputs {
     /// The plan.
     pub plan: Plan,
     /// The words, in order.
-    pub words: WordList,
+    pub words: SentFile,
 }
 
 /// The plan of this name, and then the words of its words file, each read and checked whole before the next. The first that is
