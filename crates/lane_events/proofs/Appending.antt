@@ -5,11 +5,11 @@ use Rattle.std.proofs.lemmas.List.{append-nil, length-append, length-map, take_a
 use Rattle.std.proofs.lemmas.List.Concat.{flat_map-append}
 use Rattle.std.proofs.lemmas.List.Sums.{count_by-le-length, length-filter}
 use Rattle.lk_base.specs.Checksum.{bits_of, bits_of_bytes}
-use Rattle.lk_base.specs.Link.{Settings}
 use Rattle.lane_events.specs.declared.types.LaneEvent.{LaneEvent}
 use Rattle.lane_events.specs.declared.word_events.WordEvents.{WordEvents}
 use Rattle.lane_events.specs.Events.{AreLaneEvents, all_kinds}
 use Rattle.lane_events.specs.Inspection.{Finds, Inspects, InspectorView, event_of, events_in, has_kind}
+use Rattle.lane_events.proofs.Inspecting.{GoesOn}
 
 -- a word has at most twelve events
 few_events : (w : WordEvents) → length (events_in w) ≤ 12
@@ -28,21 +28,25 @@ found_none v bytes before s bits given k are =
     let nil = append-nil bits in
     (subst (λ (bs : List Bool). Inspects v s bs) (sym nil) k, subst (λ (bs : List Bool). AreLaneEvents s bs (given ++ before)) (sym nil) are)
 
+-- what goes on over some bits more finds the events that it appends
+pub finds_of : (v w : InspectorView) (more : List Bool) (new before after : List LaneEvent) → GoesOn v w more new → after ≡ before ++ new → Finds v w more before after
+finds_of v w more new before after on e s bits given k are = (
+  on.inspects s bits k,
+  subst (λ (es : List LaneEvent). AreLaneEvents s (bits ++ more) es) (append_assoc given before new ∙ ap (λ es. given ++ es) (sym e)) (on.events s bits (given ++ before) k are),
+)
+
 -- the next bytes more
-pub found_more : (v u w : InspectorView) (bytes : List ℕ) (i count number : ℕ) (word : WordEvents) (before now after : List LaneEvent) →
+pub found_more : (v u w : InspectorView) (bytes : List ℕ) (i count number : ℕ) (before now after : List LaneEvent) →
     bits_of (8 * count) number ≡ bits_of_bytes (take count (drop i bytes)) → Finds v u (bits_of_bytes (take i bytes)) before now →
-    ((s : Settings) (bits : List Bool) → Inspects u s bits → Inspects w s (bits ++ bits_of (8 * count) number)) →
-    ((s : Settings) (bits : List Bool) (events : List LaneEvent) → Inspects u s bits → AreLaneEvents s bits events → AreLaneEvents s (bits ++ bits_of (8 * count) number) (events ++ events_in word)) →
-    after ≡ now ++ events_in word → Finds v w (bits_of_bytes (take (i + count) bytes)) before after
-found_more v u w bytes i count number word before now after is finds inspects events e s bits given k are =
+    Finds u w (bits_of (8 * count) number) now after → Finds v w (bits_of_bytes (take (i + count) bytes)) before after
+found_more v u w bytes i count number before now after is finds further s bits given k are =
     let cut : bits ++ bits_of_bytes (take (i + count) bytes) ≡ (bits ++ bits_of_bytes (take i bytes)) ++ bits_of (8 * count) number =
     ap (λ bs. bits ++ bits_of_bytes bs) (take-add i count bytes) ∙ ap (λ bs. bits ++ bs) (flat_map-append (bits_of 8) (take i bytes) (take count (drop i bytes)))
     ∙ ap (λ bs. bits ++ (bits_of_bytes (take i bytes) ++ bs)) (sym is) ∙ sym (append_assoc bits (bits_of_bytes (take i bytes)) (bits_of (8 * count) number)) in
-    let front = finds s bits given k are in (
-      subst (λ (bs : List Bool). Inspects w s bs) (sym cut) (inspects s (bits ++ bits_of_bytes (take i bytes)) front.0),
-      subst (λ (bs : List Bool). AreLaneEvents s bs (given ++ after)) (sym cut)
-          (subst (λ (es : List LaneEvent). AreLaneEvents s ((bits ++ bits_of_bytes (take i bytes)) ++ bits_of (8 * count) number) es) (append_assoc given now (events_in word) ∙ ap (λ es. given ++ es) (sym e))
-          (events s (bits ++ bits_of_bytes (take i bytes)) (given ++ now) front.0 front.1)),
+    let front = finds s bits given k are in
+    let back = further s (bits ++ bits_of_bytes (take i bytes)) given front.0 front.1 in (
+      subst (λ (bs : List Bool). Inspects w s bs) (sym cut) back.0,
+      subst (λ (bs : List Bool). AreLaneEvents s bs (given ++ after)) (sym cut) back.1,
     )
 
 -- all bytes

@@ -1,7 +1,8 @@
 -- An inspector goes on over some bits more.
-use Rattle.std.proofs.Common.{ℕ, zero, suc, get_or, ◌≡◌, refl, sym, ap, ◌∙◌, subst, ◌+◌, ◌-◌, ◌*◌, ◌/◌, ◌%◌, ◌^◌, ◌<◌, ◌≤◌, ◌==◌, cond, Bool, false, List, [], ◌∷◌, ◌++◌, length, take, drop, replicate, arith, Option, Some, append_assoc, ne_eqb}
+use Rattle.std.proofs.Common.{ℕ, zero, suc, get_or, ◌≡◌, refl, sym, ap, ◌∙◌, subst, ◌+◌, ◌-◌, ◌*◌, ◌%◌, ◌^◌, ◌<◌, ◌≤◌, ◌==◌, cond, Bool, true, false, List, [], ◌∷◌, ◌++◌, length, take, drop, replicate, arith, Option, Some, append_assoc, ne_eqb}
 use Rattle.std.specs.Prelude.{ℤ}
 use Rattle.std.specs.Int.Count.{ones_in}
+use Rattle.std.proofs.lemmas.Bool.{false≢true}
 use Rattle.std.proofs.lemmas.List.{length-take-le, append-nil, length-drop}
 use Rattle.lk_base.specs.Link.{Settings, IsLink}
 use Rattle.lk_base.specs.declared.word.RxWord.TheVariants.{Control}
@@ -29,15 +30,16 @@ use Rattle.lane_events.specs.declared.types.EventKind.TheVariants as kinds
 use Rattle.lane_events.specs.declared.word_events.WordEvents.{WordEvents}
 use Rattle.lane_events.specs.EventLaw.{AreCounted}
 use Rattle.lane_events.specs.Events.{AreLaneEvents, has_event, lane_events, word_events}
-use Rattle.lane_events.specs.Inspection.{Balances, Inspects, InspectorView, IsShown, balance_of, events_in, open_of}
-use Rattle.lane_events.specs.Steps.{balance_before, balance_behind, covered_word, told, unbalances}
+use Rattle.lane_events.specs.Inspection.{Balances, Inspects, InspectorView, IsPassed, IsPushed, IsShown, balance_of, events_in, excess_before, open_of}
+use Rattle.lane_events.specs.Steps.{balance_before, balance_behind, covered_word, is_plain, told, unbalances}
 use Rattle.lane_events.specs.Balance.{balance_after}
 use Rattle.lane_events.proofs.Balances.{balance_more, balances_stay, none_balance, unbalances_is}
 use Rattle.lane_events.proofs.Counts.{events_are_counted}
 use Rattle.lane_events.proofs.Grow.{CoversWord, First, Loses, Next, Quiet, Tells}
 use Rattle.lane_events.proofs.LastBits.{code_before, window_more}
+use Rattle.lane_events.proofs.PlainWords.{no_events, plain_parts}
 use Rattle.lane_events.proofs.Telling.{covered_told, lost_told}
-use Rattle.lane_events.proofs.Walking.{Walked, quiet, walk}
+use Rattle.lane_events.proofs.Walking.{Stays, Walked, quiet, walk}
 
 long_of : (s : Settings) → IsLink s → 32 ≤ s.metaframe
 long_of s link = link.metaframe.0
@@ -114,6 +116,42 @@ module _ (s : Settings) (link : IsLink s) (bits : List Bool) (excess_now : ℤ) 
         balances = subst (λ (o : Option Lock). Balances balance bits o) (sym none) tt;
       })
 
+-- ---- a word that shows nothing
+
+module _ (s : Settings) (link : IsLink s) (bits : List Bool) (excess_now : ℤ) (balance : Option ℤ) where
+  -- a payload word with a legal header
+  passes_next : (at r : ℕ) (now : Option Lock) (new : List LaneEvent) (step : LaneStep) → 0 < r → CoversWord s bits at r now new step → is_plain step ≡ true →
+      unbalances balance (balance_behind step balance excess_now) ≡ false → balance ≡ balance_of bits at r → excess_now ≡ excess 67 (ones_in 67 (code_at bits (at + 67 * r))) →
+      (new ≡ []) × Balances (balance_behind step balance excess_now) bits now
+  passes_next at r now new step some k plain balanced is e =
+      let f : (r == 0) ≡ false = ne_eqb r 0 (λ z. omega (arith, z, some)) in
+      let w : LaneStep = steps.Word (received_at s bits at r) (role_of s (r % s.metaframe)) (at + 67 * r) in
+      let own : step ≡ w = k.step_is ∙ ap (λ b. cond b (steps.Locked (at + 67 * r)) w) f in
+      let parts = plain_parts (received_at s bits at r) (role_of s (r % s.metaframe)) (subst (λ (x : LaneStep). is_plain x ≡ true) own plain) in
+      let behind : balance_after balance excess_now ≡ balance_of bits at (r + 1) = ap (λ b. balance_after b excess_now) is ∙ ap (balance_after (balance_of bits at r)) e ∙ balance_more bits at r in
+      let turned : has_event s bits at r kinds.Balance ≡ false =
+      sym (unbalances_is s bits at r) ∙ sym (ap (λ b. unbalances b (balance_of bits at (r + 1))) is) ∙ sym (ap (unbalances balance) behind)
+      ∙ subst (λ (x : LaneStep). unbalances balance (balance_behind x balance excess_now) ≡ false) own balanced in
+      let ends = k.ends in (
+        k.events ∙ no_events s link bits at r some parts.0 parts.1 turned,
+        subst (λ (x : LaneStep). Balances (balance_behind x balance excess_now) bits now) (sym own)
+            (subst (λ (o : Option Lock). Balances (balance_after balance excess_now) bits o) (sym k.now_is) (behind, omega (arith, ends))),
+      )
+
+  -- the word of any step that shows nothing but a balance
+  tells_nothing : (before_lock now : Option Lock) (new : List LaneEvent) (step : LaneStep) → Tells s bits before_lock now new step → is_plain step ≡ true →
+      unbalances balance (balance_behind step balance excess_now) ≡ false → Balances balance bits before_lock →
+      ((q : ℕ) → q + 67 ≡ length bits → excess_now ≡ excess 67 (ones_in 67 (code_at bits q))) → (new ≡ []) × Balances (balance_behind step balance excess_now) bits now
+  tells_nothing before_lock now new step (Quiet same none nothing) plain balanced bal code = (
+    none,
+    subst (λ (x : LaneStep). Balances (balance_behind x balance excess_now) bits now) (sym nothing) (subst (λ (o : Option Lock). Balances balance bits o) (sym same) bal),
+  )
+  tells_nothing before_lock now new step (First at k) plain balanced bal code = absurd (false≢true (subst (λ (x : LaneStep). is_plain x ≡ true) k.step_is plain))
+  tells_nothing before_lock now new step (Next at r some is k) plain balanced bal code =
+      let own : Balances balance bits (Some (record { at = at; count = r; lost = false })) = subst (λ (o : Option Lock). Balances balance bits o) is bal in
+      passes_next at r now new step some k plain balanced own.0 (code (at + 67 * r) k.ends)
+  tells_nothing before_lock now new step (Loses at declared loss none is lost) plain balanced bal code = absurd (false≢true (subst (λ (x : LaneStep). is_plain x ≡ true) lost plain))
+
 -- ---- some bits more
 
 reported : (s : Settings) (bits : List Bool) (report : LaneReport) → IsReport s bits report → (attempts : List Attempt) → AreAttempts s.metaframe bits attempts → AreCounted (lane_events s bits attempts) report
@@ -126,42 +164,44 @@ pub record GoesOn (v w : InspectorView) (more : List Bool) (new : List LaneEvent
   pub inspects : (s : Settings) (bits : List Bool) → Inspects v s bits → Inspects w s (bits ++ more)
   pub events : (s : Settings) (bits : List Bool) (events : List LaneEvent) → Inspects v s bits → AreLaneEvents s bits events → AreLaneEvents s (bits ++ more) (events ++ new)
 
+-- the same events are counted the same
+still_counted : (old all : List LaneEvent) (before after : LaneReport) → all ≡ old → after ≡ before → AreCounted old before → AreCounted all after
+still_counted old all before after e f h = subst (λ (es : List LaneEvent). AreCounted es after) (sym e) (subst (λ (r : LaneReport). AreCounted old r) (sym f) h)
+
 -- where none of them ends a word
-pub goes_on_quiet : (v w : InspectorView) (width : ℕ) (more : List Bool) (given : WordEvents) → length more ≡ width → Brings v.lock w.lock more (replicate width steps.Nothing) → w.taken ≡ w.lock.taken →
-    ((bits : List Bool) → v.window ≡ high_number bits % 2 ^ 128 → w.window ≡ high_number (bits ++ more) % 2 ^ 128) → w.balance ≡ v.balance → events_in given ≡ [] →
-    GoesOn v w more (events_in given)
-goes_on_quiet v w width more given len brings taken window balance none = record {
+goes_on_quiet : (v w : InspectorView) (width x : ℕ) (more : List Bool) → length more ≡ width → Brings v.lock w.lock more (replicate width steps.Nothing) → IsPushed v w width x →
+    ((bits : List Bool) → v.window ≡ high_number bits % 2 ^ 128 → w.window ≡ high_number (bits ++ more) % 2 ^ 128) → GoesOn v w more []
+goes_on_quiet v w width x more len brings pushed window = record {
   inspects = λ s bits k.
       let own = steps_exist s bits in
       let now = brings s bits own.0 k.stands own.1 in
+      let before = attempts_exist s.metaframe bits in
+      let long = long_of s k.stands.link in
+      let stays : (attempts : List Attempt) → AreAttempts s.metaframe (bits ++ more) attempts → Stays s long bits more before.0 attempts = λ attempts are. quiet s long more bits own.0 own.1.long (subst (λ (n : ℕ). AreSteps s (bits ++ more) (own.0 ++ replicate n steps.Nothing)) (sym len) now.1) before.0 attempts before.1 are in
       record {
         stands = now.0;
-        count = taken;
+        count = pushed.counts;
         window = window bits k.window;
         balances = λ attempts are.
-            let before = attempts_exist s.metaframe bits in
-            let stays = quiet s (long_of s k.stands.link) more bits own.0 own.1.long (subst (λ (n : ℕ). AreSteps s (bits ++ more) (own.0 ++ replicate n steps.Nothing)) (sym len) now.1) before.0 attempts before.1 are in
-            let long = long_of s k.stands.link in
-            subst (λ (o : Option Lock). Balances w.balance (bits ++ more) o) (sym stays.lock)
-            (subst (λ (b : Option ℤ). Balances b (bits ++ more) (open_of bits before.0)) (sym balance)
+            subst (λ (o : Option Lock). Balances w.balance (bits ++ more) o) (sym (stays attempts are).lock)
+            (subst (λ (b : Option ℤ). Balances b (bits ++ more) (open_of bits before.0)) (sym pushed.balance)
             (balances_stay s v.balance bits more (open_of bits before.0) (omega (arith, long)) (k.balances before.0 before.1)));
+        counts = λ attempts are. still_counted (lane_events s bits before.0) (lane_events s (bits ++ more) attempts) v.counted w.counted (stays attempts are).events pushed.counted (k.counts before.0 before.1);
       };
   events = λ s bits events k are.
       let own = steps_exist s bits in
       let now = brings s bits own.0 k.stands own.1 in
       let after = attempts_exist s.metaframe (bits ++ more) in
       let stays = quiet s (long_of s k.stands.link) more bits own.0 own.1.long (subst (λ (n : ℕ). AreSteps s (bits ++ more) (own.0 ++ replicate n steps.Nothing)) (sym len) now.1) are.attempts after.0 are.are after.1 in
-      record { attempts = after.0; are = after.1; events_are = ap (λ xs. events ++ xs) none ∙ append-nil events ∙ are.events_are ∙ sym stays.events };
+      record { attempts = after.0; are = after.1; events_are = append-nil events ∙ are.events_are ∙ sym stays.events };
 }
 
-module _ (v u w : InspectorView) (front : List Bool) (b : Bool) (back : List Bool) (step : LaneStep) (before after : LaneReport) (given : WordEvents)
+module _ (v u : InspectorView) (width x : ℕ) (front : List Bool) (b : Bool) (back : List Bool) (step : LaneStep)
     (brings : Brings v.lock u.lock (front ++ b ∷ back) (replicate (length front) steps.Nothing ++ step ∷ replicate (length back) steps.Nothing))
-    (few : length back ≤ 55)
-    (window : (bits : List Bool) → v.window ≡ high_number bits % 2 ^ 128 → u.window ≡ high_number (bits ++ (front ++ b ∷ back)) % 2 ^ 128)
-    (balance : u.balance ≡ v.balance) (taken : u.taken ≡ u.lock.taken)
-    (first : (s : Settings) (bits : List Bool) → Stands v.lock s bits → IsReport s bits before)
-    (second : (s : Settings) (bits : List Bool) → Stands u.lock s bits → IsReport s bits after)
-    (shown : IsShown u w before after step (length back) given) where
+    (few : length back ≤ 55) (pushed : IsPushed v u width x)
+    (window : (bits : List Bool) → v.window ≡ high_number bits % 2 ^ 128 → u.window ≡ high_number (bits ++ (front ++ b ∷ back)) % 2 ^ 128) where
+  -- ---- the word that one of them may end
+
   module _ (s : Settings) (bits : List Bool) (k : Inspects v s bits) where
     seam : bits ++ (front ++ b ∷ back) ≡ (bits ++ front) ++ b ∷ back
     seam = sym (append_assoc bits front (b ∷ back))
@@ -179,49 +219,100 @@ module _ (v u w : InspectorView) (front : List Bool) (b : Bool) (back : List Boo
         old all h (subst (λ (bs : List Bool). AreAttempts s.metaframe bs all) seam j)
 
     -- the code of the word that ends with the bit
-    code_is : (q : ℕ) → q + 67 ≡ length ((bits ++ front) ++ b ∷ []) → excess 67 (ones_in 67 (u.window / 2 ^ length back % 2 ^ 67)) ≡ excess 67 (ones_in 67 (code_at ((bits ++ front) ++ b ∷ []) q))
+    code_is : (q : ℕ) → q + 67 ≡ length ((bits ++ front) ++ b ∷ []) → excess_before u (length back) ≡ excess 67 (ones_in 67 (code_at ((bits ++ front) ++ b ∷ []) q))
     code_is q e = ap (λ n. excess 67 (ones_in 67 n)) (code_before ((bits ++ front) ++ b ∷ []) back u.window (length back) q few refl e
         (window bits k.window ∙ ap (λ bs. high_number bs % 2 ^ 128) (seam ∙ sym (append_assoc (bits ++ front) (b ∷ []) back))))
 
-    told_word : (old all : List Attempt) (are : AreAttempts s.metaframe bits old) (are_all : AreAttempts s.metaframe (bits ++ (front ++ b ∷ back)) all) →
-        (new : List LaneEvent) × (lane_events s (bits ++ (front ++ b ∷ back)) all ≡ lane_events s bits old ++ new) × (events_in given ≡ new) × Balances w.balance (bits ++ (front ++ b ∷ back)) (open_of (bits ++ (front ++ b ∷ back)) all)
-    told_word old all are are_all =
+    -- the balance up to its last bit
+    balance_there : (old : List Attempt) → AreAttempts s.metaframe bits old → Balances u.balance ((bits ++ front) ++ b ∷ []) (open_of bits old)
+    balance_there old are =
         let long = long_of s k.stands.link in
-        let g = walked old all are are_all in
-        let grown : lane_events s (bits ++ (front ++ b ∷ back)) all ≡ lane_events s bits old ++ g.new = ap (λ bs. lane_events s bs all) seam ∙ g.appended in
+        subst (λ (y : Option ℤ). Balances y ((bits ++ front) ++ b ∷ []) (open_of bits old)) (sym pushed.balance)
+        (balances_stay s v.balance (bits ++ front) (b ∷ []) (open_of bits old) (omega (arith, long)) (balances_stay s v.balance bits front (open_of bits old) (omega (arith, long)) (k.balances old are)))
+
+    -- and past the bits after it
+    balance_past : (balance : Option ℤ) (all : List Attempt) (middle : Option Lock) → open_of ((bits ++ front) ++ b ∷ back) all ≡ middle → Balances balance ((bits ++ front) ++ b ∷ []) middle →
+        Balances balance (bits ++ (front ++ b ∷ back)) (open_of (bits ++ (front ++ b ∷ back)) all)
+    balance_past balance all middle e bal =
+        let long = long_of s k.stands.link in
+        subst (λ (bs : List Bool). Balances balance bs (open_of bs all)) (sym seam)
+        (subst (λ (o : Option Lock). Balances balance ((bits ++ front) ++ b ∷ back) o) (sym e)
+        (subst (λ (bs : List Bool). Balances balance bs middle) (append_assoc (bits ++ front) (b ∷ []) back)
+        (balances_stay s balance ((bits ++ front) ++ b ∷ []) back middle (omega (arith, long)) bal)))
+
+    -- its events
+    grown : (old all : List Attempt) (are : AreAttempts s.metaframe bits old) (are_all : AreAttempts s.metaframe (bits ++ (front ++ b ∷ back)) all) →
+        lane_events s (bits ++ (front ++ b ∷ back)) all ≡ lane_events s bits old ++ (walked old all are are_all).new
+    grown old all are are_all = ap (λ bs. lane_events s bs all) seam ∙ (walked old all are are_all).appended
+
+  -- ---- where it is told
+
+  module _ (w : InspectorView) (after : LaneReport) (given : WordEvents)
+      (second : (s : Settings) (bits : List Bool) → Stands u.lock s bits → IsReport s bits after)
+      (shown : IsShown u w u.counted after step (length back) given) where
+    told_word : (s : Settings) (bits : List Bool) (k : Inspects v s bits) (old all : List Attempt) (are : AreAttempts s.metaframe bits old) (are_all : AreAttempts s.metaframe (bits ++ (front ++ b ∷ back)) all) →
+        (events_in given ≡ (walked s bits k old all are are_all).new) × Balances w.balance (bits ++ (front ++ b ∷ back)) (open_of (bits ++ (front ++ b ∷ back)) all)
+    told_word s bits k old all are are_all =
+        let g = walked s bits k old all are are_all in
         let word_bits = (bits ++ front) ++ b ∷ [] in
-        let bal : Balances v.balance word_bits (open_of bits old) =
-        balances_stay s v.balance (bits ++ front) (b ∷ []) (open_of bits old) (omega (arith, long)) (balances_stay s v.balance bits front (open_of bits old) (omega (arith, long)) (k.balances old are)) in
-        let t = tells_all s k.stands.link word_bits (excess 67 (ones_in 67 (u.window / 2 ^ length back % 2 ^ 67))) (lane_events s bits old) before after
-        (reported s bits before (first s bits k.stands) old are) u.balance (open_of bits old) g.middle g.new step g.tells
-        (subst (λ (es : List LaneEvent). AreCounted es after) grown (reported s (bits ++ (front ++ b ∷ back)) after (second s (bits ++ (front ++ b ∷ back)) now.0) all are_all))
-        (subst (λ (x : Option ℤ). Balances x word_bits (open_of bits old)) (sym balance) bal) code_is in (
-          g.new,
-          grown,
-          ap events_in (shown.events ∙ ap (λ x. told step before after (unbalances (balance_before step u.balance) x)) shown.balance) ∙ t.events,
-          subst (λ (bs : List Bool). Balances w.balance bs (open_of bs all)) (sym seam)
-              (subst (λ (o : Option Lock). Balances w.balance ((bits ++ front) ++ b ∷ back) o) (sym g.lock)
-              (subst (λ (bs : List Bool). Balances w.balance bs g.middle) (append_assoc (bits ++ front) (b ∷ []) back)
-              (balances_stay s w.balance word_bits back g.middle (omega (arith, long))
-              (subst (λ (x : Option ℤ). Balances x word_bits g.middle) (sym shown.balance) t.balances)))),
+        let t = tells_all s k.stands.link word_bits (excess_before u (length back)) (lane_events s bits old) u.counted after
+        (still_counted (lane_events s bits old) (lane_events s bits old) v.counted u.counted refl pushed.counted (k.counts old are)) u.balance (open_of bits old) g.middle g.new step g.tells
+        (subst (λ (es : List LaneEvent). AreCounted es after) (grown s bits k old all are are_all) (reported s (bits ++ (front ++ b ∷ back)) after (second s (bits ++ (front ++ b ∷ back)) (now s bits k).0) all are_all))
+        (balance_there s bits k old are) (code_is s bits k) in (
+          ap events_in (shown.events ∙ ap (λ y. told step u.counted after (unbalances (balance_before step u.balance) y)) shown.balance) ∙ t.events,
+          balance_past s bits k w.balance all g.middle g.lock (subst (λ (y : Option ℤ). Balances y word_bits g.middle) (sym shown.balance) t.balances),
         )
 
-  -- where one of them may end a word, whose step is this
-  pub goes_on_word : GoesOn v w (front ++ b ∷ back) (events_in given)
-  goes_on_word = record {
-    inspects = λ s bits k.
-        let n = now s bits k in
-        record {
-          stands = subst (λ (x : LaneView). Stands x s (bits ++ (front ++ b ∷ back))) (sym shown.lock) n.0;
-          count = shown.taken ∙ taken ∙ ap (λ (x : LaneView). x.taken) (sym shown.lock);
-          window = shown.window ∙ window bits k.window;
-          balances = λ attempts are. let old = attempts_exist s.metaframe bits in (told_word s bits k old.0 attempts old.1 are).3;
-        };
-    events = λ s bits events k are.
-        let all = attempts_exist s.metaframe (bits ++ (front ++ b ∷ back)) in
-        let t = told_word s bits k are.attempts all.0 are.are all.1 in
-        record { attempts = all.0; are = all.1; events_are = ap (λ xs. events ++ xs) t.2 ∙ ap (λ xs. xs ++ t.0) are.events_are ∙ sym t.1 };
-  }
+    pub goes_on_word : GoesOn v w (front ++ b ∷ back) (events_in given)
+    goes_on_word = record {
+      inspects = λ s bits k.
+          let n = now s bits k in
+          let old = attempts_exist s.metaframe bits in
+          record {
+            stands = subst (λ (y : LaneView). Stands y s (bits ++ (front ++ b ∷ back))) (sym shown.lock) n.0;
+            count = shown.taken ∙ pushed.counts ∙ ap (λ (y : LaneView). y.taken) (sym shown.lock);
+            window = shown.window ∙ window bits k.window;
+            balances = λ attempts are. (told_word s bits k old.0 attempts old.1 are).1;
+            counts = λ attempts are.
+                subst (λ (r : LaneReport). AreCounted (lane_events s (bits ++ (front ++ b ∷ back)) attempts) r) (sym shown.counted)
+                (reported s (bits ++ (front ++ b ∷ back)) after (second s (bits ++ (front ++ b ∷ back)) n.0) attempts are);
+          };
+      events = λ s bits events k are.
+          let all = attempts_exist s.metaframe (bits ++ (front ++ b ∷ back)) in
+          let t = told_word s bits k are.attempts all.0 are.are all.1 in
+          record { attempts = all.0; are = all.1; events_are = ap (λ xs. events ++ xs) t.0 ∙ ap (λ xs. xs ++ (walked s bits k are.attempts all.0 are.are all.1).new) are.events_are ∙ sym (grown s bits k are.attempts all.0 are.are all.1) };
+    }
+
+  -- ---- where it is passed over
+
+  module _ (w : InspectorView) (passed : IsPassed u w step (length back)) where
+    passed_word : (s : Settings) (bits : List Bool) (k : Inspects v s bits) (old all : List Attempt) (are : AreAttempts s.metaframe bits old) (are_all : AreAttempts s.metaframe (bits ++ (front ++ b ∷ back)) all) →
+        (lane_events s (bits ++ (front ++ b ∷ back)) all ≡ lane_events s bits old) × Balances w.balance (bits ++ (front ++ b ∷ back)) (open_of (bits ++ (front ++ b ∷ back)) all)
+    passed_word s bits k old all are are_all =
+        let g = walked s bits k old all are are_all in
+        let word_bits = (bits ++ front) ++ b ∷ [] in
+        let t = tells_nothing s k.stands.link word_bits (excess_before u (length back)) u.balance (open_of bits old) g.middle g.new step g.tells passed.plain
+        (ap (unbalances u.balance) (sym passed.balance) ∙ passed.balanced) (balance_there s bits k old are) (code_is s bits k) in (
+          grown s bits k old all are are_all ∙ ap (λ xs. lane_events s bits old ++ xs) t.0 ∙ append-nil (lane_events s bits old),
+          balance_past s bits k w.balance all g.middle g.lock (subst (λ (y : Option ℤ). Balances y word_bits g.middle) (sym passed.balance) t.1),
+        )
+
+    pub goes_past_word : GoesOn v w (front ++ b ∷ back) []
+    goes_past_word = record {
+      inspects = λ s bits k.
+          let old = attempts_exist s.metaframe bits in
+          record {
+            stands = subst (λ (y : LaneView). Stands y s (bits ++ (front ++ b ∷ back))) (sym passed.lock) (now s bits k).0;
+            count = passed.taken ∙ pushed.counts ∙ ap (λ (y : LaneView). y.taken) (sym passed.lock);
+            window = passed.window ∙ window bits k.window;
+            balances = λ attempts are. (passed_word s bits k old.0 attempts old.1 are).1;
+            counts = λ attempts are.
+                still_counted (lane_events s bits old.0) (lane_events s (bits ++ (front ++ b ∷ back)) attempts) v.counted w.counted (passed_word s bits k old.0 attempts old.1 are).0 (passed.counted ∙ pushed.counted) (k.counts old.0 old.1);
+          };
+      events = λ s bits events k are.
+          let all = attempts_exist s.metaframe (bits ++ (front ++ b ∷ back)) in
+          record { attempts = all.0; are = all.1; events_are = append-nil events ∙ are.events_are ∙ sym (passed_word s bits k are.attempts all.0 are.are all.1).0 };
+    }
 
 -- ---- no bits
 
@@ -234,11 +325,12 @@ no_attempts s = λ p le h. no_locks s.metaframe p h
 pub no_lane_events : (s : Settings) → AreLaneEvents s [] []
 no_lane_events s = record { attempts = []; are = no_attempts s; events_are = refl }
 
-pub begins : (v : InspectorView) (s : Settings) → Stands v.lock s [] → v.taken ≡ v.lock.taken → v.window ≡ high_number [] % 2 ^ 128 → Inspects v s []
-begins v s k e f = record {
+pub begins : (v : InspectorView) (s : Settings) → Stands v.lock s [] → v.taken ≡ v.lock.taken → v.window ≡ high_number [] % 2 ^ 128 → IsReport s [] v.counted → Inspects v s []
+begins v s k e f r = record {
   stands = k;
   count = e;
   window = f;
+  counts = λ attempts are. reported s [] v.counted r attempts are;
   balances = λ attempts are. subst (λ (xs : List Attempt). Balances v.balance [] (open_of [] xs)) (determined s.metaframe [] [] attempts (no_attempts s) are) tt;
 }
 
@@ -257,30 +349,52 @@ split_at (b ∷ bits) zero h = refl
 split_at (b ∷ bits) (suc k) h = ap (λ bs. b ∷ bs) (split_at bits k (omega (arith, h)))
 
 -- of this many bits one, at this place, ends a word
-pub goes_on_cut : (v u w : InspectorView) (width place x : ℕ) (step : LaneStep) (before after : LaneReport) (given : WordEvents) → place < width → width ≤ 56 → x < 2 ^ width →
-    Brings v.lock u.lock (bits_of width x) (replicate place steps.Nothing ++ step ∷ replicate (width - 1 - place) steps.Nothing) →
-    u.window ≡ (v.window * 2 ^ width + x) % 2 ^ 128 → u.balance ≡ v.balance → u.taken ≡ u.lock.taken →
-    ((s : Settings) (bits : List Bool) → Stands v.lock s bits → IsReport s bits before) →
-    ((s : Settings) (bits : List Bool) → Stands u.lock s bits → IsReport s bits after) →
-    IsShown u w before after step (width - 1 - place) given → GoesOn v w (bits_of width x) (events_in given)
-goes_on_cut v u w width place x step before after given lt most low brings window balance taken first second shown =
-    let bits = bits_of width x in
-    let len : length bits ≡ width = length-bits_of width x in
-    let cut : take place bits ++ (get_or bits place false ∷ drop (suc place) bits) ≡ bits = split_at bits place (omega (arith, lt, len)) in
-    let front : length (take place bits) ≡ place = length-take-le place bits (omega (arith, lt, len)) in
-    let back : length (drop (suc place) bits) ≡ width - 1 - place = (let e = length-drop (suc place) bits in omega (arith, e, len, lt)) in
-    subst (λ (bs : List Bool). GoesOn v w bs (events_in given)) cut
-    (goes_on_word v u w (take place bits) (get_or bits place false) (drop (suc place) bits) step before after given
-    (subst (λ (bs : List Bool). Brings v.lock u.lock bs (replicate (length (take place bits)) steps.Nothing ++ step ∷ replicate (length (drop (suc place) bits)) steps.Nothing)) (sym cut)
-    (subst (λ (n : ℕ). Brings v.lock u.lock bits (replicate n steps.Nothing ++ step ∷ replicate (length (drop (suc place) bits)) steps.Nothing)) (sym front)
-    (subst (λ (n : ℕ). Brings v.lock u.lock bits (replicate place steps.Nothing ++ step ∷ replicate n steps.Nothing)) (sym back) brings)))
-    (omega (arith, back, most))
-    (λ so_far e. window ∙ window_more so_far v.window width x low e ∙ ap (λ bs. high_number (so_far ++ bs) % 2 ^ 128) (sym cut))
-    balance taken first second
-    (subst (λ (n : ℕ). IsShown u w before after step n given) (sym back) shown))
+module _ (v u : InspectorView) (width place x : ℕ) (step : LaneStep) (lt : place < width) (most : width ≤ 56) (low : x < 2 ^ width)
+    (brings : Brings v.lock u.lock (bits_of width x) (replicate place steps.Nothing ++ step ∷ replicate (width - 1 - place) steps.Nothing)) (pushed : IsPushed v u width x) where
+  abbrev front : List Bool
+  front = take place (bits_of width x)
+
+  abbrev bit : Bool
+  bit = get_or (bits_of width x) place false
+
+  abbrev back : List Bool
+  back = drop (suc place) (bits_of width x)
+
+  cut : front ++ bit ∷ back ≡ bits_of width x
+  cut = let len = length-bits_of width x in split_at (bits_of width x) place (omega (arith, lt, len))
+
+  front_long : length front ≡ place
+  front_long = let len = length-bits_of width x in length-take-le place (bits_of width x) (omega (arith, lt, len))
+
+  back_long : length back ≡ width - 1 - place
+  back_long = let len = length-bits_of width x in let e = length-drop (suc place) (bits_of width x) in omega (arith, e, len, lt)
+
+  few : length back ≤ 55
+  few = let b = back_long in omega (arith, b, most)
+
+  brings_cut : Brings v.lock u.lock (front ++ bit ∷ back) (replicate (length front) steps.Nothing ++ step ∷ replicate (length back) steps.Nothing)
+  brings_cut =
+      subst (λ (bs : List Bool). Brings v.lock u.lock bs (replicate (length front) steps.Nothing ++ step ∷ replicate (length back) steps.Nothing)) (sym cut)
+      (subst (λ (n : ℕ). Brings v.lock u.lock (bits_of width x) (replicate n steps.Nothing ++ step ∷ replicate (length back) steps.Nothing)) (sym front_long)
+      (subst (λ (n : ℕ). Brings v.lock u.lock (bits_of width x) (replicate place steps.Nothing ++ step ∷ replicate n steps.Nothing)) (sym back_long) brings))
+
+  window_cut : (so_far : List Bool) → v.window ≡ high_number so_far % 2 ^ 128 → u.window ≡ high_number (so_far ++ (front ++ bit ∷ back)) % 2 ^ 128
+  window_cut so_far e = pushed.window ∙ window_more so_far v.window width x low e ∙ ap (λ bs. high_number (so_far ++ bs) % 2 ^ 128) (sym cut)
+
+  -- a word that is told
+  pub goes_on_cut : (w : InspectorView) (after : LaneReport) (given : WordEvents) → ((s : Settings) (bits : List Bool) → Stands u.lock s bits → IsReport s bits after) →
+      IsShown u w u.counted after step (width - 1 - place) given → GoesOn v w (bits_of width x) (events_in given)
+  goes_on_cut w after given second shown =
+      subst (λ (bs : List Bool). GoesOn v w bs (events_in given)) cut
+      (goes_on_word v u width x front bit back step brings_cut few pushed window_cut w after given second (subst (λ (n : ℕ). IsShown u w u.counted after step n given) (sym back_long) shown))
+
+  -- one that is passed over
+  pub goes_past_cut : (w : InspectorView) → IsPassed u w step (width - 1 - place) → GoesOn v w (bits_of width x) []
+  goes_past_cut w passed =
+      subst (λ (bs : List Bool). GoesOn v w bs []) cut
+      (goes_past_word v u width x front bit back step brings_cut few pushed window_cut w (subst (λ (n : ℕ). IsPassed u w step n) (sym back_long) passed))
 
 -- none of them ends a word
-pub goes_on_none : (v w : InspectorView) (width x : ℕ) (given : WordEvents) → x < 2 ^ width → Brings v.lock w.lock (bits_of width x) (replicate width steps.Nothing) →
-    w.window ≡ (v.window * 2 ^ width + x) % 2 ^ 128 → w.balance ≡ v.balance → w.taken ≡ w.lock.taken → events_in given ≡ [] → GoesOn v w (bits_of width x) (events_in given)
-goes_on_none v w width x given low brings window balance taken none =
-    goes_on_quiet v w width (bits_of width x) given (length-bits_of width x) brings taken (λ so_far e. window ∙ window_more so_far v.window width x low e) balance none
+pub goes_on_none : (v w : InspectorView) (width x : ℕ) → x < 2 ^ width → Brings v.lock w.lock (bits_of width x) (replicate width steps.Nothing) → IsPushed v w width x → GoesOn v w (bits_of width x) []
+goes_on_none v w width x low brings pushed =
+    goes_on_quiet v w width x (bits_of width x) (length-bits_of width x) brings pushed (λ so_far e. pushed.window ∙ window_more so_far v.window width x low e)

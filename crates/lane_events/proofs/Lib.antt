@@ -10,6 +10,7 @@ mod Rise
 mod WorkedEventsHold
 mod LastBits
 mod Telling
+mod PlainWords
 mod Balances
 mod Walking
 mod Inspecting

@@ -35,7 +35,7 @@ risen kind old new a b e f = let g = count_append kind old new in omega (arith, 
 -- ---- a covered word
 
 -- the last place of a metaframe is that of its Diagnostic word
-last_place : (s : Settings) (p : ℕ) → IsLink s → p < s.metaframe → is_diagnostic_place (role_of s p) ≡ (p == s.metaframe - 1)
+pub last_place : (s : Settings) (p : ℕ) → IsLink s → p < s.metaframe → is_diagnostic_place (role_of s p) ≡ (p == s.metaframe - 1)
 unfolding role_of
 last_place s p link lt =
     let long = link.metaframe.0 in

@@ -1,5 +1,5 @@
 -- What an inspector keeps of the bits of a lane.
-use Rattle.std.specs.Prelude.{ℕ, ℤ, ◌≡◌, ◌≤◌, ◌+◌, ◌*◌, ◌/◌, ◌%◌, ◌^◌, Bool, List, [], ◌∷◌, ◌++◌, length, map, filter, Option, Some, None, is_some, if◌then◌else◌}
+use Rattle.std.specs.Prelude.{ℕ, ℤ, ◌≡◌, ◌≤◌, ◌+◌, ◌*◌, ◌/◌, ◌%◌, ◌^◌, Bool, true, false, List, [], ◌∷◌, ◌++◌, length, map, filter, Option, Some, None, is_some, if◌then◌else◌}
 use Rattle.std.specs.List.{list_any, range_with_len}
 use Rattle.std.specs.Int.Count.{ones_in}
 use Rattle.lk_base.specs.Link.{Settings}
@@ -15,8 +15,9 @@ use Rattle.lane_events.specs.declared.types.EventKind.{EventKind}
 use Rattle.lane_events.specs.declared.types.EventKind.TheVariants as kinds
 use Rattle.lane_events.specs.declared.types.LaneEvent.{LaneEvent}
 use Rattle.lane_events.specs.declared.word_events.WordEvents.{WordEvents}
-use Rattle.lane_events.specs.Events.{AreLaneEvents, all_kinds, is_unbalanced}
-use Rattle.lane_events.specs.Steps.{balance_before, balance_behind, told, unbalances}
+use Rattle.lane_events.specs.EventLaw.{AreCounted}
+use Rattle.lane_events.specs.Events.{AreLaneEvents, all_kinds, is_unbalanced, lane_events}
+use Rattle.lane_events.specs.Steps.{balance_before, balance_behind, is_plain, told, unbalances}
 
 -- ---- the events of one word
 
@@ -65,6 +66,8 @@ pub record InspectorView : Type 0 where
   pub window : ℕ
   -- the balance of the lock that goes on, if one does
   pub balance : Option ℤ
+  -- what the events so far are counted by
+  pub counted : LaneReport
 
 -- the balance is that of the lock that goes on, if one does, whose words are there
 abbrev pub Balances : Option ℤ → List Bool → Option Lock → Type 0
@@ -77,11 +80,24 @@ pub record Inspects (v : InspectorView) (s : Settings) (bits : List Bool) : Type
   pub count : v.taken ≡ v.lock.taken
   pub window : v.window ≡ high_number bits % 2 ^ 128
   pub balances : (attempts : List Attempt) → AreAttempts s.metaframe bits attempts → Balances v.balance bits (open_of bits attempts)
+  pub counts : (attempts : List Attempt) → AreAttempts s.metaframe bits attempts → AreCounted (lane_events s bits attempts) v.counted
 
 -- events of further bits were found: with those that were given before, they are all events of the bits so far
 abbrev pub Finds : InspectorView → InspectorView → List Bool → List LaneEvent → List LaneEvent → Type 0
 Finds v w more before after = (s : Settings) (bits : List Bool) (given : List LaneEvent) → Inspects v s bits → AreLaneEvents s bits (given ++ before) →
     Inspects w s (bits ++ more) × AreLaneEvents s (bits ++ more) (given ++ after)
+
+-- this many bits more came, which are this number: nothing else has changed but the locks
+pub record IsPushed (v w : InspectorView) (count number : ℕ) : Type 0 where
+  pub taken : w.taken ≡ v.taken + count
+  pub counts : w.taken ≡ w.lock.taken
+  pub window : w.window ≡ (v.window * 2 ^ count + number) % 2 ^ 128
+  pub balance : w.balance ≡ v.balance
+  pub counted : w.counted ≡ v.counted
+
+-- the ones less the zeros in the code of the word after which this many bits came
+abbrev pub excess_before : InspectorView → ℕ → ℤ
+excess_before v further = excess 67 (ones_in 67 (v.window / 2 ^ further % 2 ^ 67))
 
 -- the word of a step was told, after which this many bits came: nothing of the locks and the last bits has changed, and the events and
 -- the balance are those of the step, with these reports before and after it
@@ -89,5 +105,16 @@ pub record IsShown (v w : InspectorView) (before after : LaneReport) (step : Lan
   pub lock : w.lock ≡ v.lock
   pub taken : w.taken ≡ v.taken
   pub window : w.window ≡ v.window
-  pub balance : w.balance ≡ balance_behind step (balance_before step v.balance) (excess 67 (ones_in 67 (v.window / 2 ^ further % 2 ^ 67)))
+  pub balance : w.balance ≡ balance_behind step (balance_before step v.balance) (excess_before v further)
+  pub counted : w.counted ≡ after
   pub events : given ≡ told step before after (unbalances (balance_before step v.balance) w.balance)
+
+-- the word of a step was passed over, after which this many bits came: it shows nothing but a balance, and no balance either
+pub record IsPassed (v w : InspectorView) (step : LaneStep) (further : ℕ) : Type 0 where
+  pub plain : is_plain step ≡ true
+  pub lock : w.lock ≡ v.lock
+  pub taken : w.taken ≡ v.taken
+  pub window : w.window ≡ v.window
+  pub balance : w.balance ≡ balance_behind step v.balance (excess_before v further)
+  pub balanced : unbalances v.balance w.balance ≡ false
+  pub counted : w.counted ≡ v.counted

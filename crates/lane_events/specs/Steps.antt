@@ -2,6 +2,7 @@
 use Rattle.std.specs.Prelude.{ℕ, ℤ, pos, ◌==◌, Bool, true, false, not, ◌&&◌, Option, Some, is_none, is_some}
 use Rattle.lk_base.specs.declared.word.RxWord.{RxWord}
 use Rattle.lk_base.specs.declared.word.RxWord.TheVariants.{Control}
+use Rattle.lk_base.specs.Words.{is_bad}
 use Rattle.lane_model.specs.declared.role.Role.{Role}
 use Rattle.lane_model.specs.declared.role.Role.TheVariants as roles
 use Rattle.lane_model.specs.Framing.{sync_payload}
@@ -85,6 +86,23 @@ told (steps.Word word role at) before after unbalances = covered_word at word ro
 told (steps.Locked at) before after unbalances = covered_word at (Control sync_payload) roles.Sync before after unbalances
 told (steps.Lost why at) before after unbalances = losing_word at why (not (after.unframed == before.unframed))
 told steps.Ended before after unbalances = no_events 0
+
+-- ---- the steps that show nothing but a balance
+
+abbrev pub is_payload_place : Role → Bool
+is_payload_place roles.Sync = false
+is_payload_place roles.State = false
+is_payload_place roles.Skip = false
+is_payload_place (roles.Payload n) = true
+is_payload_place roles.Diagnostic = false
+
+-- that of no word, and that of a payload word with a legal header
+abbrev pub is_plain : LaneStep → Bool
+is_plain steps.Nothing = true
+is_plain (steps.Word word role at) = is_payload_place role && not (is_bad word)
+is_plain (steps.Locked at) = false
+is_plain (steps.Lost why at) = false
+is_plain steps.Ended = false
 
 -- ---- the balance
 

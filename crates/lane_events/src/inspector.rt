@@ -1,18 +1,19 @@
-ghost use Rattle.std.specs.Prelude.{◌≡◌, ◌<◌, ◌≤◌, ◌+◌, ◌*◌, ◌^◌, ◌++◌, Bool, List, [], length, OnOk, IfOk};
+ghost use Rattle.std.specs.Prelude.{◌≡◌, ◌<◌, ◌≤◌, ◌+◌, ◌-◌, ◌*◌, ◌/◌, ◌%◌, ◌^◌, ◌++◌, true, false, Bool, List, [], length, take, OnOk, IfOk, IfSome};
 ghost use Rattle.lk_base.specs.Checksum.{bits_of, bits_of_bytes};
 ghost use Rattle.lk_base.specs.Link.{Settings};
+ghost use Rattle.lane_lock.specs.Bytes.{Brings, steps_of_bits};
 ghost use Rattle.lane_lock.specs.Standing.{IsReport};
 ghost use Rattle.lane_events.specs.declared.types.LaneEvent.{LaneEvent as Event};
 ghost use Rattle.lane_events.specs.Events.{AreLaneEvents};
-ghost use Rattle.lane_events.specs.Inspection.{Finds, Inspects, IsShown, events_in};
+ghost use Rattle.lane_events.specs.Inspection.{Finds, Inspects, IsPassed, IsPushed, IsShown, events_in};
 
-use crate::told::{balance_after, balance_before, told};
+use crate::told::{balance_after, balance_before, is_plain, told};
 use crate::types::LaneEvent;
 use crate::windows::{code_in, number_at, pushed};
 use crate::word_events::WordEvents;
 use lane_lock::{Completed, LaneLock};
 use lk_base::{Link, OutOfMemory};
-use lock_model::LaneReport;
+use lock_model::{LaneReport, LaneStep};
 use std::alloc::Global;
 use std::marker::Model;
 
@@ -24,12 +25,12 @@ const PIECE: usize = 7;
 pub struct LaneInspector {
     /// The locks of the bits so far.
     lock: LaneLock,
-    /// The number of bits that came.
-    taken: u64,
     /// The last 128 bits, the latest in bit 0.
     window: u128,
     /// The ones less the zeros in the codes of the lock that goes on, where they were never unbalanced.
     balance: Option<i32>,
+    /// The report after the last word that was not passed over. It counts what the report over all bits so far counts.
+    counted: LaneReport,
 }
 
 impl Model for LaneInspector {
@@ -38,9 +39,9 @@ impl Model for LaneInspector {
 
     ghost Value = { InspectorView };
 
-    ghost view = { λ a. record { lock = a.lock; taken = a.taken; window = a.window; balance = a.balance } };
+    ghost view = { λ a. record { lock = a.lock; taken = a.lock.taken; window = a.window; balance = a.balance; counted = a.counted } };
 
-    ghost invariant = { λ a. (a.taken ≡ a.lock.taken) × IfSome a.balance (λ n. (negsuc 128 ≤ℤ n) × (n ≤ℤ pos 129)) };
+    ghost invariant = { λ a. IfSome a.balance (λ n. (negsuc 128 ≤ℤ n) × (n ≤ℤ pos 129)) };
 }
 
 impl LaneInspector {
@@ -49,11 +50,12 @@ impl LaneInspector {
         ensures { IfOk result (λ v. Inspects v link.now [] × (v.taken ≡ 0) × AreLaneEvents link.now [] []) }
     {
         let lock = LaneLock::new(alloc, link)?;
+        let counted = lock.report();
         Ok(LaneInspector {
             lock,
-            taken: 0,
             window: 0,
             balance: None,
+            counted,
         })
     }
 
@@ -70,35 +72,97 @@ impl LaneInspector {
         ensures events { (s : Settings) (so_far : List Bool) (events : List Event) → Inspects self.old s so_far → AreLaneEvents s so_far events →
             AreLaneEvents s (so_far ++ bits_of (8 * count) bits) (events ++ events_in result) }
     {
-        let before = self.lock.report();
-        let completed = self.lock.take_bytes(bits, count);
-        self.window = pushed(self.window, bits, 8 * count);
-        self.taken += 8 * count as u64;
-        match completed {
+        match self.push(bits, count) {
             None => WordEvents::none(0),
             Some(word) => {
                 let after = self.lock.report();
-                self.shown(&before, &after, word, 8 * count - 1 - word.place)
+                self.shown(&after, word.step, 8 * count - 1 - word.place)
             }
         }
     }
 
-    // The events of a word after which this many bits came, given the reports before and after it.
-    fn shown(
-        &mut self,
-        before: &LaneReport,
-        after: &LaneReport,
-        word: Completed,
-        further: u32,
-    ) -> WordEvents
-        requires { further ≤ 55 }
-        ensures { IsShown self.old self.new before.now after.now word.step further result }
+    // Takes the next bytes, at most seven, and gives the word that ends within them. Its step is neither told nor passed over yet.
+    #[inline(always)]
+    fn push(&mut self, bits: u64, count: u32) -> Option<Completed>
+        requires some { 1 ≤ count }
+        requires most { count ≤ 7 }
+        requires bits { bits < 2 ^ (8 * count) }
+        requires few { self.old.taken + 8 * count ≤ 2 ^ 60 }
+        ensures place { IfSome result (λ c. c.place < 8 * count) }
+        ensures pushed { IsPushed self.old self.new (8 * count) bits }
+        ensures stands { Brings self.old.lock self.new.lock (bits_of (8 * count) bits) (steps_of_bits (8 * count) result) }
     {
-        let code = code_in(self.window, further);
-        let started = balance_before(word.step, self.balance);
-        self.balance = balance_after(word.step, started, code);
+        let completed = self.lock.take_bytes(bits, count);
+        self.window = pushed(self.window, bits, 8 * count);
+        completed
+    }
+
+    // The code of the word after which this many bits came.
+    fn code(&self, further: u32) -> u128
+        requires { further ≤ 55 }
+        ensures value { result ≡ self.now.window / 2 ^ further % 2 ^ 67 }
+        ensures below { result < 2 ^ 67 }
+    {
+        code_in(self.window, further)
+    }
+
+    // The events of the word of a step after which this many bits came, given the report after it.
+    fn shown(&mut self, after: &LaneReport, step: LaneStep, further: u32) -> WordEvents
+        requires { further ≤ 55 }
+        ensures { IsShown self.old self.new self.old.counted after.now step further result }
+    {
+        let code = self.code(further);
+        let started = balance_before(step, self.balance);
+        self.balance = balance_after(step, started, code);
         let unbalances = started.is_some() && self.balance.is_none();
-        told(word.step, before, after, unbalances)
+        let events = told(step, &self.counted, after, unbalances);
+        self.counted = *after;
+        events
+    }
+
+    // Passes over the word of a step after which this many bits came, if it shows nothing, and returns whether it does.
+    #[inline(always)]
+    fn passes(&mut self, step: LaneStep, further: u32) -> bool
+        requires { further ≤ 55 }
+        ensures passed { result ≡ true → IsPassed self.old self.new step further }
+        ensures other { result ≡ false → self.new ≡ self.old }
+    {
+        if !is_plain(step) {
+            return false;
+        }
+        let balance = balance_after(step, self.balance, self.code(further));
+        let unbalances = self.balance.is_some() && balance.is_none();
+        if !unbalances {
+            self.balance = balance;
+        }
+        !unbalances
+    }
+
+    // Takes the next bytes, at most seven, and appends the events of the word that ends within them, if one does.
+    #[inline(always)]
+    fn append(
+        &mut self,
+        bits: u64,
+        count: u32,
+        found: &mut Vec<LaneEvent>,
+    ) -> Result<(), OutOfMemory>
+        requires some { 1 ≤ count }
+        requires most { count ≤ 7 }
+        requires bits { bits < 2 ^ (8 * count) }
+        requires few { self.old.taken + 8 * count ≤ 2 ^ 60 }
+        ensures taken { OnOk result (self.new.taken ≡ self.old.taken + 8 * count) }
+        ensures finds { OnOk result (Finds self.old self.new (bits_of (8 * count) bits) found.old.items found.new.items) }
+        ensures few { OnOk result (length found.new.items ≤ length found.old.items + 12) }
+    {
+        let Some(word) = self.push(bits, count) else {
+            return Ok(());
+        };
+        let further = 8 * count - 1 - word.place;
+        if self.passes(word.step, further) {
+            return Ok(());
+        }
+        let after = self.lock.report();
+        self.shown(&after, word.step, further).append_to(found)
     }
 
     /// Takes the next byte of the lane, and returns the events of the word that ends within it, if one does. At most 2^60 bits come in
@@ -121,14 +185,32 @@ impl LaneInspector {
         ensures finds { OnOk result (Finds self.old self.new (bits_of_bytes bytes.now) found.old.items found.new.items) }
         ensures few { OnOk result (length found.new.items ≤ length found.old.items + 12 * length bytes.now) }
     {
-        let mut at = 0;
-        while at < bytes.len() {
-            let count = (bytes.len() - at).min(PIECE);
-            let word = self.take(number_at(bytes, at, count), count as u32);
-            word.append_to(found)?;
-            at += count;
+        let at = self.inspect_sevens(bytes, found)?;
+        let left = bytes.len() - at;
+        if left == 0 {
+            return Ok(());
         }
-        Ok(())
+        self.append(number_at(bytes, at, left), left as u32, found)
+    }
+
+    // Takes bytes in pieces of seven, while more than seven are left, and returns how many it took.
+    fn inspect_sevens(
+        &mut self,
+        bytes: &[u8],
+        found: &mut Vec<LaneEvent>,
+    ) -> Result<usize, OutOfMemory>
+        requires few { self.old.taken + 8 * length bytes.now ≤ 2 ^ 60 }
+        ensures rest { IfOk result (λ at. (at ≤ length bytes.now) × (length bytes.now ≤ at + 7)) }
+        ensures taken { IfOk result (λ at. self.new.taken ≡ self.old.taken + 8 * at) }
+        ensures finds { IfOk result (λ at. Finds self.old self.new (bits_of_bytes (take at bytes.now)) found.old.items found.new.items) }
+        ensures few { IfOk result (λ at. length found.new.items ≤ length found.old.items + 12 * at) }
+    {
+        let mut at = 0;
+        while bytes.len() - at > PIECE {
+            self.append(number_at(bytes, at, PIECE), PIECE as u32, found)?;
+            at += PIECE;
+        }
+        Ok(at)
     }
 
     /// The report over the bits so far.
