@@ -292,9 +292,9 @@ module _ (v u : InspectorView) (width x : ℕ) (front : List Bool) (b : Bool) (b
         let g = walked s bits k old all are are_all in
         let word_bits = (bits ++ front) ++ b ∷ [] in
         let t = tells_nothing s k.stands.link word_bits (excess_before u (length back)) u.balance (open_of bits old) g.middle g.new step g.tells passed.plain
-        (ap (unbalances u.balance) (sym passed.balance) ∙ passed.balanced) (balance_there s bits k old are) (code_is s bits k) in (
+        (ap (unbalances u.balance) (sym passed.only_counted.balance) ∙ passed.only_counted.balanced) (balance_there s bits k old are) (code_is s bits k) in (
           grown s bits k old all are are_all ∙ ap (λ xs. lane_events s bits old ++ xs) t.0 ∙ append-nil (lane_events s bits old),
-          balance_past s bits k w.balance all g.middle g.lock (subst (λ (y : Option ℤ). Balances y word_bits g.middle) (sym passed.balance) t.1),
+          balance_past s bits k w.balance all g.middle g.lock (subst (λ (y : Option ℤ). Balances y word_bits g.middle) (sym passed.only_counted.balance) t.1),
         )
 
     pub goes_past_word : GoesOn v w (front ++ b ∷ back) []
@@ -302,12 +302,12 @@ module _ (v u : InspectorView) (width x : ℕ) (front : List Bool) (b : Bool) (b
       inspects = λ s bits k.
           let old = attempts_exist s.metaframe bits in
           record {
-            stands = subst (λ (y : LaneView). Stands y s (bits ++ (front ++ b ∷ back))) (sym passed.lock) (now s bits k).0;
-            count = passed.taken ∙ pushed.counts ∙ ap (λ (y : LaneView). y.taken) (sym passed.lock);
-            window = passed.window ∙ window bits k.window;
+            stands = subst (λ (y : LaneView). Stands y s (bits ++ (front ++ b ∷ back))) (sym passed.only_counted.lock) (now s bits k).0;
+            count = passed.only_counted.taken ∙ pushed.counts ∙ ap (λ (y : LaneView). y.taken) (sym passed.only_counted.lock);
+            window = passed.only_counted.window ∙ window bits k.window;
             balances = λ attempts are. (passed_word s bits k old.0 attempts old.1 are).1;
             counts = λ attempts are.
-                still_counted (lane_events s bits old.0) (lane_events s (bits ++ (front ++ b ∷ back)) attempts) v.counted w.counted (passed_word s bits k old.0 attempts old.1 are).0 (passed.counted ∙ pushed.counted) (k.counts old.0 old.1);
+                still_counted (lane_events s bits old.0) (lane_events s (bits ++ (front ++ b ∷ back)) attempts) v.counted w.counted (passed_word s bits k old.0 attempts old.1 are).0 (passed.only_counted.counted ∙ pushed.counted) (k.counts old.0 old.1);
           };
       events = λ s bits events k are.
           let all = attempts_exist s.metaframe (bits ++ (front ++ b ∷ back)) in

@@ -10,7 +10,7 @@ use Rattle.lock_model.specs.declared.types.LaneStep.{LaneStep}
 use Rattle.lock_model.specs.Locks.{Attempt, AreAttempts, code_at}
 use Rattle.lock_model.specs.Received.{Lock, lock_of}
 use Rattle.lane_lock.specs.Lane.{LaneView}
-use Rattle.lane_lock.specs.Standing.{Stands}
+use Rattle.lane_lock.specs.Standing.{IsReport, Stands}
 use Rattle.lane_events.specs.declared.types.EventKind.{EventKind}
 use Rattle.lane_events.specs.declared.types.EventKind.TheVariants as kinds
 use Rattle.lane_events.specs.declared.types.LaneEvent.{LaneEvent}
@@ -109,12 +109,24 @@ pub record IsShown (v w : InspectorView) (before after : LaneReport) (step : Lan
   pub counted : w.counted ≡ after
   pub events : given ≡ told step before after (unbalances (balance_before step v.balance) w.balance)
 
--- the word of a step was passed over, after which this many bits came: it shows nothing but a balance, and no balance either
-pub record IsPassed (v w : InspectorView) (step : LaneStep) (further : ℕ) : Type 0 where
-  pub plain : is_plain step ≡ true
+-- the word of a step was told, after which this many bits came, with the report after it, and its events appended
+pub record IsTold (v w : InspectorView) (step : LaneStep) (further : ℕ) (before after : List LaneEvent) : Type 0 where
+  pub report : LaneReport
+  pub is_report : (s : Settings) (bits : List Bool) → Stands v.lock s bits → IsReport s bits report
+  pub given : WordEvents
+  pub shown : IsShown v w v.counted report step further given
+  pub appended : after ≡ before ++ events_in given
+
+-- nothing has changed but the balance, which is this, and no code unbalanced the lock
+pub record IsCounted (v w : InspectorView) (now : Option ℤ) : Type 0 where
   pub lock : w.lock ≡ v.lock
   pub taken : w.taken ≡ v.taken
   pub window : w.window ≡ v.window
-  pub balance : w.balance ≡ balance_behind step v.balance (excess_before v further)
+  pub balance : w.balance ≡ now
   pub balanced : unbalances v.balance w.balance ≡ false
   pub counted : w.counted ≡ v.counted
+
+-- the word of a step was passed over, after which this many bits came: it shows nothing but a balance, and no balance either
+pub record IsPassed (v w : InspectorView) (step : LaneStep) (further : ℕ) : Type 0 where
+  pub plain : is_plain step ≡ true
+  pub only_counted : IsCounted v w (balance_behind step v.balance (excess_before v further))

@@ -96,10 +96,14 @@ is_payload_place roles.Skip = false
 is_payload_place (roles.Payload n) = true
 is_payload_place roles.Diagnostic = false
 
--- that of no word, and that of a payload word with a legal header
+-- a payload word with a legal header
+abbrev pub is_plain_word : RxWord → Role → Bool
+is_plain_word word role = is_payload_place role && not (is_bad word)
+
+-- no word, and a covered word that is one
 abbrev pub is_plain : LaneStep → Bool
 is_plain steps.Nothing = true
-is_plain (steps.Word word role at) = is_payload_place role && not (is_bad word)
+is_plain (steps.Word word role at) = is_plain_word word role
 is_plain (steps.Locked at) = false
 is_plain (steps.Lost why at) = false
 is_plain steps.Ended = false

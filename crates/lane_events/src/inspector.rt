@@ -5,8 +5,10 @@ ghost use Rattle.lane_lock.specs.Bytes.{Brings, steps_of_bits};
 ghost use Rattle.lane_lock.specs.Standing.{IsReport};
 ghost use Rattle.lane_events.specs.declared.types.LaneEvent.{LaneEvent as Event};
 ghost use Rattle.lane_events.specs.Events.{AreLaneEvents};
-ghost use Rattle.lane_events.specs.Inspection.{Finds, Inspects, IsPassed, IsPushed, IsShown, events_in};
+ghost use Rattle.lane_events.specs.Balance.{balance_after as balance_with};
+ghost use Rattle.lane_events.specs.Inspection.{Finds, Inspects, IsCounted, IsPassed, IsPushed, IsShown, IsTold, events_in, excess_before};
 
+use crate::balance::balance_with;
 use crate::told::{balance_after, balance_before, is_plain, told};
 use crate::types::LaneEvent;
 use crate::windows::{code_in, number_at, pushed};
@@ -92,9 +94,8 @@ impl LaneInspector {
         ensures pushed { IsPushed self.old self.new (8 * count) bits }
         ensures stands { Brings self.old.lock self.new.lock (bits_of (8 * count) bits) (steps_of_bits (8 * count) result) }
     {
-        let completed = self.lock.take_bytes(bits, count);
         self.window = pushed(self.window, bits, 8 * count);
-        completed
+        self.lock.take_bytes(bits, count)
     }
 
     // The code of the word after which this many bits came.
@@ -127,15 +128,50 @@ impl LaneInspector {
         ensures passed { result ≡ true → IsPassed self.old self.new step further }
         ensures other { result ≡ false → self.new ≡ self.old }
     {
-        if !is_plain(step) {
+        match step {
+            LaneStep::Nothing => true,
+            LaneStep::Word(word, role, _) => {
+                if !is_plain(word, role) {
+                    return false;
+                }
+                self.keeps_balance(further)
+            }
+            _ => false,
+        }
+    }
+
+    // Counts the code of the covered word after which this many bits came, unless it unbalances the lock. Returns whether it does not.
+    #[inline(always)]
+    fn keeps_balance(&mut self, further: u32) -> bool
+        requires { further ≤ 55 }
+        ensures kept { result ≡ true → IsCounted self.old self.new (balance_with self.old.balance (excess_before self.old further)) }
+        ensures other { result ≡ false → self.new ≡ self.old }
+    {
+        let Some(before) = self.balance else {
+            return true;
+        };
+        let balance = balance_with(Some(before), self.code(further));
+        if balance.is_none() {
             return false;
         }
-        let balance = balance_after(step, self.balance, self.code(further));
-        let unbalances = self.balance.is_some() && balance.is_none();
-        if !unbalances {
-            self.balance = balance;
-        }
-        !unbalances
+        self.balance = balance;
+        true
+    }
+
+    // Appends the events of the word of a step after which this many bits came. Few words come to it: it is kept out of the loops.
+    #[inline(never)]
+    fn tell(
+        &mut self,
+        step: LaneStep,
+        further: u32,
+        found: &mut Vec<LaneEvent>,
+    ) -> Result<(), OutOfMemory>
+        requires { further ≤ 55 }
+        ensures told { OnOk result (IsTold self.old self.new step further found.old.items found.new.items) }
+        ensures few { OnOk result (length found.new.items ≤ length found.old.items + 12) }
+    {
+        let after = self.lock.report();
+        self.shown(&after, step, further).append_to(found)
     }
 
     // Takes the next bytes, at most seven, and appends the events of the word that ends within them, if one does.
@@ -161,8 +197,7 @@ impl LaneInspector {
         if self.passes(word.step, further) {
             return Ok(());
         }
-        let after = self.lock.report();
-        self.shown(&after, word.step, further).append_to(found)
+        self.tell(word.step, further, found)
     }
 
     /// Takes the next byte of the lane, and returns the events of the word that ends within it, if one does. At most 2^60 bits come in

@@ -1,9 +1,8 @@
 ghost use Rattle.std.specs.Prelude.{◌≡◌, ◌<◌, ◌^◌, ◌≤ℤ◌, ◌==◌, not, pos, negsuc, IfSome};
 ghost use Rattle.std.specs.Int.Count.{ones_in};
-ghost use Rattle.lk_base.specs.Words.{is_bad as bad_of};
 ghost use Rattle.lane_model.specs.Coding.{excess};
 ghost use Rattle.lane_events.specs.Events.{is_no_skip as no_skip, is_unhealthy as unhealthy};
-ghost use Rattle.lane_events.specs.Steps.{balance_before as before_step, balance_behind, covered_word, is_plain as plain_step, is_payload_place, losing_word, told as told_of};
+ghost use Rattle.lane_events.specs.Steps.{balance_before as before_step, balance_behind, covered_word, is_plain_word as plain_word, losing_word, told as told_of};
 
 use crate::balance::balance_with;
 use crate::word_events::WordEvents;
@@ -34,17 +33,12 @@ pub fn told(step: LaneStep, before: &LaneReport, after: &LaneReport, unbalances:
     }
 }
 
-/// Whether a step shows nothing but a balance: it is that of no word, or of a payload word with a legal header.
-pub fn is_plain(step: LaneStep) -> bool
-    ensures { result ≡ plain_step step }
+/// Whether a covered word shows nothing but a balance: a payload word with a legal header.
+pub fn is_plain(word: RxWord, role: Role) -> bool
+    ensures { result ≡ plain_word word role }
 {
-    match step {
-        LaneStep::Nothing => true,
-        LaneStep::Word(word, role, _) => is_payload(role) && !is_bad(word),
-        LaneStep::Locked(_) => false,
-        LaneStep::Lost(_, _) => false,
-        LaneStep::Ended => false,
-    }
+    let bad = matches!(word, RxWord::Bad);
+    matches!(role, Role::Payload(_)) && !bad
 }
 
 /// The balance before the word of a step: that of no code at a declaring Sync.
@@ -133,20 +127,6 @@ fn lost(at: u64, why: LostWhy, unframed: bool) -> WordEvents
         lost_state: !unframed && state,
         unframed,
     }
-}
-
-// Whether a word is a payload word, by what it is for.
-fn is_payload(role: Role) -> bool
-    ensures { result ≡ is_payload_place role }
-{
-    matches!(role, Role::Payload(_))
-}
-
-// Whether a word's header is neither that of data nor that of control.
-fn is_bad(word: RxWord) -> bool
-    ensures { result ≡ bad_of word }
-{
-    matches!(word, RxWord::Bad)
 }
 
 // Whether a descrambled word is neither Bad nor the Skip word that is sent.

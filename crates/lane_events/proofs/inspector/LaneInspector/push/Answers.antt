@@ -7,5 +7,5 @@ use Rattle.lane_events.proofs.inspector.LaneInspector.push.Goals as goal
 
 pub returns-clause-stands : goal.returns-clause-stands
 returns-clause-stands c =
-    subst (λ (v : InspectorView). Brings v.lock c.take_bytes-completed.new.self (bits_of (8 * c.args.count) c.args.bits) (steps_of_bits (8 * c.args.count) c.take_bytes-completed.result)) c.self.view_is
-    c.take_bytes-completed.ensures.stands
+    subst (λ (v : InspectorView). Brings v.lock c.take_bytes.new.self (bits_of (8 * c.args.count) c.args.bits) (steps_of_bits (8 * c.args.count) c.take_bytes.result)) c.self.view_is
+    c.take_bytes.ensures.stands
