@@ -128,16 +128,13 @@ impl LaneInspector {
         ensures passed { result ≡ true → IsPassed self.old self.new step further }
         ensures other { result ≡ false → self.new ≡ self.old }
     {
-        match step {
-            LaneStep::Nothing => true,
-            LaneStep::Word(word, role, _) => {
-                if !is_plain(word, role) {
-                    return false;
-                }
-                self.keeps_balance(further)
-            }
-            _ => false,
+        let LaneStep::Word(word, role, _) = step else {
+            return matches!(step, LaneStep::Nothing);
+        };
+        if !is_plain(word, role) {
+            return false;
         }
+        self.keeps_balance(further)
     }
 
     // Counts the code of the covered word after which this many bits came, unless it unbalances the lock. Returns whether it does not.

@@ -37,8 +37,10 @@ pub fn told(step: LaneStep, before: &LaneReport, after: &LaneReport, unbalances:
 pub fn is_plain(word: RxWord, role: Role) -> bool
     ensures { result ≡ plain_word word role }
 {
-    let bad = matches!(word, RxWord::Bad);
-    matches!(role, Role::Payload(_)) && !bad
+    if matches!(word, RxWord::Bad) {
+        return false;
+    }
+    matches!(role, Role::Payload(_))
 }
 
 /// The balance before the word of a step: that of no code at a declaring Sync.
