@@ -66,7 +66,7 @@ pub record InspectorView : Type 0 where
   pub window : ℕ
   -- the balance of the lock that goes on, if one does
   pub balance : Option ℤ
-  -- what the events so far are counted by
+  -- a report that counts the events so far
   pub counted : LaneReport
 
 -- the balance is that of the lock that goes on, if one does, whose words are there
@@ -117,7 +117,7 @@ pub record IsTold (v w : InspectorView) (step : LaneStep) (further : ℕ) (befor
   pub shown : IsShown v w v.counted report step further given
   pub appended : after ≡ before ++ events_in given
 
--- nothing has changed but the balance, which is this, and no code unbalanced the lock
+-- nothing has changed but the balance, which is this, and it was not lost
 pub record IsCounted (v w : InspectorView) (now : Option ℤ) : Type 0 where
   pub lock : w.lock ≡ v.lock
   pub taken : w.taken ≡ v.taken
