@@ -1,5 +1,5 @@
 -- How a live transmitter goes on.
-use Rattle.std.proofs.Common.{ℕ, ◌≡◌, ◌⊎◌, ◌↔◌, inl, inr, refl, sym, ap, ◌∙◌, subst, ◌+◌, ◌-◌, ◌*◌, ◌/◌, ◌%◌, ◌<◌, ◌≤◌, Bool, true, false, if◌then◌else◌, nat_le, List, [], ◌++◌, length, get_or, arith, append_assoc, append-nil, length-append, Option, Some, None, is_some, Result, Ok, Err, OnOk, OnErr, is_err, MatchOption}
+use Rattle.std.proofs.Common.{ℕ, zero, suc, ◌≡◌, ◌⊎◌, ◌↔◌, inl, inr, refl, sym, ap, ◌∙◌, subst, ◌+◌, ◌-◌, ◌*◌, ◌/◌, ◌%◌, ◌<◌, ◌≤◌, Bool, true, false, if◌then◌else◌, nat_le, List, [], ◌∷◌, ◌++◌, length, map, get_or, arith, append_assoc, append-nil, length-append, Option, Some, None, is_some, Result, Ok, Err, OnOk, OnErr, is_err, MatchOption}
 use Rattle.std.specs.Option.{option_or}
 use Rattle.std.proofs.Math.Nat.{mod-add-mod, mod-eq_of_lt, mod-lt, mod_self, mul-le-mul}
 use Rattle.std.proofs.lemmas.Bool.{cases_lt, false≢true}
@@ -25,8 +25,9 @@ use Rattle.live_lanes.specs.States.{Lane, Lanes}
 use Rattle.live_lanes.specs.Lanes.{has_room, lane_has_room, waiting_on, wants_payload}
 use Rattle.live_lanes.specs.Standing.{Progress, Stands, framed, progress, took, with_row}
 use Rattle.live_lanes.proofs.Places.{lane_of, waiting_is}
+use Rattle.live_lanes.proofs.Taken.{are_whole_bytes}
 use Rattle.live_end.specs.States.{State, state}
-use Rattle.live_end.specs.Calls.{GoesOn, IsPacket, IsRow, IsStill, MakesWords, Rests}
+use Rattle.live_end.specs.Calls.{AreMore, GoesOn, IsPacket, IsRow, IsStill, MakesRow, MakesWords, Rests}
 use Rattle.live_end.specs.Sending.{IsOver, Sends, Sent, progress_of, sent, with_close, with_columns, with_given, with_packet, with_taken}
 
 -- ---- words more
@@ -34,18 +35,27 @@ use Rattle.live_end.specs.Sending.{IsOver, Sends, Sent, progress_of, sent, with_
 with_none : (x : Sent) → with_columns 0 [] x ≡ x
 with_none x = ap (λ (w : List Word). sent x.settings x.given w (x.columns + 0) x.taken) (append-nil x.words) ∙ ap (λ n. sent x.settings x.given x.words n x.taken) (let e : x.columns + 0 ≡ x.columns = omega arith in e)
 
-pub makes_none : (t : State) → MakesWords t t
-makes_none t x k = (0, [], subst (Sends t) (sym (with_none x)) k)
+module _ (lane count : ℕ) where
+  pub makes_none : (t : State) → MakesWords lane count t t
+  makes_none t x k = (0, [], (λ n low. absurd (omega (arith, low))), subst (Sends t) (sym (with_none x)) k)
 
-with_both : (x : Sent) (n m : ℕ) (words more : List Word) → with_columns m more (with_columns n words x) ≡ with_columns (n + m) (words ++ more) x
-with_both x n m words more =
-    ap (λ (w : List Word). sent x.settings x.given w (x.columns + n + m) x.taken) (append_assoc x.words words more) ∙ ap (λ c. sent x.settings x.given (x.words ++ (words ++ more)) c x.taken) (let e : x.columns + n + m ≡ x.columns + (n + m) = omega arith in e)
+  -- a word more, where these bytes want it
+  pub makes_more : (t u v : State) → MakesWords lane count t u → ((x : Sent) → Sends u x → AreMore x x.columns lane count) → MakesRow u v → MakesWords lane count t v
+  makes_more t u v a wanted b x k =
+      let (n, words, each, l) = a x k in
+      let (more, r) = b (with_columns n words x) l in (
+        n + 1,
+        words ++ more,
+        (λ m low. elim (cases_lt m n) [
+          | inl before ↦ each m before
+          | inr here ↦ (let e : m ≡ n = omega (arith, low, here) in subst (λ i. AreMore x (x.columns + i) lane count) (sym e) (wanted (with_columns n words x) l))
+        ]),
+        subst (Sends v) (with_both x n 1 words more) r,
+      )
 
-pub makes_both : (t u v : State) → MakesWords t u → MakesWords u v → MakesWords t v
-makes_both t u v a b x k =
-    let (n, words, l) = a x k in
-    let (m, more, r) = b (with_columns n words x) l in
-    (n + m, words ++ more, subst (Sends v) (with_both x n m words more) r)
+  -- what is sent stays so
+  pub makes_same : (t u v : State) → MakesWords lane count t u → ((x : Sent) → Sends u x → Sends v x) → MakesWords lane count t v
+  makes_same t u v a same x k = (let (n, words, each, l) = a x k in (n, words, each, same (with_columns n words x) l))
 
 -- ---- what is given more
 
@@ -293,6 +303,21 @@ first_below lanes p k room =
     let there : 0 < length lanes.lanes = (let c = k.count in let m = k.limits.lanes.0 in omega (arith, c, m)) in
     let own = AllPass-from_list_all lane_has_room lanes.lanes room 0 d there in
     rw (waiting_is lanes 0 d there) (below_room (length (get_or lanes.lanes 0 d).waiting) own)
+
+-- the bytes that wait are those that the words complete, but for the ones that were taken
+pub wanted_more : (lanes : Lanes) (x : Sent) (lane count : ℕ) → Stands lanes (progress_of x) → lanes.ended ≡ false → lane < length lanes.lanes → length (waiting_on lane lanes) < count → AreMore x x.columns lane count
+wanted_more lanes x lane count k going there low =
+    let whole = are_whole_bytes lanes (progress_of x) lane k going (omega (arith, there, k.count)) in
+    omega (arith, whole, low)
+
+-- a lane on which bytes wait is there
+some_there : (lanes : List Lane) (lane n : ℕ) → n < length (get_or (map (λ (l : Lane). l.waiting) lanes) lane []) → lane < length lanes
+some_there [] lane n h = absurd (omega (arith, h))
+some_there (l ∷ lanes) zero n h = omega arith
+some_there (l ∷ lanes) (suc lane) n h = (let k = some_there lanes lane n h in omega (arith, k))
+
+pub lane_there : (lanes : Lanes) (lane n : ℕ) → n < length (waiting_on lane lanes) → lane < length lanes.lanes
+lane_there lanes lane n h = some_there lanes.lanes lane n h
 
 pub lanes_there : (lanes : Lanes) (p : Progress) → Stands lanes p → 0 < length lanes.lanes
 lanes_there lanes p k = (let c = k.count in let m = k.limits.lanes.0 in omega (arith, c, m))

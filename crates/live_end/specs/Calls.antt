@@ -1,5 +1,5 @@
 -- What the calls on a live transmitter do.
-use Rattle.std.specs.Prelude.{ℕ, ◌≡◌, ◌⊎◌, ◌+◌, ◌<◌, Bool, true, false, List, ◌++◌, length, min, take, drop, Contains, MatchOption, Option, Some, None, is_some, Result, Ok, Err}
+use Rattle.std.specs.Prelude.{ℕ, ◌≡◌, ◌⊎◌, ◌+◌, ◌*◌, ◌/◌, ◌<◌, Bool, true, false, List, ◌++◌, length, min, take, drop, Contains, MatchOption, Option, Some, None, is_some, Result, Ok, Err}
 use Rattle.lk_base.specs.declared.word.Word.{Word}
 use Rattle.live_stream.specs.LiveStream.{Given, IsWholeLiveStream}
 use Rattle.live_stream.specs.Gives.{AreCountsOf, most_words, refusal_of}
@@ -50,9 +50,18 @@ AreMade t n = (x : Sent) → Sends t x → n ≡ length x.words
 abbrev pub GoesOn : ℕ → Given → List Word → Type 0
 GoesOn n g w = (more : List Word) → length more < n → IsOver g (w ++ more) → ⊥
 
--- each lane made words more
-abbrev pub MakesWords : State → State → Type 0
-MakesWords t u = (x : Sent) → Sends t x → (n : ℕ) × (words : List Word) × Sends u (with_columns n words x)
+-- each lane made a word more, of these payload words or of none
+abbrev pub MakesRow : State → State → Type 0
+MakesRow t u = (x : Sent) → Sends t x → (words : List Word) × Sends u (with_columns 1 words x)
+
+-- So many bytes of a lane are more than those that wait: the ones that the words so far complete, of 67 bits each, are fewer than those
+-- that were taken of it and these.
+abbrev pub AreMore : Sent → ℕ → ℕ → ℕ → Type 0
+AreMore x columns lane count = 67 * columns / 8 < length (x.taken lane) + count
+
+-- each lane made words more, none of them before so many bytes of this one wanted it
+abbrev pub MakesWords : ℕ → ℕ → State → State → Type 0
+MakesWords lane count t u = (x : Sent) → Sends t x → (n : ℕ) × (words : List Word) × ((k : ℕ) → k < n → AreMore x (x.columns + k) lane count) × Sends u (with_columns n words x)
 
 -- No word is made: the lanes have ended, or a ring has no room, or the stream is whole at the end of a metaframe, or it has nearly the
 -- most words.
@@ -63,9 +72,9 @@ Rests t = (t.lanes.ended ≡ true) ⊎ (has_room t.lanes ≡ false) ⊎ ((x : Se
 abbrev pub IsStill : State → Type 0
 IsStill t = (t.lanes.ended ≡ true) ⊎ (has_room t.lanes ≡ false) ⊎ ((x : Sent) → Sends t x → most_words < length x.words + 64)
 
--- words are made until so many bytes of a lane wait, as far as that goes
+-- words are made until so many bytes of a lane wait, as far as that goes, and none after that
 pub record IsFilled (t u : State) (lane count : ℕ) : Type 0 where
-  pub makes : MakesWords t u
+  pub makes : MakesWords lane count t u
   pub still : length (waiting_on lane u.lanes) < count → IsStill u
 
 -- the next bytes of a lane are taken, as many as wait and there is room for

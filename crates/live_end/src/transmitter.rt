@@ -5,7 +5,7 @@ ghost use Rattle.live_stream.specs.LiveStream.{IsWholeLiveStream};
 ghost use Rattle.live_stream.specs.Gives.{most_words};
 ghost use Rattle.live_lanes.specs.Lanes.{AreLonger, has_room, waiting_on, wants_payload};
 ghost use Rattle.tx_end.specs.Whole.{IsShapeOf};
-ghost use Rattle.live_end.specs.Calls.{AreCounted, AreMade, IsClose, IsFilled, IsFlow, IsLocal, IsPacket, IsStill, IsTake, MakesWords, Rests};
+ghost use Rattle.live_end.specs.Calls.{AreCounted, AreMade, IsClose, IsFilled, IsFlow, IsLocal, IsPacket, IsStill, IsTake, MakesRow, MakesWords, Rests};
 ghost use Rattle.live_end.specs.Sending.{IsOver, Sends, Sent, nothing_sent, with_columns};
 
 use crate::row::next_row;
@@ -136,7 +136,7 @@ impl LiveTransmitter {
         requires room { has_room self.old.lanes ≡ true }
         requires wants { wants_payload self.old.lanes ≡ true }
         requires few { (x : Sent) → Sends self.old x → length x.words + 64 ≤ most_words }
-        ensures makes { MakesWords self.old self.new }
+        ensures makes { MakesRow self.old self.new }
         ensures longer { AreLonger self.old.lanes self.new.lanes }
     {
         next_row(&mut self.scheduler, &mut self.row);
@@ -149,7 +149,7 @@ impl LiveTransmitter {
         requires room { has_room self.old.lanes ≡ true }
         requires wants { wants_payload self.old.lanes ≡ false }
         requires goes { (x : Sent) → Sends self.old x → self.old.lanes.place ≡ 0 → IsWholeLiveStream x.given x.words → ⊥ }
-        ensures makes { MakesWords self.old self.new }
+        ensures makes { MakesRow self.old self.new }
         ensures longer { AreLonger self.old.lanes self.new.lanes }
     {
         self.lanes.frame();
@@ -183,7 +183,7 @@ impl LiveTransmitter {
     // Makes the next word of each lane.
     fn step(&mut self)
         requires goes { (self.old.lanes.ended ≡ false) × (has_room self.old.lanes ≡ true) × ((x : Sent) → Sends self.old x → (length x.words + 64 ≤ most_words) × (self.old.lanes.place ≡ 0 → IsWholeLiveStream x.given x.words → ⊥)) }
-        ensures makes { MakesWords self.old self.new }
+        ensures makes { MakesRow self.old self.new }
         ensures longer { AreLonger self.old.lanes self.new.lanes }
     {
         if self.lanes.wants_payload() {
@@ -195,7 +195,8 @@ impl LiveTransmitter {
 
     // Makes words until so many bytes of a lane wait, as far as that goes.
     fn fill(&mut self, lane: u32, count: usize)
-        ensures makes { MakesWords self.old self.new }
+        requires there { lane < length self.old.lanes.lanes }
+        ensures makes { MakesWords lane count self.old self.new }
         ensures rests { length (waiting_on lane self.new.lanes) < count → Rests self.new }
     {
         while self.lanes.waiting(lane) < count {
@@ -208,7 +209,7 @@ impl LiveTransmitter {
 
     // Ends the lanes where the stream is whole at the end of a metaframe, and each ring has room.
     fn close(&mut self)
-        ensures makes { MakesWords self.old self.new }
+        ensures sends { (x : Sent) → Sends self.old x → Sends self.new x }
         ensures still { Rests self.old → IsStill self.new }
         ensures kept { (lane : ℕ) → length (waiting_on lane self.old.lanes) ≤ length (waiting_on lane self.new.lanes) }
     {
@@ -219,11 +220,15 @@ impl LiveTransmitter {
         }
     }
 
-    /// Takes the next bytes of a lane, and returns how many: words are made until as many wait as there is room for, or a ring has no
-    /// room, or the lanes have ended. A lane that is not there gives none.
+    /// Takes the next bytes of a lane, and returns how many: words are made until as many wait as there is room for, and no word more,
+    /// or a ring has no room, or the lanes have ended. A lane that is not there gives none, and no word is made.
     pub fn take(&mut self, lane: u32, out: &mut [u8]) -> usize
-        ensures { IsTake self.old self.new lane out.old out.new result }
+        ensures there { lane < length self.old.lanes.lanes → IsTake self.old self.new lane out.old out.new result }
+        ensures absent { length self.old.lanes.lanes ≤ lane → (result ≡ 0) × (out.new ≡ out.old) × (self.new ≡ self.old) }
     {
+        if lane as usize >= self.lanes.count() {
+            return 0;
+        }
         self.fill(lane, out.len());
         self.close();
         self.lanes.take(lane, out)

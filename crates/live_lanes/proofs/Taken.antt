@@ -1,5 +1,5 @@
 -- The bytes that are taken of lanes.
-use Rattle.std.proofs.Common.{ℕ, ◌≡◌, refl, sym, ap, ◌∙◌, subst, ◌+◌, ◌*◌, ◌/◌, ◌%◌, ◌<◌, ◌≤◌, Bool, true, false, List, [], ◌++◌, length, get_or, take, arith, ◌⊎◌, inl, inr, append-nil}
+use Rattle.std.proofs.Common.{ℕ, ◌≡◌, refl, sym, ap, ◌∙◌, subst, ◌+◌, ◌*◌, ◌/◌, ◌%◌, ◌<◌, ◌≤◌, Bool, true, false, List, [], ◌++◌, length, get_or, take, arith, ◌⊎◌, inl, inr, append-nil, length-append}
 use Rattle.std.proofs.lemmas.List.{take_all}
 use Rattle.std.proofs.lemmas.Nat.{div-add-mod', mod-mul-add}
 use Rattle.lk_base.specs.declared.word.Word.{Word}
@@ -16,7 +16,7 @@ use Rattle.tx_end.proofs.Groups.{payload_append, regroup_words}
 use Rattle.tx_end.proofs.LanePlaces.{place_at}
 use Rattle.tx_end.proofs.Waits.{file_waits, waits}
 use Rattle.live_lanes.specs.States.{Lane, Lanes}
-use Rattle.live_lanes.specs.Laws.{AllTakenAreTheFile, AreInStep, TakenAreFirst}
+use Rattle.live_lanes.specs.Laws.{AllTakenAreTheFile, AreInStep, AreWholeBytes, TakenAreFirst}
 use Rattle.live_lanes.specs.Standing.{IsSent, Progress, Stands}
 use Rattle.live_lanes.proofs.Places.{lane_of, open_lane, waiting_is}
 
@@ -123,3 +123,18 @@ are_in_step v p i j k h g =
           (waits (get_or v.lanes i d).writer s i p.columns (lane_payload s.lanes p.payload i) one a.0) (waits (get_or v.lanes j d).writer s j p.columns (lane_payload s.lanes p.payload j) other b.0) a.1 b.1
     ] in
     ap (λ (b : List ℕ). length (p.taken i ++ b)) (waiting_is v i d (omega (arith, h, k.count))) ∙ same ∙ ap (λ (b : List ℕ). length (p.taken j ++ b)) (sym (waiting_is v j d (omega (arith, g, k.count))))
+
+-- ---- how many bytes
+
+whole_of : (a b bits m : ℕ) → 8 * (a + b) + bits ≡ m → bits < 8 → a + b ≡ m / 8
+whole_of a b bits m e low = omega (arith, e, low)
+
+pub are_whole_bytes : AreWholeBytes
+are_whole_bytes v p i k going h =
+    let s = p.settings in
+    let lane : Lane = get_or v.lanes i (lane_of v p k) in
+    let (carries, few) = open_lane v p i (lane_of v p k) k going h in
+    let long : length (p.taken i ++ lane.waiting) ≡ length (p.taken i) + length lane.waiting = length-append (p.taken i) lane.waiting in
+    let bits = waits lane.writer s i p.columns (lane_payload s.lanes p.payload i) (p.taken i ++ lane.waiting) carries in
+    ap (λ (b : List ℕ). length (p.taken i) + length b) (waiting_is v i (lane_of v p k) (omega (arith, h, k.count)))
+    ∙ whole_of (length (p.taken i)) (length lane.waiting) (length lane.writer.bits) (67 * p.columns) (ap (λ n. 8 * n + length lane.writer.bits) (sym long) ∙ bits) few

@@ -1,5 +1,5 @@
 -- The laws on the bytes that are taken of lanes.
-use Rattle.std.specs.Prelude.{ℕ, ◌≡◌, ◌<◌, ◌≤◌, ◌*◌, ◌/◌, ◌%◌, true, false, List, [], ◌++◌, length, get_or, take}
+use Rattle.std.specs.Prelude.{ℕ, ◌≡◌, ◌<◌, ◌≤◌, ◌+◌, ◌*◌, ◌/◌, ◌%◌, true, false, List, [], ◌++◌, length, get_or, take}
 use Rattle.lk_base.specs.declared.word.Word.{Word}
 use Rattle.lk_base.specs.Link.{group_of}
 use Rattle.lane_model.specs.LaneBits.{IsFileOf, stream_lane_bits}
@@ -24,6 +24,11 @@ AllTakenAreTheFile = (v : Lanes) (p : Progress) (i : ℕ) → Stands v p → v.e
 abbrev pub AreInStep : Type 0
 AreInStep = (v : Lanes) (p : Progress) (i j : ℕ) → Stands v p → i < p.settings.lanes → j < p.settings.lanes →
     length (p.taken i ++ waiting_on i v) ≡ length (p.taken j ++ waiting_on j v)
+
+-- Until the lanes have ended, so many bytes of a lane were taken or wait as the words that each made complete, of 67 bits each.
+abbrev pub AreWholeBytes : Type 0
+AreWholeBytes = (v : Lanes) (p : Progress) (i : ℕ) → Stands v p → v.ended ≡ false → i < p.settings.lanes →
+    length (p.taken i) + length (waiting_on i v) ≡ 67 * p.columns / 8
 
 -- Until the lanes have ended the next word of each is of the kind that all want.
 abbrev pub AllWantTheSame : Type 0

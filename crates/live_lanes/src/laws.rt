@@ -1,5 +1,5 @@
 //! The laws on the bytes that are taken of lanes.
-ghost use Rattle.live_lanes.specs.Laws.{AllTakenAreTheFile, AllWantTheSame, AreInStep, TakenAreFirst};
+ghost use Rattle.live_lanes.specs.Laws.{AllTakenAreTheFile, AllWantTheSame, AreInStep, AreWholeBytes, TakenAreFirst};
 
 /// What was taken of a lane, in whatever pieces, is the first of the file of that lane, whatever payload words follow.
 pub fn taken_are_first()
@@ -14,6 +14,11 @@ pub fn all_taken_are_the_file()
 /// On each lane as many bytes were taken or wait as on each other.
 pub fn are_in_step()
     ensures { AreInStep }
+{}
+
+/// Until the lanes have ended, so many bytes of a lane were taken or wait as the words that each made complete.
+pub fn are_whole_bytes()
+    ensures { AreWholeBytes }
 {}
 
 /// The next words of all lanes are payload words, or all are framing words.

@@ -5,7 +5,7 @@ use Rattle.live_end.specs.Sending.{Sends, progress_of}
 use Rattle.std.proofs.lemmas.Bool.{cases_lt, false≢true}
 use Rattle.live_stream.specs.Gives.{most_words}
 use Rattle.live_lanes.specs.Lanes.{has_room}
-use Rattle.live_end.proofs.Going.{end_sends, makes_none, rests_still}
+use Rattle.live_end.proofs.Going.{end_sends, rests_still}
 use Rattle.live_end.proofs.transmitter.LiveTransmitter.close.Goals.{else-not-has_ended-via-then-not-has_ended+then-is_whole+then-whole+else-room, else-not-has_ended-via-then-not-has_ended+then-is_whole+else-whole, else-not-has_ended-via-then-not-has_ended+else-is_whole, else-not-has_ended-via-else-not-has_ended}
 use Rattle.live_end.proofs.transmitter.LiveTransmitter.close.Goals as goal
 
@@ -15,15 +15,11 @@ invariant_of-self c =
     let (x, k) = c.self.invariant in
     (x, end_sends v.scheduler v.lanes v.row.items x k c.finish.new.self (c.finish.ensures.stands (progress_of x) k.stands) (c.is_whole-whole.ensures.few x (subst (λ (t : State). Sends t x) c.self.view_is k) c.if-whole.true))
 
-pub returns-then-room-clause-makes : goal.returns-then-room-clause-makes
-returns-then-room-clause-makes c x h =
+pub returns-then-room-clause-sends : goal.returns-then-room-clause-sends
+returns-then-room-clause-sends c x h =
     let v = c.self.inside in
     let k = subst (λ (t : State). Sends t x) (sym c.self.view_is) h in
-    makes_none (state v.scheduler c.finish.new.self v.row.items) x
-    (end_sends v.scheduler v.lanes v.row.items x k c.finish.new.self (c.finish.ensures.stands (progress_of x) k.stands) (c.is_whole-whole.ensures.few x h c.if-whole.true))
-
-pub returns-else-not-has_ended-clause-makes : goal.returns-else-not-has_ended-clause-makes
-returns-else-not-has_ended-clause-makes c = makes_none c.args.self.now
+    end_sends v.scheduler v.lanes v.row.items x k c.finish.new.self (c.finish.ensures.stands (progress_of x) k.stands) (c.is_whole-whole.ensures.few x h c.if-whole.true)
 
 pub returns-else-not-has_ended-clause-still : goal.returns-else-not-has_ended-clause-still
 returns-else-not-has_ended-clause-still c rests =

@@ -18,7 +18,6 @@ pub returns-clause-makes : goal.returns-clause-makes
 returns-clause-makes c x h =
     let v = c.self.inside in
     let k = subst (λ (t : State). Sends t x) (sym c.self.view_is) h in (
-      1,
       [],
       framed_sends v.scheduler v.lanes v.row.items x k c.frame.new.self (c.frame.ensures.stands (progress_of x) k.stands) c.frame.ensures.going
           (λ at whole. c.requires.goes x h (ap (λ (t : State). t.lanes.place) (sym c.self.view_is) ∙ at) whole),

@@ -40,7 +40,6 @@ returns-clause-makes c x h =
     let wants = ap (λ (t : State). wants_payload t.lanes) c.self.view_is ∙ c.requires.wants in
     let whole : (with_items v.row new).items ≡ new = with_items_is v.row new (c.next_row.ensures.long ∙ c.deref_mut.ensures.len) in
     let q = subst (λ (row : List Word). Stands c.put.new.self (with_row row (progress_of x))) (c.deref.ensures.value ∙ whole) (c.put.ensures.stands (progress_of x) k.stands) in (
-      1,
       new,
       subst (λ (row : List Word). Sends (state c.next_row.new.scheduler c.put.new.self row) (with_columns 1 new x)) (sym whole)
           (put_sends v.scheduler v.lanes v.row.items x k c.next_row.new.scheduler c.put.new.self new wants (c.next_row.ensures.long ∙ ap length c.deref_mut.ensures.value) (c.next_row.ensures.gives x.given x.words k.gives) q c.put.ensures.going),
