@@ -1,23 +1,17 @@
 -- What is accepted grows with the events.
-use Rattle.std.proofs.Common.{◌≡◌, ℕ, ◌+◌, ◌-◌, ◌≤◌, ◌==◌, Bool, true, false, if◌then◌else◌, List, [], ◌∷◌, ◌++◌, length, take, drop, replicate, refl, sym, ap, subst, ◌∙◌, arith, length-append, append-nil}
+use Rattle.std.proofs.Common.{◌≡◌, ℕ, ◌+◌, ◌-◌, ◌≤◌, ◌==◌, Bool, true, false, if◌then◌else◌, List, [], ◌∷◌, ◌++◌, length, take, drop, refl, sym, ap, subst, ◌∙◌, arith, length-append}
 use Rattle.std.proofs.Math.Seq.{take-add, drop-append_seam}
-use Rattle.std.proofs.lemmas.List.{take-append-drop}
 use Rattle.std.proofs.lemmas.List.Concat.{flat_map-append}
-use Rattle.std.proofs.lemmas.List.Sums.{sum_by-take-le}
 use Rattle.lk_base.specs.declared.word.Word.{Word}
 use Rattle.words_files.specs.WordsFile.{words_file}
-use Rattle.run_shell.specs.Outputs.{Prefixes}
-use Rattle.stream_commands.proofs.PartsOfStreams.{words_before}
+use Rattle.run_shell.specs.Outputs.{Prefixes, more}
+use Rattle.stream_commands.proofs.PartsOfStreams.{words_before, words_put}
 use Rattle.resend_events.specs.declared.event.Event.{Event}
-use Rattle.resend_events.specs.declared.row.EventRow.{EventRow}
 use Rattle.resend_events.specs.declared.event.Event.TheVariants.{Send, Rewind, Take, Lose, Repeat, TakeBack, LoseBack, RepeatBack}
 use Rattle.retransmit.specs.Pieces.{Piece, words_of, words_of_piece}
-use Rattle.retransmit.specs.Rows.{events_of}
-use Rattle.resend_events.specs.Events.{count_of}
 use Rattle.retransmit.specs.Resending.{Setting, State, after, state_from, does_nothing, effect, taken, taken_back}
 use Rattle.retransmit.specs.Carried.{Carried, Follows, setting_of}
 use Rattle.retransmit.specs.declared.answer.Did.{Did}
-use Rattle.retransmit.proofs.Runs.{list_more}
 use Rattle.resend_commands.specs.Resent.{accepted_words}
 use Rattle.resend_commands.specs.Carried.{events_done, accepted_file}
 
@@ -74,42 +68,19 @@ first_words pieces a b le =
 words_grow : (c : Carried) (events : List Event) → (rest : List Word) × (accepted_words c.pieces (events_done c events).state ≡ accepted_words c.pieces c.state ++ rest)
 words_grow c events = first_words c.pieces c.state.accepted (events_done c events).state.accepted (from_accepts (setting_of c) c.state events)
 
-file_begins : (c : Carried) (events : List Event) → Prefixes (accepted_file c ∷ []) (accepted_file (events_done c events) ∷ [])
+pub file_begins : (c : Carried) (events : List Event) → Prefixes (accepted_file c ∷ []) (accepted_file (events_done c events) ∷ [])
 file_begins c events =
     let (rest, is) = words_grow c events in
     subst (λ (words : List Word). Prefixes (accepted_file c ∷ []) (words_file words ∷ [])) (sym is) (words_before (accepted_words c.pieces c.state) rest)
 
--- of a list of events, some first were done: the file then begins with what is accepted
-pub begins_further : (start now : Carried) (events more all : List Event) → now ≡ events_done start events → all ≡ events ++ more → Prefixes (accepted_file now ∷ []) (accepted_file (events_done start all) ∷ [])
-begins_further start now events more all was is =
-    subst (λ (c : Carried). Prefixes (accepted_file now ∷ []) (accepted_file c ∷ []))
-    (list_more start now (events_done now more) events was more refl ∙ ap (events_done start) (sym is)) (file_begins now more)
+-- ---- some events
 
--- none of these words comes
-pub no_words : (before words : List Word) → length words ≡ 0 → before ++ words ≡ before
-no_words before [] e = append-nil before
-no_words before (w ∷ ws) e = absurd (omega arith)
+pub event_done : (old new : Carried) (event : Event) (did : Did) → Follows old event did new → new ≡ events_done old (event ∷ [])
+event_done old new event did follows = follows.state
 
--- ---- rows
-
-abbrev of_row : EventRow → List Event
-of_row row = replicate row.count row.event
-
--- the events of the rows from one on come after those before
-pub rows_behind : (rows : List EventRow) (i : ℕ) → events_of rows ≡ events_of (take i rows) ++ events_of (drop i rows)
-rows_behind rows i = ap events_of (sym (take-append-drop i rows)) ∙ flat_map-append of_row (take i rows) (drop i rows)
-
-pub count_first : (rows : List EventRow) (i : ℕ) → count_of (take i rows) ≤ count_of rows
-count_first rows i = sum_by-take-le (λ (row : EventRow). row.count) rows i
-
--- ---- one event
-
-module _ (old new : Carried) (event : Event) (did : Did) (follows : Follows old event did new) where
-  pub event_done : new ≡ events_done old (event ∷ [])
-  event_done = follows.state
-
+module _ (old new : Carried) (events : List Event) (done : new ≡ events_done old events) where
   grow : (rest : List Word) × (accepted_words new.pieces new.state ≡ accepted_words old.pieces old.state ++ rest)
-  grow = subst (λ (c : Carried). (rest : List Word) × (accepted_words c.pieces c.state ≡ accepted_words old.pieces old.state ++ rest)) (sym event_done) (words_grow old (event ∷ []))
+  grow = subst (λ (c : Carried). (rest : List Word) × (accepted_words c.pieces c.state ≡ accepted_words old.pieces old.state ++ rest)) (sym done) (words_grow old events)
 
   module _ (lent : List Word) (is : lent ≡ accepted_words new.pieces new.state) where
     pub words_there : (at : ℕ) → at ≤ length (accepted_words old.pieces old.state) → at ≤ length lent
@@ -125,3 +96,10 @@ module _ (old new : Carried) (event : Event) (did : Did) (follows : Follows old 
         let before : List Word = accepted_words old.pieces old.state in
         let those : words ≡ rest = taken ∙ ap (λ n. drop n lent) count ∙ ap (drop (length before)) (is ∙ e) ∙ drop-append_seam before rest in
         ap (λ ws. before ++ ws) those ∙ sym e
+
+    -- so an output that was given the file of what was accepted, and then these words, was given that of what is accepted
+    pub file_grown : (at : ℕ) → at ≡ length (accepted_words old.pieces old.state) → (words : List Word) → words ≡ drop at lent → (given : List (List ℕ)) → given ≡ accepted_file old ∷ [] → more given 0 (words_file words) ≡ accepted_file new ∷ []
+    file_grown at count words taken given was =
+        ap (λ (gs : List (List ℕ)). more gs 0 (words_file words)) was
+        ∙ words_put (accepted_words old.pieces old.state) words (words_file words) refl
+        ∙ ap (λ (ws : List Word). words_file ws ∷ []) (words_come at count words taken)

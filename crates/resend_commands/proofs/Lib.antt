@@ -4,6 +4,7 @@ pub mod InOrder
 -- What this crate alone cites.
 mod PlanResent
 mod Accepting
-mod Filling
+mod Passing
+mod Makers
 mod ResendRead
 mod PremisesHold

@@ -23,9 +23,10 @@ use Rattle.plan_inputs.specs.Sources.{IsSourceOf}
 use Rattle.plan_inputs.proofs.SameSource.{same_source}
 use Rattle.stream_commands.specs.Payload.{IsStreamOfPlan}
 use Rattle.stream_commands.specs.declared.stream.PayloadStream.{PayloadStream}
-use Rattle.resend_commands.specs.Resent.{outcome_of, state_of, state_line, accepted_words, IsResent}
+use Rattle.resend_commands.specs.Resent.{outcome_of, state_of, accepted_words, IsResent}
 use Rattle.resend_commands.specs.Plan.{ResendReading, IsPlanResent}
-use Rattle.resend_commands.specs.Carried.{events_done, accepted_file, line_of, IsBegun, IsWritten, written}
+use Rattle.resend_commands.specs.Carried.{events_done, accepted_file, IsBegun}
+use Rattle.resend_commands.specs.Making.{outcome_at}
 
 -- words come to one outcome
 one_resent : (prefix : List ℕ) (words : List Word) (window : ℕ) (rows : List EventRow) (o p : Outcome) → IsResent prefix words window rows o → IsResent prefix words window rows p → o ≡ p
@@ -40,12 +41,6 @@ one_outcome i o p a b =
     let words : a.words ≡ b.words = one_stream b.source a.words b.words (subst (λ (s : Source). IsBurstStream s a.words) same a.stream) b.stream in
     one_resent i.reading.plan.out b.words i.window i.rows o p (subst (λ (w : List Word). IsResent i.reading.plan.out w i.window i.rows o) words a.resent) b.resent
 
--- what is made of them is a words file and a line
-pub is_written : (i : ResendReading) (o : Outcome) → IsPlanResent i o → (content line : List ℕ) × (o ≡ written i.reading.plan.out content line)
-is_written i o h =
-    let state : State = state_of h.resent.pieces i.window i.rows in
-    (words_file (accepted_words h.resent.pieces state), state_line h.resent.pieces state, h.resent.outcome)
-
 -- where a stream was begun, nothing was sent yet, and nothing accepted
 pub begun_few : (i : Reading) (window : ℕ) (start : Carried) → IsBegun i window start → start.state.sends ≡ 0
 begun_few i window start begun = ap (λ (s : State). s.sends) begun.fresh.state
@@ -57,31 +52,24 @@ begun_blank i window start begun = ap (λ (s : State). words_file (accepted_word
     none [] = refl
     none (p ∷ ps) = refl
 
--- their stream was begun, and their events were done
-module _ (i : ResendReading) (start : Carried) (begun : IsBegun i.reading i.window start) where
-  abbrev done : Carried
-  done = events_done start (events_of i.rows)
+-- after their events it comes to what is made of them
+pub begun_resent : (i : ResendReading) (start : Carried) → IsBegun i.reading i.window start → IsPlanResent i (outcome_at i.reading.plan.out (events_done start (events_of i.rows)))
+begun_resent i start begun = record {
+  source = begun.source;
+  is_source = begun.is_source;
+  words = begun.words;
+  stream = begun.stream;
+  resent = record { pieces = start.pieces; cut = begun.fresh.cut; outcome = ap (λ (s : State). outcome_of i.reading.plan.out start.pieces s) state_is };
+}
+  where
+    state_is : (events_done start (events_of i.rows)).state ≡ state_of start.pieces i.window i.rows
+    state_is =
+        ap (λ (w : ℕ). state_from (record { pieces = length start.pieces; window = w }) start.state (events_of i.rows)) begun.fresh.window_is
+        ∙ ap (λ (s : State). state_from (record { pieces = length start.pieces; window = i.window }) s (events_of i.rows)) begun.fresh.state
 
-  state_is : done.state ≡ state_of start.pieces i.window i.rows
-  state_is =
-      ap (λ (w : ℕ). state_from (record { pieces = length start.pieces; window = w }) start.state (events_of i.rows)) begun.fresh.window_is
-      ∙ ap (λ (s : State). state_from (record { pieces = length start.pieces; window = i.window }) s (events_of i.rows)) begun.fresh.state
-
-  -- so what is accepted then is written, with the line of it
-  pub begun_written : (line : List ℕ) → line ≡ line_of done → IsWritten i (accepted_file done) line
-  begun_written line is = record {
-    source = begun.source;
-    is_source = begun.is_source;
-    words = begun.words;
-    stream = begun.stream;
-    resent = record {
-      pieces = start.pieces;
-      cut = begun.fresh.cut;
-      outcome =
-          ap (written i.reading.plan.out (accepted_file done)) is
-          ∙ ap (λ (s : State). outcome_of i.reading.plan.out start.pieces s) state_is;
-    };
-  }
+-- its window is that which it was begun with
+pub begun_window : (i : Reading) (window : ℕ) (start : Carried) → IsBegun i window start → start.window ≡ window
+begun_window i window start begun = begun.fresh.window_is
 
 -- ---- the stream
 

@@ -1,5 +1,5 @@
 -- The premises of what is said of `resend` are met.
-use Rattle.std.proofs.Common.{◌≡◌, ℕ, ◌-◌, refl, ap, ◌∙◌, List, [], ◌∷◌, ◌++◌, length, Some, None, Result, Ok}
+use Rattle.std.proofs.Common.{◌≡◌, ◌-◌, refl, ap, ◌∙◌, [], ◌∷◌, length, Some, None, Ok}
 use lib.Chars.{codes}
 use lib.Utf8.{encode}
 use Rattle.std.specs.Str.{chars, is_utf8}
@@ -26,7 +26,7 @@ use Rattle.resend_events.specs.Events.{event_row, events_of}
 use Rattle.run_stops.specs.Reading.{behind, bytes_by, bytes_in, plan_bytes}
 use Rattle.run_stops.specs.Reading as reading
 use Rattle.plan_inputs.specs.Inputs.{inputs_in, packets_in, plan_by, plan_in, rows_by, rows_in}
-use Rattle.plan_inputs.proofs.ListedFiles.{HaveBytes, bytes_at, file_at, files_of_bytes, packets_read, then_at}
+use Rattle.plan_inputs.proofs.ListedFiles.{HaveBytes, file_at, files_of_bytes, packets_read, then_at}
 use Rattle.resend_commands.specs.PremisesMet.{ResentMeets, events_text, one_capture, one_to_eight, plan_name, plan_text, resent_entries, resent_files, resent_plan, resent_reading, resent_rows}
 use Rattle.resend_commands.specs.Reading.{events_in, reading_of, refusal_of, resend_in, resend_plan_in, unless_refused, with_events, with_inputs}
 use Rattle.resend_commands.proofs.InOrder.{resent_in_order}

@@ -6,7 +6,7 @@ use Rattle.lk_outside.specs.Files.{Files}
 use Rattle.stream_model.specs.BurstStream.{Source, IsBurstStream}
 use Rattle.plan_inputs.specs.Sources.{IsSourceOf}
 use Rattle.retransmit.specs.Pieces.{Piece, IsCutInto}
-use Rattle.retransmit.specs.Resending.{Setting, State, accepted_after}
+use Rattle.retransmit.specs.Resending.{State, accepted_after}
 use Rattle.retransmit.specs.Rows.{events_of}
 use Rattle.run_shell.specs.Outcome.{Outcome}
 use Rattle.run_shell.specs.Work.{IsWork}

@@ -1,6 +1,8 @@
 pub mod Resent
 pub mod Plan
 pub mod Carried
+pub mod Left
+pub mod Making
 pub mod Reading
 pub mod Values
 pub mod Command

@@ -1,72 +1,58 @@
-//! A stream is carried by the events of rows, and what is accepted is written meanwhile.
-ghost use Rattle.std.specs.Prelude.{◌≡◌, ◌+◌, ◌<◌, ◌≤◌, ◌^◌, [], ◌∷◌, length, replicate, Contains, OnOk, Option};
-ghost use Rattle.lk_outside.specs.Files.{Files};
-ghost use Rattle.retransmit.specs.Rows.{events_of};
-ghost use Rattle.resend_events.specs.Events.{count_of};
-ghost use Rattle.run_stops.specs.Stops.{StopCount, StoreStops};
-ghost use Rattle.run_shell.specs.Outputs.{Differ, open_names, IsOpen, Grown};
+//! A stream is carried by events, and the words of what is accepted are given to the output.
+ghost use Rattle.std.specs.Prelude.{◌≡◌, ◌+◌, ◌<◌, ◌≤◌, ◌^◌, ℕ, List, [], ◌∷◌, length, replicate, OnOk};
+ghost use Rattle.words_files.specs.WordsFile.{words_file};
+ghost use Rattle.run_shell.specs.Outputs.{more, open_names};
+ghost use Rattle.run_shell.specs.Rests.{join, rests_of};
 ghost use Rattle.resend_commands.specs.Carried.{accepted_file, events_done};
 
-use crate::words::do_event;
-use lk_outside::Store;
+use lk_base::{OutOfMemory, Word, tail};
 use resend_events::EventRow;
 use retransmit::Resend;
 use run_shell::Outputs;
-use run_stops::Stop;
-use std::alloc::Global;
+use words_files::append_words;
 
-// Does an event n times, and gives the one output the words of the pieces that are accepted, as they are. They take the room
-// of `bytes`.
-fn do_often<S: Store>(
-    alloc: Global,
-    store: &mut S,
+// Does an event as often as its row says.
+fn do_events(resend: &mut Resend, run: EventRow)
+    requires { resend.old.state.sends + run.count ≤ 2 ^ 60 }
+    ensures done { resend.new ≡ events_done resend.old (replicate run.count run.event) }
+    ensures sends { resend.new.state.sends ≤ resend.old.state.sends + run.count }
+{
+    for _turn in 0..run.count {
+        resend.event(run.event);
+    }
+}
+
+// Gives the first output the bytes of words. They take the room of `bytes`.
+fn give_words(outputs: &mut Outputs, bytes: &mut Vec<u8>, words: &[Word]) -> Result<(), OutOfMemory>
+    requires { 0 < length outputs.old }
+    ensures names { open_names outputs.new ≡ open_names outputs.old }
+    ensures given { OnOk result (rests_of outputs.new ≡ more (rests_of outputs.old) 0 (words_file words.now)) }
+{
+    if words.is_empty() {
+        return Ok(());
+    }
+    bytes.clear();
+    append_words(bytes, words)?;
+    outputs.give(0, bytes)
+}
+
+/// Does an event as often as its row says, and gives the one output the words of the pieces that are accepted meanwhile. Their bytes
+/// take the room of `bytes`.
+pub fn carry(
     outputs: &mut Outputs,
     bytes: &mut Vec<u8>,
     resend: &mut Resend,
-    row: EventRow,
-) -> Result<(), Stop>
-    requires count { S.faults store.old < 2 ^ 60 }
-    requires few { resend.old.state.sends + row.count ≤ 2 ^ 60 }
-    requires one { length outputs.old ≡ 1 }
-    requires differ { Differ (open_names outputs.old) }
-    requires open { (was : Option Files) × IsOpen outputs.old (accepted_file resend.old ∷ []) was (S.files store.old) }
-    ensures done { OnOk result (resend.new ≡ events_done resend.old (replicate row.count row.event)) }
-    ensures sends { OnOk result (resend.new.state.sends ≤ resend.old.state.sends + row.count) }
+    run: EventRow,
+) -> Result<(), OutOfMemory>
+    requires few { resend.old.state.sends + run.count ≤ 2 ^ 60 }
+    requires one { 0 < length outputs.old }
+    ensures done { resend.new ≡ events_done resend.old (replicate run.count run.event) }
+    ensures sends { resend.new.state.sends ≤ resend.old.state.sends + run.count }
     ensures names { open_names outputs.new ≡ open_names outputs.old }
-    ensures cause { StopCount result (S.faults store.old) (S.faults store.new) }
-    ensures stops { StoreStops (Contains (open_names outputs.old)) result }
-    ensures grown { (was : Option Files) → IsOpen outputs.old (accepted_file resend.old ∷ []) was (S.files store.old) →
-        Grown outputs.old outputs.new (accepted_file (events_done resend.old (replicate row.count row.event)) ∷ []) result was (S.files store.new) }
+    ensures given { OnOk result ((before : List (List ℕ)) → join before (rests_of outputs.old) ≡ accepted_file resend.old ∷ [] → join before (rests_of outputs.new) ≡ accepted_file resend.new ∷ []) }
 {
-    for _turn in 0..row.count {
-        do_event(alloc, store, outputs, bytes, resend, row.event)?;
-    }
-    Ok(())
-}
-
-/// Does the events of rows, and gives the one output the words of the pieces that are accepted, as they are.
-pub fn carry<S: Store>(
-    alloc: Global,
-    store: &mut S,
-    outputs: &mut Outputs,
-    resend: &mut Resend,
-    rows: &[EventRow],
-) -> Result<(), Stop>
-    requires count { S.faults store.old < 2 ^ 60 }
-    requires few { resend.old.state.sends + count_of rows.now ≤ 2 ^ 60 }
-    requires one { length outputs.old ≡ 1 }
-    requires differ { Differ (open_names outputs.old) }
-    requires open { (was : Option Files) × IsOpen outputs.old (accepted_file resend.old ∷ []) was (S.files store.old) }
-    ensures done { OnOk result (resend.new ≡ events_done resend.old (events_of rows.now)) }
-    ensures names { open_names outputs.new ≡ open_names outputs.old }
-    ensures cause { StopCount result (S.faults store.old) (S.faults store.new) }
-    ensures stops { StoreStops (Contains (open_names outputs.old)) result }
-    ensures grown { (was : Option Files) → IsOpen outputs.old (accepted_file resend.old ∷ []) was (S.files store.old) →
-        Grown outputs.old outputs.new (accepted_file (events_done resend.old (events_of rows.now)) ∷ []) result was (S.files store.new) }
-{
-    let mut bytes = Vec::new(alloc);
-    for row in rows {
-        do_often(alloc, store, outputs, &mut bytes, resend, *row)?;
-    }
-    Ok(())
+    let before = resend.words().len();
+    do_events(resend, run);
+    let words = tail(resend.words(), before);
+    give_words(outputs, bytes, words)
 }

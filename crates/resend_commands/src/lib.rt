@@ -4,9 +4,9 @@
 mod carrying;
 mod command;
 pub mod laws;
-mod plan;
+mod place;
 mod reading;
-mod words;
+mod resend_maker;
 mod write;
 
 pub use command::ResendPlan;

@@ -1,34 +1,23 @@
-//! The words file, created before the stream is carried and filled meanwhile.
-ghost use Rattle.std.specs.Prelude.{◌≡◌, ◌<◌, ◌≤◌, ◌^◌, [], ◌∷◌, false, map, string_bytes, IfOk};
+//! The words file of a plan, written as the pieces of its stream are accepted.
+ghost use Rattle.std.specs.Prelude.{◌≡◌, ◌<◌, ◌≤◌, ◌^◌, [], ◌∷◌, false, string_bytes};
 ghost use Rattle.link_plan.specs.Listing.{numbers_of};
 ghost use Rattle.plan_inputs.specs.Values.{inputs_value, reading_value, FitPlan};
 ghost use Rattle.run_stops.specs.Stops.{StopCount};
-ghost use Rattle.run_shell.specs.Outputs.{Differ};
 ghost use Rattle.run_shell.specs.Writing.{Writes};
 ghost use Rattle.resend_events.specs.Events.{count_of};
 ghost use Rattle.run_shell.specs.Names.{words_name};
 ghost use Rattle.resend_commands.specs.Plan.{IsPlanResent};
 
-use crate::plan::fill_words;
+use crate::resend_maker::ResendMaker;
 use lk_outside::Store;
 use plan_inputs::PlanReading;
 use resend_events::EventRow;
-use run_shell::{Finished, Outputs, words_name};
+use run_shell::{Finished, make_all};
 use run_stops::Stop;
-use std::alloc::{AllocError, Global};
+use std::alloc::Global;
 
-// The name of the words file of this prefix, as the only one.
-fn output_names(alloc: Global, prefix: &str) -> Result<Vec<String>, AllocError>
-    ensures names { IfOk result (λ v. map string_bytes v.items ≡ words_name prefix.now ∷ []) }
-    ensures differ { IfOk result (λ v. Differ (map string_bytes v.items)) }
-{
-    let mut names = Vec::new(alloc);
-    names.push(words_name(alloc, prefix)?)?;
-    Ok(names)
-}
-
-/// Creates the words file of a plan that is not wide, and then carries the stream of the plan and its inputs by the events of
-/// these rows. The words of the pieces that are accepted go into the file meanwhile.
+/// Makes the stream of a plan that is not wide and its inputs, creates the words file of the plan, and carries the stream by the
+/// events of these rows. The words of the pieces that are accepted go into the file meanwhile.
 pub fn write_plan<S: Store>(
     alloc: Global,
     store: &mut S,
@@ -45,9 +34,6 @@ pub fn write_plan<S: Store>(
     ensures cause { StopCount result (S.faults store.old) (S.faults store.new) }
     ensures writes { Writes (IsPlanResent (record { reading = reading_value reading.now; window = window; rows = rows.now })) (words_name (string_bytes reading.now.plan.out) ∷ []) result (S.files store.old) (S.files store.new) }
 {
-    let names = output_names(alloc, reading.plan.out.as_str())?;
-    let mut outputs = Outputs::create(alloc, store, names)?;
-    let text = fill_words(alloc, store, &mut outputs, reading, window, rows)?;
-    outputs.finish(alloc, store)?;
-    Ok(Finished { held: false, text })
+    let mut maker = ResendMaker::new(alloc, reading, window, rows)?;
+    make_all(alloc, store, &mut maker)
 }
