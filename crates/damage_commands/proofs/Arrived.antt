@@ -1,8 +1,8 @@
 -- Lanes as they are received: there is one list of their files, and it is made lane by lane.
-use Rattle.std.proofs.Common.{◌≡◌, ℕ, zero, suc, ◌<◌, ◌≤◌, ◌+◌, ◌*◌, ◌^◌, inl, inr, All, Bool, true, false, List, [], ◌∷◌, ◌++◌, length, map, take, drop, replicate, get_or, refl, sym, ap, ap₂, ◌∙◌, subst, arith, append_assoc, append-nil}
+use Rattle.std.proofs.Common.{◌≡◌, ℕ, zero, suc, ◌<◌, ◌≤◌, ◌+◌, ◌-◌, ◌*◌, ◌^◌, inl, inr, All, Bool, true, false, List, [], ◌∷◌, ◌++◌, length, map, take, drop, replicate, get_or, refl, sym, ap, ap₂, ◌∙◌, subst, arith, append_assoc, append-nil}
 use Rattle.std.specs.List.{range_with_len}
 use Rattle.std.proofs.lemmas.Bool.{cases_lt}
-use Rattle.std.proofs.lemmas.List.{ext_get_or, length-append, length-replicate, length_push}
+use Rattle.std.proofs.lemmas.List.{ext_get_or, get_or-take, length-append, length-drop, length-replicate, length-take-le, length_push, take-append-drop}
 use Rattle.std.proofs.lemmas.List.FromFn.{length-map-range_with_len, get_or-map-range_with_len}
 use Rattle.std.proofs.Math.Seq.{drop-append_seam, take-append_seam}
 use Rattle.lk_base.specs.Checksum.{bits_of_bytes}
@@ -79,6 +79,20 @@ lines_more schedule from number [] lane at =
 lines_more schedule from number (x ∷ sent) lane at =
     ap (λ (rest : List ℕ). line_of schedule from x ++ rest) (lines_more schedule (suc from) number sent lane (omega (arith, at)))
     ∙ sym (append_assoc (line_of schedule from x) (lines_from schedule (suc from) sent) (line_of schedule number lane))
+
+-- the first lanes, received, are the first of all that are
+pub prefix_arrived : (schedule : ScheduleValue) (sent : List (List ℕ)) (count : ℕ) (first received : List (List ℕ)) → count ≤ length sent → AreArrived schedule (take count sent) first → AreArrived schedule sent received →
+    (rest : List (List ℕ)) × ((received ≡ first ++ rest) × (length rest ≡ length sent - count))
+prefix_arrived schedule sent count first received within are all =
+    let long : length (take count sent) ≡ count = length-take-le count sent within in
+    let many = all.as_many in
+    let few = are.as_many in
+    let held : length (take count received) ≡ count = length-take-le count received (omega (arith, many, within)) in
+    let same : take count received ≡ first = ext_get_or [] (take count received) first (held ∙ sym (few ∙ long)) (λ i lt. let below : i < count = omega (arith, lt, held) in
+    get_or-take count received i [] below
+    ∙ only (received_bits (lane_damage schedule i) (bits_of_bytes (get_or sent i []))) (get_or received i []) (get_or first i []) (all.each i (omega (arith, below, within)))
+    (subst (λ (x : List ℕ). IsArrived schedule i x (get_or first i [])) (get_or-take count sent i [] below) (are.each i (omega (arith, below, long))))) in
+    (drop count received, (sym (take-append-drop count received) ∙ ap (λ (cs : List (List ℕ)). cs ++ drop count received) same, length-drop count received ∙ ap (λ n. n - count) many))
 
 -- ---- what is told of a lane
 

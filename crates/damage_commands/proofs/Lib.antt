@@ -7,5 +7,5 @@ mod NoneStruck
 mod Zeros
 mod Arrived
 mod LanesRead
-mod Writing
+mod Makers
 mod Sending

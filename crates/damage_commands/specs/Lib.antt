@@ -4,4 +4,5 @@ pub mod Struck
 pub mod Damage
 pub mod DamageLaws
 -- needed by private functions and proofs alone
+pub mod Making
 pub mod Values

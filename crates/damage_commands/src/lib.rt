@@ -3,7 +3,7 @@
 
 mod damage;
 mod inputs;
-mod lanes;
+mod lane_maker;
 pub mod laws;
 mod line;
 mod struck;

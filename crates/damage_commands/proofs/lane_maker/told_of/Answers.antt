@@ -3,7 +3,7 @@ use Rattle.std.proofs.lemmas.List.{get_or_read}
 use Rattle.link_plan.specs.ScheduleViews.{schedule_value}
 use Rattle.link_replay.specs.Damages.{lane_damage}
 use Rattle.damage_commands.proofs.Arrived.{room, same_line, struck_is}
-use Rattle.damage_commands.proofs.lanes.told_of.Goals as goal
+use Rattle.damage_commands.proofs.lane_maker.told_of.Goals as goal
 
 pub struck_bits-requires-clause-there : goal.struck_bits-requires-clause-there
 struck_bits-requires-clause-there c =
