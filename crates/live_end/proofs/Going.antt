@@ -35,6 +35,10 @@ use Rattle.live_end.specs.Sending.{IsOver, Sends, Sent, progress_of, sent, with_
 with_none : (x : Sent) → with_columns 0 [] x ≡ x
 with_none x = ap (λ (w : List Word). sent x.settings x.given w (x.columns + 0) x.taken) (append-nil x.words) ∙ ap (λ n. sent x.settings x.given x.words n x.taken) (let e : x.columns + 0 ≡ x.columns = omega arith in e)
 
+with_both : (x : Sent) (n m : ℕ) (words more : List Word) → with_columns m more (with_columns n words x) ≡ with_columns (n + m) (words ++ more) x
+with_both x n m words more =
+    ap (λ (w : List Word). sent x.settings x.given w (x.columns + n + m) x.taken) (append_assoc x.words words more) ∙ ap (λ c. sent x.settings x.given (x.words ++ (words ++ more)) c x.taken) (let e : x.columns + n + m ≡ x.columns + (n + m) = omega arith in e)
+
 module _ (lane count : ℕ) where
   pub makes_none : (t : State) → MakesWords lane count t t
   makes_none t x k = (0, [], (λ n low. absurd (omega (arith, low))), subst (Sends t) (sym (with_none x)) k)

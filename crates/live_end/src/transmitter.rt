@@ -220,6 +220,16 @@ impl LiveTransmitter {
         }
     }
 
+    // Takes the next bytes of a lane that is there.
+    fn take_there(&mut self, lane: u32, out: &mut [u8]) -> usize
+        requires there { lane < length self.old.lanes.lanes }
+        ensures { IsTake self.old self.new lane out.old out.new result }
+    {
+        self.fill(lane, out.len());
+        self.close();
+        self.lanes.take(lane, out)
+    }
+
     /// Takes the next bytes of a lane, and returns how many: words are made until as many wait as there is room for, and no word more,
     /// or a ring has no room, or the lanes have ended. A lane that is not there gives none, and no word is made.
     pub fn take(&mut self, lane: u32, out: &mut [u8]) -> usize
@@ -229,8 +239,6 @@ impl LiveTransmitter {
         if lane as usize >= self.lanes.count() {
             return 0;
         }
-        self.fill(lane, out.len());
-        self.close();
-        self.lanes.take(lane, out)
+        self.take_there(lane, out)
     }
 }

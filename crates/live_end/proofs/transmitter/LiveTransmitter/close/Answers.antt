@@ -1,6 +1,6 @@
 -- The lanes end with the stream.
 use Rattle.std.proofs.Common.{inl, inr, ◌∙◌, sym, ap, subst, length, arith, eq-eqb}
-use Rattle.live_end.specs.States.{State, state}
+use Rattle.live_end.specs.States.{State}
 use Rattle.live_end.specs.Sending.{Sends, progress_of}
 use Rattle.std.proofs.lemmas.Bool.{cases_lt, false≢true}
 use Rattle.live_stream.specs.Gives.{most_words}

@@ -5,7 +5,7 @@ use Rattle.live_end.specs.Sending.{progress_of, with_taken}
 use Rattle.live_lanes.specs.Lanes.{waiting_on}
 use Rattle.live_end.specs.Calls.{IsStill, MakesWords}
 use Rattle.live_end.proofs.Going.{makes_same, taken_sends}
-use Rattle.live_end.proofs.transmitter.LiveTransmitter.take.Goals as goal
+use Rattle.live_end.proofs.transmitter.LiveTransmitter.take_there.Goals as goal
 
 pub invariant_of-self : goal.invariant_of-self
 invariant_of-self c =
@@ -14,8 +14,8 @@ invariant_of-self c =
     let bytes = take c.take.result (waiting_on c.args.lane v.lanes) in
     (with_taken c.args.lane bytes x, taken_sends v.scheduler v.lanes v.row.items x k c.take.new.self c.args.lane bytes (c.take.ensures.stands (progress_of x) k.stands) c.take.ensures.ended)
 
-pub returns-clause-there : goal.returns-clause-there
-returns-clause-there c there =
+pub returns : goal.returns
+returns c =
     let v = c.self.inside in
     let filled = state v.scheduler v.lanes v.row.items in
     let bytes = take c.take.result (waiting_on c.args.lane v.lanes) in (
