@@ -49,6 +49,10 @@ fn put_events<S: Store>(
     ensures grown { (given : List ℕ) (was : Option Files) → IsOpen outputs.old (given ∷ []) was (S.files store.old) →
         Grown outputs.old outputs.new ((given ++ event_rows lane events.now) ∷ []) result was (S.files store.new) }
 {
+    // Most pieces show no event: then no writer of rows is made.
+    if events.is_empty() {
+        return Ok(());
+    }
     let rows = event_rows(alloc, lane, events)?;
     outputs.put(alloc, store, 0, &rows)
 }
