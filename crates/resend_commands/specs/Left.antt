@@ -7,7 +7,7 @@ use Rattle.resend_events.specs.declared.row.EventRow.{EventRow}
 use Rattle.retransmit.specs.Rows.{events_of}
 use Rattle.resend_commands.specs.declared.place.Place.{Place}
 
--- the row is one of these, or comes after the last, and its event comes as often as it was done
+-- the row is one of these, or the place is after the last, and the event of the row was done at most as often as it comes
 pub record IsAmong (rows : List EventRow) (place : Place) : Type 0 where
   pub row : place.row ≤ length rows
   pub done : place.done ≤ (get_or rows place.row (times Send 0)).count
