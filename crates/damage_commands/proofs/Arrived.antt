@@ -1,5 +1,5 @@
 -- Lanes as they are received: there is one list of their files, and it is made lane by lane.
-use Rattle.std.proofs.Common.{◌≡◌, ℕ, zero, suc, ◌<◌, ◌≤◌, ◌+◌, ◌-◌, ◌*◌, ◌^◌, inl, inr, All, Bool, true, false, List, [], ◌∷◌, ◌++◌, length, map, take, drop, replicate, get_or, refl, sym, ap, ap₂, ◌∙◌, subst, arith, append_assoc, append-nil}
+use Rattle.std.proofs.Common.{◌≡◌, ℕ, zero, suc, ◌<◌, ◌≤◌, ◌+◌, ◌-◌, ◌*◌, inl, inr, All, Bool, true, false, List, [], ◌∷◌, ◌++◌, length, map, take, drop, replicate, get_or, refl, sym, ap, ◌∙◌, subst, arith, append_assoc, append-nil}
 use Rattle.std.specs.List.{range_with_len}
 use Rattle.std.proofs.lemmas.Bool.{cases_lt}
 use Rattle.std.proofs.lemmas.List.{ext_get_or, get_or-take, length-append, length-drop, length-replicate, length-take-le, length_push, take-append-drop}
@@ -96,10 +96,15 @@ prefix_arrived schedule sent count first received within are all =
 
 -- ---- what is told of a lane
 
-pub all_bits : (sent : List ℕ) (bits : ℕ) → bits ≡ 8 * length sent → take bits (bits_of_bytes sent) ≡ bits_of_bytes sent
+all_bits : (sent : List ℕ) (bits : ℕ) → bits ≡ 8 * length sent → take bits (bits_of_bytes sent) ≡ bits_of_bytes sent
 all_bits sent bits e =
     ap (λ n. take n (bits_of_bytes sent)) (e ∙ sym (length-flat_map_bits 8 sent))
     ∙ ap (take (length (bits_of_bytes sent))) (sym (append-nil (bits_of_bytes sent))) ∙ take-append_seam (bits_of_bytes sent) []
+
+-- a file of the received bits of all bits of a lane
+pub all_arrived : (schedule : ScheduleValue) (lane : ℕ) (sent received : List ℕ) (bits : ℕ) → bits ≡ 8 * length sent →
+    IsFileOf received (received_bits (lane_damage schedule lane) (take bits (bits_of_bytes sent))) → IsArrived schedule lane sent received
+all_arrived schedule lane sent received bits e file = subst (λ (bs : List Bool). IsFileOf received (received_bits (lane_damage schedule lane) bs)) (all_bits sent bits e) file
 
 module _ (damage : LaneDamage) (sent received : List ℕ) (skew : ℕ) (is : skew ≡ damage.skew) (file : IsFileOf received (received_bits damage (bits_of_bytes sent))) where
   abbrev ones : List Bool

@@ -1,5 +1,5 @@
 -- `damage`: its outcomes, and the readings before it.
-use Rattle.std.proofs.Common.{◌≡◌, ◌∙◌, ℕ, List, length, map, refl, sym, ap, subst, Option, Some, None, IfSome, Result, Ok, Err, MatchResult, Contains, Vec, Global, inl, inr}
+use Rattle.std.proofs.Common.{◌≡◌, ◌∙◌, ℕ, List, map, refl, sym, ap, subst, Option, Some, None, IfSome, Result, Ok, Err, MatchResult, Contains, Vec, Global, inl, inr}
 use Rattle.lk_outside.specs.Files.{Files}
 use Rattle.link_plan.specs.Plan.{PlanValue}
 use Rattle.link_plan.specs.Schedules.{ScheduleValue}

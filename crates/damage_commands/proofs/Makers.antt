@@ -1,6 +1,6 @@
 -- What the maker of damaged lanes gave begins what is made of its inputs.
-use Rattle.std.proofs.Common.{◌≡◌, ◌∙◌, ◌<◌, ◌≤◌, ◌+◌, ◌-◌, ◌++◌, ◌∷◌, [], ℕ, zero, suc, All, false, List, Vec, Global, length, map, take, drop, replicate, get_or, set, refl, sym, ap, ap₂, subst, arith, append_assoc, append-nil}
-use Rattle.std.proofs.lemmas.List.{length-append, length-map, length-replicate, length-take-le, take_all}
+use Rattle.std.proofs.Common.{◌≡◌, ◌∙◌, ◌<◌, ◌≤◌, ◌+◌, ◌-◌, ◌++◌, ◌∷◌, [], ℕ, zero, suc, All, false, List, Vec, Global, length, take, replicate, refl, sym, ap, ap₂, subst, arith, append-nil}
+use Rattle.std.proofs.lemmas.List.{length-map, length-take-le, take_all}
 use Rattle.std.proofs.lemmas.List.FromFn.{length-map-range_with_len}
 use Rattle.link_plan.specs.Schedules.{ScheduleValue}
 use Rattle.link_plan.specs.ScheduleViews.{schedule_value}
@@ -9,10 +9,11 @@ use Rattle.run_stops.specs.Reading.{vec_items}
 use Rattle.run_shell.specs.Ends.{held_status}
 use Rattle.run_shell.specs.Names.{lane_name, lane_names}
 use Rattle.run_shell.specs.Outcome.{Outcome}
-use Rattle.run_shell.specs.Outputs.{Prefixes, blank, more, outs}
+use Rattle.run_shell.specs.Open.{Open}
+use Rattle.run_shell.specs.Outputs.{Prefixes, blank, more, open_names, outs}
 use Rattle.run_shell.specs.Writing.{Begin, delivered}
 use Rattle.run_shell.specs.declared.finished.Finished.{Finished}
-use Rattle.damage_commands.specs.PlanLanes.{DamageInputs, whole_lane_limit}
+use Rattle.damage_commands.specs.PlanLanes.{whole_lane_limit}
 use Rattle.damage_commands.specs.Damage.{AreArrived, IsArrived, IsDamaged, damaged_names, damaged_out, line_of, lines_from}
 use Rattle.damage_commands.specs.Making.{GaveLanes, lanes_of}
 use Rattle.damage_commands.specs.Values.{inputs_value}
@@ -20,8 +21,11 @@ use Rattle.damage_commands.specs.declared.inputs.DamageInputs as code
 use Rattle.damage_commands.proofs.Arrived.{arrived_more, lines_more, none_arrived, prefix_arrived}
 
 -- the outputs are as many as the lanes
-pub as_many_names : (out : List ℕ) (lanes : ℕ) → length (lane_names (damaged_out out) lanes) ≡ lanes
+as_many_names : (out : List ℕ) (lanes : ℕ) → length (lane_names (damaged_out out) lanes) ≡ lanes
 as_many_names out lanes = length-map-range_with_len (lane_name (damaged_out out)) 0 lanes
+
+pub outputs_count : (opens : List Open) (out : List ℕ) (lanes : ℕ) → open_names opens ≡ lane_names (damaged_out out) lanes → length opens ≡ lanes
+outputs_count opens out lanes e = sym (length-map opens (λ (f : Open). f.name)) ∙ ap length e ∙ as_many_names out lanes
 
 nothing_in_each : (names : List (List ℕ)) (n : ℕ) → length names ≡ n → blank names ≡ replicate n []
 nothing_in_each [] zero e = refl
@@ -38,7 +42,7 @@ first_of_all (c ∷ first) rest = (([], sym (append-nil c)), first_of_all first 
 -- the next output is given its content
 next_given : (first : List (List ℕ)) (left : ℕ) (bytes : List ℕ) → 0 < left → more (first ++ replicate left []) (length first) bytes ≡ (first ++ bytes ∷ []) ++ replicate (left - 1) []
 next_given [] zero bytes h = absurd (omega (arith, h))
-next_given [] (suc left) bytes h = refl
+next_given [] (suc left) bytes h = (let e : left ≡ suc left - 1 = omega arith in ap (λ n. bytes ∷ replicate n []) e)
 next_given (c ∷ first) left bytes h = ap (λ (cs : List (List ℕ)). c ∷ cs) (next_given first left bytes h)
 
 module _ (i : code.DamageInputs) where
@@ -71,10 +75,9 @@ module _ (i : code.DamageInputs) where
     pub gave_begins : (count : ℕ) (given : List (List ℕ)) (o : Outcome) → GaveLanes i lines count given → IsDamaged (inputs_value i) o → Begin names given o.files
     gave_begins count given o g is =
         let (rest, (e, long)) = prefix_arrived schedule all count g.received is.received (omega (arith, g.within, length-map i.lanes.items vec_items)) g.are is.are in
-        let left : length i.lanes.items - count ≡ length rest = omega (arith, long, length-map i.lanes.items vec_items) in (
-          is.received,
-          (is.files, subst (λ (cs : List (List ℕ)). Prefixes cs is.received) (sym (g.is ∙ ap (λ n. g.received ++ replicate n []) left)) (subst (Prefixes (g.received ++ replicate (length rest) [])) (sym e) (first_of_all g.received rest))),
-        )
+        let left : length i.lanes.items - count ≡ length rest = omega (arith, long, length-map i.lanes.items vec_items) in
+        let begins = subst (Prefixes (g.received ++ replicate (length rest) [])) (sym e) (first_of_all g.received rest) in
+        (is.received, is.files, subst (λ (cs : List (List ℕ)). Prefixes cs is.received) (sym (g.is ∙ ap (λ n. g.received ++ replicate n []) left)) begins)
 
     module _ (count : ℕ) (given : List (List ℕ)) (g : GaveLanes i lines count given) where
       -- the next lane

@@ -1,5 +1,5 @@
 -- No bit is struck where a lane arrives as it was sent.
-use Rattle.std.proofs.Common.{ℕ, zero, suc, ◌≡◌, ◌↔◌, refl, sym, ap, ◌∙◌, ◌+◌, Bool, true, false, List, [], ◌∷◌, ◌++◌, length, take, replicate, map, arith, subst}
+use Rattle.std.proofs.Common.{ℕ, ◌≡◌, ◌↔◌, refl, sym, ap, ◌∙◌, ◌+◌, Bool, true, false, List, [], ◌∷◌, ◌++◌, length, take, replicate, arith, subst}
 use Rattle.std.specs.List.{enumerate_from}
 use Rattle.std.proofs.lemmas.List.{append_cancel_left, length-append, length-map}
 use Rattle.std.proofs.lemmas.List.FromFn.{length-enumerate_from}
@@ -8,7 +8,6 @@ use Rattle.lk_base.specs.Checksum.{bits_of_bytes, differ, digit}
 use Rattle.lane_model.specs.Damage.{LaneDamage, damaged_bits, received_bit, received_bits}
 use Rattle.lane_model.specs.LaneBits.{IsFileOf}
 use Rattle.damage_commands.specs.Struck.{differing, struck}
-use Rattle.link_plan.specs.Schedules.{ScheduleValue}
 use Rattle.link_replay.specs.Damages.{lane_damage}
 use Rattle.damage_commands.specs.DamageLaws.{ArrivesAsSent, NoneStruck}
 

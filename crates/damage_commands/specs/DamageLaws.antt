@@ -1,5 +1,5 @@
 -- Laws on `damage` and the commands beside it.
-use Rattle.std.specs.Prelude.{◌≡◌, ◌↔◌, ◌⊎◌, ◌<◌, ◌≤◌, ◌*◌, ◌-◌, ◌%◌, ℕ, true, false, List, [], ◌∷◌, ◌++◌, length, replicate, Bool, Contains, Some, Ok}
+use Rattle.std.specs.Prelude.{◌≡◌, ◌↔◌, ◌⊎◌, ◌<◌, ◌≤◌, ◌*◌, ◌-◌, ◌%◌, ℕ, true, List, [], ◌∷◌, ◌++◌, length, replicate, Bool, Contains, Some, Ok}
 use lib.Chars.{codes}
 use Rattle.lk_base.specs.Checksum.{bits_of_bytes}
 use Rattle.lane_model.specs.Damage.{LaneDamage, received_bits}
@@ -15,7 +15,7 @@ use Rattle.stream_commands.specs.Plan.{send_plan_work}
 use Rattle.link_commands.specs.Inputs.{LinkReading}
 use Rattle.link_commands.specs.Linked.{IsLinked}
 use Rattle.damage_commands.specs.PlanLanes.{DamageInputs, damage_inputs_in, whole_lane_limit}
-use Rattle.damage_commands.specs.Struck.{damaged_line, struck, unused}
+use Rattle.damage_commands.specs.Struck.{struck, unused}
 use Rattle.damage_commands.specs.Damage.{IsArrived, IsDamaged, damage_work, damaged_out, lines_from}
 
 -- what is read comes to one outcome, where files hold bytes there is one, and no stream is held

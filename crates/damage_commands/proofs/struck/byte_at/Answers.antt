@@ -1,4 +1,4 @@
-use Rattle.std.proofs.Common.{rules, ◌<◌, ◌+◌, ◌/◌, ◌%◌, arith, get_or}
+use Rattle.std.proofs.Common.{rules}
 use Rattle.damage_commands.proofs.Bytes.{byte_between, whole_byte}
 use Rattle.damage_commands.proofs.struck.byte_at.Goals as goal
 

@@ -1,4 +1,4 @@
-use Rattle.std.proofs.Common.{◌<◌, ◌^◌, rules, arith}
+use Rattle.std.proofs.Common.{arith}
 use Rattle.std.proofs.lemmas.Nat.{xor_lt}
 use Rattle.damage_commands.proofs.Differing.{differing_bytes}
 use Rattle.damage_commands.proofs.struck.differing_bits.Goals as goal

@@ -1,7 +1,6 @@
-use Rattle.std.proofs.Common.{◌≡◌, ◌+◌, ◌<◌, ◌≤◌, ◌∙◌, sym, ap₂, ℕ, length, drop, take, get_or, arith, rules}
+use Rattle.std.proofs.Common.{◌+◌, ◌≤◌, ◌∙◌, sym, ap₂, ℕ, length, drop, get_or, arith, rules}
 use Rattle.lk_base.specs.Checksum.{bits_of_bytes}
-use Rattle.damage_commands.specs.Struck.{differing}
-use Rattle.damage_commands.proofs.Differing.{all_compared, few_byte, few_yet, none_yet, one_more}
+use Rattle.damage_commands.proofs.Differing.{few_byte, few_yet, none_yet, one_more}
 use Rattle.damage_commands.proofs.struck.struck_bits.Goals as goal
 
 pub loop-i-init : goal.loop-i-init

@@ -1,4 +1,3 @@
-use Rattle.std.proofs.Common.{string_bytes}
 use Rattle.std.proofs.lemmas.Result.{err_from_is_err_and}
 use Rattle.link_plan.specs.Views.{plan_value}
 use Rattle.run_shell.proofs.OutputNames.{numbered_name}
