@@ -16,3 +16,4 @@ pub record StandsOut (calendar : CalendarOut) (entries : List ℕ) (local : List
   pub wide : length calendar.on.items ≡ 65536
   pub first : calendar.first ≡ first_entry entries j
   pub states : (channel : ℕ) → channel < 65536 → slice_index_or calendar.on.items channel false ≡ last_local local channel
+  pub same : calendar.all_on ≡ true → (channel : ℕ) → last_local local channel ≡ true

@@ -12,6 +12,8 @@ pub struct CalendarOut {
     first: usize,
     // The state of each channel by its number.
     on: Vec<bool>,
+    // Whether no channel was ever off.
+    all_on: bool,
 }
 
 // 1 for true.
@@ -40,6 +42,7 @@ impl CalendarOut {
             entries: own,
             first: 0,
             on,
+            all_on: true,
         })
     }
 
@@ -49,6 +52,7 @@ impl CalendarOut {
         ensures { (entries : List ℕ) (local : List LocalRow) (j slot : ℕ) → StandsOut self.old entries local j → StandsOut self.new entries (local ++ record { slot = slot; channel = channel; on = on } ∷ []) j }
     {
         self.on[channel as usize] = on;
+        self.all_on = self.all_on && on;
     }
 
     // What the next control word tells at a place.
@@ -66,6 +70,30 @@ impl CalendarOut {
         }
     }
 
+    // The flow bits of the next control word, found one by one.
+    fn each_bit(&self) -> u16
+        requires stands { (entries : List ℕ) × (local : List LocalRow) × (j : ℕ) × StandsOut self.now entries local j }
+        ensures { (entries : List ℕ) (local : List LocalRow) (j t i : ℕ) → StandsOut self.now entries local j → All (λ (row : LocalRow). row.slot ≤ t) local → i < 16 → (bit_at result (15 - i) == 1) ≡ calendar_bit entries local j t i }
+    {
+        let mut flow: u16 = 0;
+        for i in 0..16usize {
+            flow = flow * 2 + one_if(self.bit(i));
+        }
+        flow
+    }
+
+    // The flow bits of the next control word: all 1 where no channel was ever off.
+    fn flow(&self) -> u16
+        requires stands { (entries : List ℕ) × (local : List LocalRow) × (j : ℕ) × StandsOut self.now entries local j }
+        ensures { (entries : List ℕ) (local : List LocalRow) (j t i : ℕ) → StandsOut self.now entries local j → All (λ (row : LocalRow). row.slot ≤ t) local → i < 16 → (bit_at result (15 - i) == 1) ≡ calendar_bit entries local j t i }
+    {
+        if self.all_on {
+            u16::MAX
+        } else {
+            self.each_bit()
+        }
+    }
+
     /// The reset bit and the flow bits of the next control word.
     pub fn next(&mut self) -> (bool, u16)
         requires stands { (entries : List ℕ) × (local : List LocalRow) × (j : ℕ) × StandsOut self.old entries local j }
@@ -74,10 +102,7 @@ impl CalendarOut {
         ensures stands { (entries : List ℕ) (local : List LocalRow) (j : ℕ) → StandsOut self.old entries local j → StandsOut self.new entries local (j + 1) }
     {
         let reset = self.first == 0;
-        let mut flow: u16 = 0;
-        for i in 0..16usize {
-            flow = flow * 2 + one_if(self.bit(i));
-        }
+        let flow = self.flow();
         let after = self.first + 16;
         self.first = if after < self.entries.len() { after } else { 0 };
         (reset, flow)

@@ -1,4 +1,4 @@
-use Rattle.std.proofs.Common.{◌≡◌, ◌∙◌, sym, ap, ◌+◌, ◌*◌, ◌/◌, true, false, length, replicate}
+use Rattle.std.proofs.Common.{◌≡◌, ◌∙◌, refl, sym, ap, ◌+◌, ◌*◌, ◌/◌, true, false, length, replicate}
 use Rattle.std.proofs.Math.Nat.{zero-mod}
 use Rattle.std.proofs.lemmas.List.{get_or-replicate, length-replicate}
 use Rattle.calendar.proofs.outgoing.CalendarOut.new.Goals as goal
@@ -12,4 +12,5 @@ returns c =
       wide = ap length on ∙ length-replicate 65536 true;
       first = sym (ap (λ k. 16 * k) (zero-mod ((length c.args.entries.now + 15) / 16)));
       states = λ channel h. rw on (get_or-replicate 65536 channel true false h);
+      same = λ _ channel. refl;
     }

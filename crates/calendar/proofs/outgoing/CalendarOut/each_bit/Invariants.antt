@@ -3,7 +3,7 @@ use Rattle.std.specs.Int.{bit_at}
 use Rattle.stream_model.specs.Calendar.{calendar_bit}
 use Rattle.stream_model.specs.declared.rows.LocalRow.{LocalRow}
 use Rattle.calendar.specs.Outgoing.{StandsOut}
-use Rattle.calendar.proofs.outgoing.CalendarOut.next.Given as goal
+use Rattle.calendar.proofs.outgoing.CalendarOut.each_bit.Given as goal
 
 -- the first i bits are there, the first of them highest
 abbrev pub invariant-loop-i : goal.invariant-loop-i
