@@ -1,5 +1,6 @@
 -- What other crates cite.
 pub mod Making
+pub mod Runs
 -- What this crate alone cites.
 mod ExamplesHold
 mod Befores

@@ -13,3 +13,4 @@ pub mod ControlRows
 pub mod Checks
 pub mod Made
 pub mod Order
+pub mod Runs

@@ -1,13 +1,14 @@
 //! What the rules read of the words before a place.
-ghost use Rattle.std.specs.Prelude.{◌≡◌, ◌<◌, ◌^◌, List, [], ◌∷◌, length, suc, cond, Some, None, IfSome};
+ghost use Rattle.std.specs.Prelude.{◌≡◌, ◌<◌, ◌+◌, ◌^◌, List, [], ◌∷◌, length, suc, cond, Some, None, IfSome};
 ghost use Rattle.std.specs.Option.{option_map};
 ghost use Rattle.lk_base.specs.declared.word.RxWord.{RxWord};
 ghost use Rattle.lk_base.specs.declared.word.RxWord.TheVariants.{Data, Control, Bad};
 ghost use Rattle.word_rules.specs.Places.{is_burst_word};
+ghost use Rattle.word_rules.specs.Runs.{last_or, run_after};
 ghost use Rattle.word_rules.specs.Stands.{IsBefore};
 
 use control_words::ControlWord;
-use lk_crc::{crc24_start, crc24_word};
+use lk_crc::{crc24_start, crc24_word, crc24_words};
 
 /// Whether a word is a burst word: an accepted control word with bit 62.
 pub fn is_burst_word(word: ControlWord) -> bool
@@ -33,6 +34,28 @@ pub fn one_more(count: Option<u64>) -> Option<u64>
     ensures { result ≡ option_map suc count }
 {
     count.map(|n| n + 1)
+}
+
+// So many more than a count, if there is one.
+fn more(count: Option<u64>, by: u64) -> Option<u64>
+    requires first { IfSome count (λ n. n < 2 ^ 61) }
+    requires second { by < 2 ^ 61 }
+    ensures { result ≡ option_map (λ n. n + by) count }
+{
+    match count {
+        Some(n) => Some(n + by),
+        None => None,
+    }
+}
+
+// The last of these numbers, or another where there is none.
+fn last_or(other: u64, run: &[u64]) -> u64
+    ensures { result ≡ last_or other run.now }
+{
+    if run.is_empty() {
+        return other;
+    }
+    run[run.len() - 1]
 }
 
 // The words between the last burst word and what comes after a Control word, by those before it.
@@ -96,6 +119,22 @@ impl Before {
             size: self.size + 1,
             last: word,
             since_burst: one_more(self.since_burst),
+            ..self
+        }
+    }
+
+    /// The words with Data words of these numbers after them.
+    pub fn after_run(self, run: &[u64]) -> Before
+        requires { (earlier : List RxWord) × IsBefore self earlier × (length earlier + length run.now < 2 ^ 60) }
+        ensures { (earlier : List RxWord) → IsBefore self earlier → IsBefore result (run_after earlier run.now) }
+    {
+        let count = run.len() as u64;
+        Before {
+            number: self.number + count,
+            register: crc24_words(self.register, run),
+            size: self.size + count,
+            last: last_or(self.last, run),
+            since_burst: more(self.since_burst, count),
             ..self
         }
     }

@@ -1,11 +1,12 @@
 //! The pass over a sender's words.
-ghost use Rattle.std.specs.Prelude.{◌≡◌, ◌<◌, ◌^◌, ◌++◌, ◌∷◌, [], List, Option, true, slice_get, slice_set, IfOk, OnOk, length};
+ghost use Rattle.std.specs.Prelude.{◌≡◌, ◌<◌, ◌+◌, ◌^◌, ◌++◌, ◌∷◌, [], ℕ, List, map, Option, true, slice_get, slice_set, IfOk, OnOk, length};
 ghost use Rattle.lk_base.specs.declared.word.RxWord.{RxWord};
 ghost use Rattle.lk_base.specs.declared.word.RxWord.TheVariants.{Data, Control, Bad};
-ghost use Rattle.word_rules.specs.Faults.{Plan, faults, faults_at, plan_by};
+ghost use Rattle.word_rules.specs.Faults.{Plan, faults, faults_at, faults_from, plan_by};
 ghost use Rattle.word_rules.specs.Made.{AreUnused, unused};
 ghost use Rattle.word_rules.specs.Checks.{Keeps};
 ghost use Rattle.word_rules.specs.Flows.{InOrder};
+ghost use Rattle.word_rules.specs.Runs.{run_after};
 
 use crate::before::Before;
 use crate::channel::ChannelState;
@@ -122,6 +123,35 @@ impl Checker {
     {
         self.before.data_rows(self.limits, faults)?;
         self.before = self.before.after_data(word);
+        Ok(())
+    }
+
+    // Takes Data words of these numbers, each by itself.
+    fn each_data(&mut self, run: &[u64], faults: &mut Vec<Fault>) -> Result<(), OutOfMemory>
+        requires { (p : Plan) × (earlier : List RxWord) × Keeps self.old p earlier × (length earlier + length run.now < 2 ^ 57) }
+        ensures rows { (p : Plan) (earlier : List RxWord) → Keeps self.old p earlier → OnOk result (faults.new.items ≡ faults.old.items ++ faults_from p earlier (map (λ (x : ℕ). Data x) run.now)) }
+        ensures keeps { (p : Plan) (earlier : List RxWord) → Keeps self.old p earlier → OnOk result (Keeps self.new p (run_after earlier run.now)) }
+    {
+        for i in 0..run.len() {
+            self.data(run[i], faults)?;
+        }
+        Ok(())
+    }
+
+    /// Takes Data words of these numbers, one after another, and puts the rows of their faults after the others, as `step` for each.
+    ///
+    /// # Errors
+    ///
+    /// `OutOfMemory`. What the checker gives after it means nothing.
+    pub fn data_run(&mut self, run: &[u64], faults: &mut Vec<Fault>) -> Result<(), OutOfMemory>
+        requires { (p : Plan) × (earlier : List RxWord) × Keeps self.old p earlier × (length earlier + length run.now < 2 ^ 57) }
+        ensures rows { (p : Plan) (earlier : List RxWord) → Keeps self.old p earlier → OnOk result (faults.new.items ≡ faults.old.items ++ faults_from p earlier (map (λ (x : ℕ). Data x) run.now)) }
+        ensures keeps { (p : Plan) (earlier : List RxWord) → Keeps self.old p earlier → OnOk result (Keeps self.new p (run_after earlier run.now)) }
+    {
+        if self.before.may_break(self.limits, run.len() as u64) {
+            return self.each_data(run, faults);
+        }
+        self.before = self.before.after_run(run);
         Ok(())
     }
 

@@ -3,6 +3,7 @@ ghost use Rattle.std.specs.Prelude.{◌≡◌, ◌+◌, ◌-◌, ◌*◌, ◌%�
 ghost use Rattle.control_words.specs.ControlWord.{end_of};
 ghost use Rattle.word_rules.specs.Bursts.{burst_bytes, ends};
 ghost use Rattle.word_rules.specs.ByFields.{closes_by, crc_by, data_by, end_by, fill_by, wrong_fill_by, max_by, min_by, part_by, partial_by, short_by};
+ghost use Rattle.word_rules.specs.Runs.{run_by};
 
 use crate::before::{Before, is_burst_word};
 use crate::limits::WordLimits;
@@ -68,6 +69,17 @@ impl Before {
         ensures { result ≡ max_by limits self }
     {
         self.burst.is_some() && self.size == (limits.burst_max / 8) as u64
+    }
+
+    /// Whether one of so many Data words may break `data` or `max`.
+    pub fn may_break(self, limits: WordLimits, count: u64) -> bool
+        requires size { self.size < 2 ^ 60 }
+        requires few { count < 2 ^ 60 }
+        ensures { result ≡ run_by limits self count }
+    {
+        let most = (limits.burst_max / 8) as u64;
+        let long = self.burst.is_some() && self.size <= most && most < self.size + count;
+        self.breaks_data() || long
     }
 
     /// Whether a Control word breaks `crc`.
