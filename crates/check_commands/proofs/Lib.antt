@@ -4,6 +4,7 @@ pub mod Checks
 mod Tables
 mod Tallies
 mod Passing
+mod Runs
 mod Rules
 mod Makers
 mod Examples

@@ -1,5 +1,5 @@
 -- The table, row after row.
-use Rattle.std.proofs.Common.{◌≡◌, List, [], ◌∷◌, ◌++◌, map, ℕ, refl, sym, ap, ◌∙◌, append-nil, append_assoc, Some}
+use Rattle.std.proofs.Common.{◌≡◌, ◌==◌, true, length, eqb-true, arith, List, [], ◌∷◌, ◌++◌, map, ℕ, refl, sym, ap, ◌∙◌, append-nil, append_assoc, Some}
 use Rattle.std.specs.List.{flat_map}
 use Rattle.std.proofs.lemmas.List.{map-append}
 use Rattle.std.proofs.lemmas.List.Concat.{flat_map-append}
@@ -18,6 +18,10 @@ rows_more before more = ap (λ rows. flat_map (row_text rows_writer) rows) (map-
 pub rows_none : fault_rows [] ≡ []
 unfolding rows_text
 rows_none = refl
+
+pub no_faults : (faults : List Fault) → (length faults == 0) ≡ true → fault_rows faults ≡ []
+no_faults [] h = rows_none
+no_faults (f ∷ fs) h = (let z : length (f ∷ fs) ≡ 0 = eqb-true (length (f ∷ fs)) 0 h in absurd (omega (arith, z)))
 
 pub row_alone : (fault : Fault) → fault_rows (fault ∷ []) ≡ row_text rows_writer (fault_fields fault)
 unfolding rows_text

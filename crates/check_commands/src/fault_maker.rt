@@ -1,12 +1,14 @@
 //! The table of the faults of words, made as the words are judged.
-ghost use Rattle.std.specs.Prelude.{◌≡◌, ◌<◌, ◌^◌, [], ◌∷◌, IfOk, length, map, string_bytes};
+ghost use Rattle.std.specs.Prelude.{◌≡◌, ◌<◌, ◌^◌, [], ◌∷◌, IfOk, OnOk, length, map, string_bytes};
 ghost use Rattle.std.specs.List.Sorted.{IsNonDecreasingBy};
 ghost use Rattle.stream_model.specs.declared.rows.FlowRow.{FlowRow};
 ghost use Rattle.link_plan.specs.Views.{plan_value};
-ghost use Rattle.run_shell.specs.Outputs.{Differ};
+ghost use Rattle.run_shell.specs.Outputs.{Differ, more, open_names};
+ghost use Rattle.run_shell.specs.Rests.{rests_of};
 ghost use Rattle.word_rules.specs.Checks.{Keeps};
 ghost use Rattle.check_commands.specs.Check.{faults_name, limits_of, rules_of};
 ghost use Rattle.check_commands.specs.Making.{GaveFaults};
+ghost use Rattle.check_commands.specs.Table as table;
 
 use crate::inputs::CheckInputs;
 use crate::pass::{BLOCK, block_faults};
@@ -16,7 +18,7 @@ use link_plan::{Plan, channels_in_order};
 use lk_base::OutOfMemory;
 use run_shell::{Finished, Maker, Outputs, Step};
 use std::alloc::Global;
-use word_rules::{Checker, WordLimits, WordPlan};
+use word_rules::{Checker, Fault, WordLimits, WordPlan};
 
 // The name of the table, as the only one.
 fn table_names(alloc: Global, out: &str) -> Result<Vec<String>, OutOfMemory>
@@ -53,6 +55,19 @@ fn checker_of(alloc: Global, inputs: &CheckInputs) -> Result<Checker, OutOfMemor
         flow: inputs.flow.as_slice(),
     };
     Checker::new(alloc, &plan)
+}
+
+// Gives the rows of these faults to the table, and nothing where there is none.
+fn give_rows(alloc: Global, outputs: &mut Outputs, faults: &[Fault]) -> Result<(), OutOfMemory>
+    requires { 0 < length outputs.old }
+    ensures names { open_names outputs.new ≡ open_names outputs.old }
+    ensures given { OnOk result (rests_of outputs.new ≡ more (rests_of outputs.old) 0 (table.fault_rows faults.now)) }
+{
+    if faults.is_empty() {
+        return Ok(());
+    }
+    let rows = fault_rows(alloc, faults)?;
+    outputs.give_owned(0, rows)
 }
 
 /// What makes the table of the faults of a plan's words.
@@ -126,8 +141,7 @@ impl Maker for FaultMaker<'_> {
         let to = words.len().min(self.judged + BLOCK);
         let found = block_faults(alloc, &mut self.checker, words, self.judged, to)?;
         self.tally.take(&found);
-        let rows = fault_rows(alloc, &found)?;
-        outputs.give_owned(0, rows)?;
+        give_rows(alloc, outputs, &found)?;
         self.judged = to;
         Ok(Step::More)
     }

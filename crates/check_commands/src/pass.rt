@@ -1,6 +1,6 @@
 //! The pass over the words, block by block.
-ghost use Rattle.std.specs.Prelude.{◌≡◌, ◌<◌, ◌≤◌, ◌^◌, ◌++◌, get_or, length, take, drop, reverse, IfOk, OnOk};
-ghost use Rattle.lk_base.specs.declared.word.RxWord.TheVariants.{Bad};
+ghost use Rattle.std.specs.Prelude.{◌≡◌, ◌<◌, ◌≤◌, ◌+◌, ◌^◌, ◌++◌, ℕ, get_or, length, map, take, drop, reverse, IfOk, OnOk};
+ghost use Rattle.lk_base.specs.declared.word.RxWord.TheVariants.{Data, Bad};
 ghost use Rattle.word_rules.specs.Checks.{Keeps};
 ghost use Rattle.word_rules.specs.Faults.{Plan, faults_from};
 ghost use Rattle.word_rules.specs.Flows.{InOrder};
@@ -25,6 +25,54 @@ fn word_at(words: &WordsFile, number: usize) -> RxWord
     word
 }
 
+// Copies the numbers of the Data words from number `from` on, up to number `to`, as many as stand there one after another and as there
+// is room for. It returns how many these are.
+fn copy_data(words: &WordsFile, from: usize, to: usize, room: &mut [u64]) -> usize
+    requires first { from ≤ to }
+    requires last { to ≤ length words.now }
+    ensures upto { from + result ≤ to }
+    ensures fits { result ≤ length room.new }
+    ensures same { map (λ (x : ℕ). Data x) (take result room.new) ≡ take result (drop from words.now) }
+{
+    let most = room.len().min(to - from);
+    for count in 0..most {
+        let Some(RxWord::Data(number)) = words.get(from + count) else {
+            return count;
+        };
+        room[count] = number;
+    }
+    most
+}
+
+// Puts the faults of a word, or of a run of Data words, from this number on after the others, and returns the number of the word after.
+fn next_faults(
+    checker: &mut Checker,
+    words: &WordsFile,
+    number: usize,
+    to: usize,
+    room: &mut [u64],
+    found: &mut Vec<Fault>,
+) -> Result<usize, OutOfMemory>
+    requires first { number < to }
+    requires last { to ≤ length words.now }
+    requires few { length words.now < 2 ^ 32 }
+    requires keeps { (p : Plan) × Keeps checker.old p (reverse (take number words.now)) }
+    ensures on { IfOk result (λ after. number < after) }
+    ensures upto { IfOk result (λ after. after ≤ to) }
+    ensures keeps { (p : Plan) → Keeps checker.old p (reverse (take number words.now)) → IfOk result (λ after. Keeps checker.new p (reverse (take after words.now))) }
+    ensures found { (p : Plan) → Keeps checker.old p (reverse (take number words.now)) → InOrder p.flow →
+        IfOk result (λ after. found.new.items ++ faults_from p (reverse (take after words.now)) (drop after words.now) ≡ found.old.items ++ faults_from p (reverse (take number words.now)) (drop number words.now)) }
+{
+    let count = copy_data(words, number, to, room);
+    if count > 0 {
+        checker.data_run(&room[..count], found)?;
+        return Ok(number + count);
+    }
+    let next = words.get(number + 1);
+    checker.step(word_at(words, number), next, found)?;
+    Ok(number + 1)
+}
+
 /// The faults of the words from number `from` up to number `to`.
 pub fn block_faults(
     alloc: Global,
@@ -42,9 +90,10 @@ pub fn block_faults(
         IfOk result (λ found. found.items ++ faults_from p (reverse (take to words.now)) (drop to words.now) ≡ faults_from p (reverse (take from words.now)) (drop from words.now)) }
 {
     let mut found = Vec::new(alloc);
-    for number in from..to {
-        let next = words.get(number + 1);
-        checker.step(word_at(words, number), next, &mut found)?;
+    let mut room = [0; 64];
+    let mut number = from;
+    while number < to {
+        number = next_faults(checker, words, number, to, &mut room, &mut found)?;
     }
     Ok(found)
 }

@@ -51,11 +51,11 @@ returns-clause-gave c = λ done g.
     let same : c.deref.result.now ≡ c.in_ok-found.found.items = c.deref.ensures.value in
     let len = c.len.ensures in
     let least = c.min-to.ensures in
-    gave_same r c.block_faults.new.checker c.take.new.self c.min-to.result (join done (rests_of c.give_owned.new.self)) true m.begun (sym c.if-not-self.false)
-    (subst (λ (gs : List (List ℕ)). GaveFaults r c.block_faults.new.checker c.take.new.self true c.min-to.result gs) (sym (join_given done (rests_of c.args.outputs.now) _ 0 c.in_ok-rows.rows.items (c.in_ok-give_owned.ensures {u = tt}).given))
-    (block_gave r m.checker m.tally m.judged (join done (rests_of c.args.outputs.now)) h c.block_faults.new.checker c.take.new.self c.min-to.result c.in_ok-found.found.items c.in_ok-rows.rows.items
+    gave_same r c.block_faults.new.checker c.take.new.self c.min-to.result (join done (rests_of c.give_rows.new.outputs)) true m.begun (sym c.if-not-self.false)
+    (subst (λ (gs : List (List ℕ)). GaveFaults r c.block_faults.new.checker c.take.new.self true c.min-to.result gs) (sym (join_given done (rests_of c.args.outputs.now) _ 0 _ (c.in_ok-give_rows.ensures {u = tt}).given))
+    (block_gave r m.checker m.tally m.judged (join done (rests_of c.args.outputs.now)) h c.block_faults.new.checker c.take.new.self c.min-to.result c.in_ok-found.found.items _
     (omega arith)
     (c.in_ok-found.ensures.keeps (rules_in r) h.keeps)
     (c.in_ok-found.ensures.found (rules_in r) h.keeps (in_order _ h.order))
     (subst (λ (l : List Fault). IsTally c.take.new.self (h.told ++ l)) same (c.take.ensures h.told h.counted))
-    (c.in_ok-rows.ensures ∙ ap (λ (l : List Fault). fault_rows l) c.deref-2.ensures.value)))
+    (ap (λ (l : List Fault). fault_rows l) c.deref-2.ensures.value)))
