@@ -44,9 +44,9 @@ impl<'n> OpenLanes<'n> {
         ensures fresh { IfOk result (λ begun. All IsFresh begun.lanes.buffers.items) }
         ensures offsets { IfOk result (λ begun. begun.offsets.items ≡ replicate (length names.now) (Some 0)) }
     {
-        let receiver = Receiver::new(alloc, plan)?;
         let offsets = nothing_read(alloc, names.len())?;
         let lanes = FileLanes::new(alloc, names)?;
+        let receiver = Receiver::new(alloc, plan)?;
         Ok(OpenLanes {
             receiver,
             lanes,
