@@ -1,8 +1,10 @@
 //! The packets of both ends, lent to a run.
 ghost use Rattle.std.specs.Prelude.{◌≡◌, ◌+◌, ◌<◌, ◌≤◌, ◌^◌, ℕ, List, All, Contains, IfOk, OnOk, length, sum_by};
+ghost use Rattle.lk_base.specs.declared.shape.Shape.{Shape};
 ghost use Rattle.link_plan.specs.Listing.{numbers_of, channels_in_order};
 ghost use Rattle.duplex_model.specs.DuplexRun.{Ends, Settings as RunSettings};
-ghost use Rattle.duplex.specs.Duplexes.{Waits, KeepsInboxes, packet_added, packets_of as sent_by};
+ghost use Rattle.duplex.specs.Duplexes.{Waits, KeepsInboxes, empty_ends, packet_added, packets_of as sent_by};
+ghost use Rattle.duplex.specs.declared.duplex.End.TheVariants.{A, B};
 ghost use Rattle.plan_inputs.specs.Inputs.{on_channel};
 ghost use Rattle.plan_inputs.specs.Values.{packets_of, packet_values, size_of, AreOn};
 ghost use Rattle.duplex_commands.specs.Values.{duplex_reading};
@@ -67,6 +69,19 @@ fn lend_all<'a>(
     Ok(())
 }
 
+// Lends the packets of both ends to a run that has none.
+fn lend_both<'a>(duplex: &mut Duplex<'a>, inputs: &'a DuplexInputs) -> Result<(), OutOfMemory>
+    requires { (settings : RunSettings) × (shape : Shape) × (channels : List ℕ) × (entries : List ℕ) × Waits duplex.old settings (empty_ends shape channels entries) × FitEnds channels (packet_values inputs.now.packets_of_a.items) (packet_values inputs.now.packets_of_b.items) }
+    ensures waits { OnOk result ((settings : RunSettings) (ends : Ends) → Waits duplex.old settings ends → Waits duplex.new settings (all_added (all_added ends A (packet_values inputs.now.packets_of_a.items)) B (packet_values inputs.now.packets_of_b.items))) }
+    ensures inboxes { OnOk result (KeepsInboxes duplex.old duplex.new) }
+    ensures bytes_of_a { OnOk result (AreOfBytes (packet_values inputs.now.packets_of_a.items)) }
+    ensures bytes_of_b { OnOk result (AreOfBytes (packet_values inputs.now.packets_of_b.items)) }
+{
+    lend_all(duplex, End::A, &inputs.packets_of_a)?;
+    lend_all(duplex, End::B, &inputs.packets_of_b)?;
+    Ok(())
+}
+
 // The settings of a run, without its slots.
 fn settings_of(settings: &DuplexPlan) -> Settings
     ensures delay { result.delay ≡ settings.now.delay }
@@ -99,7 +114,6 @@ pub fn loaded<'a>(
         wide: inputs.plan.wide,
     };
     let mut duplex = Duplex::new(alloc, &ends, settings_of(&inputs.settings))?;
-    lend_all(&mut duplex, End::A, &inputs.packets_of_a)?;
-    lend_all(&mut duplex, End::B, &inputs.packets_of_b)?;
+    lend_both(&mut duplex, inputs)?;
     Ok(duplex)
 }

@@ -1,6 +1,6 @@
 //! What was read is run, and its outputs are written.
 ghost use Rattle.std.specs.Prelude.{◌≡◌, ◌<◌, ◌^◌, ℕ};
-ghost use Rattle.link_plan.specs.Listing.{numbers_of};
+ghost use Rattle.link_plan.specs.Listing.{numbers_of, channels_in_order};
 ghost use Rattle.duplex_model.specs.DuplexRun.{Ends, Settings};
 ghost use Rattle.duplex.specs.Duplexes.{IsGiven};
 ghost use Rattle.plan_inputs.specs.Values.{packet_values};
@@ -9,7 +9,7 @@ ghost use Rattle.run_shell.specs.Writing.{Writes};
 ghost use Rattle.duplex_commands.specs.Captures.{Beginning, names_of};
 ghost use Rattle.duplex_commands.specs.Slots.{IsAt};
 ghost use Rattle.duplex_commands.specs.Ended.{IsEnded};
-ghost use Rattle.duplex_commands.specs.Loaded.{FitEnds};
+ghost use Rattle.duplex_commands.specs.Loaded.{FitEnds, IsLoaded};
 ghost use Rattle.duplex_commands.specs.Run.{IsDuplexed, duplex_names};
 ghost use Rattle.duplex_commands.specs.Values.{duplex_reading};
 
@@ -47,6 +47,30 @@ fn run_ends<S: Store>(
     Ok(Finished { held: false, text })
 }
 
+// Creates the captures of what comes, and runs both ends, which are loaded, while these grow.
+fn run_loaded<S: Store>(
+    alloc: Global,
+    store: &mut S,
+    inputs: &DuplexInputs,
+    channels: &[u16],
+    duplex: &mut Duplex,
+) -> Result<Finished, Stop>
+    requires count { S.faults store.old < 2 ^ 60 }
+    requires channels { channels.now ≡ channels_in_order (numbers_of inputs.now.plan.channels.items) }
+    requires loaded { IsLoaded (duplex_reading inputs.now) duplex.old }
+    ensures cause { StopCount result (S.faults store.old) (S.faults store.new) }
+    ensures writes { Writes (IsDuplexed (duplex_reading inputs.now)) (duplex_names (duplex_reading inputs.now)) result (S.files store.old) (S.files store.new) }
+{
+    let mut captures = Captures::open(
+        alloc,
+        store,
+        inputs.settings.out.as_str(),
+        channels,
+        inputs.plan.link_type,
+    )?;
+    run_ends(alloc, store, &mut captures, duplex, inputs.settings.slots)
+}
+
 /// Runs both ends of what was read, while the captures of what comes grow, and makes the text of the run.
 pub fn write_duplex<S: Store>(
     alloc: Global,
@@ -60,18 +84,5 @@ pub fn write_duplex<S: Store>(
 {
     let channels = channels_in_order(alloc, &inputs.plan.channels)?;
     let mut duplex = loaded(alloc, inputs, &channels)?;
-    let mut captures = Captures::open(
-        alloc,
-        store,
-        inputs.settings.out.as_str(),
-        &channels,
-        inputs.plan.link_type,
-    )?;
-    run_ends(
-        alloc,
-        store,
-        &mut captures,
-        &mut duplex,
-        inputs.settings.slots,
-    )
+    run_loaded(alloc, store, inputs, &channels, &mut duplex)
 }

@@ -1,4 +1,4 @@
-use Rattle.std.proofs.Common.{◌≡◌, ◌+◌, ◌<◌, ◌≤◌, ◌^◌, ap, sym, subst, refl, List, ℕ, arith, All, Contains, length}
+use Rattle.std.proofs.Common.{◌≡◌, ◌≤◌, sym, subst, refl, List, ℕ, arith, All, Contains, length}
 use Rattle.std.specs.List.{AllPairs}
 use Rattle.std.proofs.lemmas.List.{length-map}
 use Rattle.link_plan.specs.Listing.{numbers_of}
@@ -6,14 +6,11 @@ use Rattle.link_plan.specs.declared.channel.ChannelRow.{ChannelRow}
 use Rattle.link_plan.proofs.Whole.{fit-top, order-some}
 use Rattle.link_plan.proofs.InOrder.{entries_in_order, differ_in_order}
 use Rattle.plan_inputs.proofs.PlanChannels.{few_in_order}
-use Rattle.plan_inputs.specs.Values.{packet_values, size_of, AreOn}
+use Rattle.plan_inputs.specs.Values.{packet_values}
 use Rattle.duplex.specs.Duplexes.{settings_of, empty_ends}
-use Rattle.duplex.specs.declared.duplex.End.TheVariants.{A}
 use Rattle.receipts.proofs.Settings.{plan_order}
 use Rattle.duplex_commands.specs.Values.{duplex_reading}
-use Rattle.duplex_commands.specs.Loaded.{all_added}
-use Rattle.duplex_commands.proofs.Lends.{keeps_both}
-use Rattle.duplex_commands.proofs.Loads.{is_loaded, on_order, has_room}
+use Rattle.duplex_commands.proofs.Loads.{is_loaded, on_order}
 use Rattle.duplex_commands.proofs.lending.loaded.Goals as goal
 
 pub new-requires-clause-channels_low : goal.new-requires-clause-channels_low
@@ -42,30 +39,23 @@ new-requires-clause-among c =
     subst (λ (es : List ℕ). All (Contains c.args.channels.now) es) (sym c.deref.ensures.value)
     (subst (λ (cs : List ℕ). All (Contains cs) p.entries.items) (sym c.requires.channels) (entries_in_order p.wide (numbers_of p.channels.items) p.entries.items p.in_width p.listed))
 
-pub lend_all-requires : goal.lend_all-requires
-lend_all-requires c =
-    let p = c.args.inputs.now.plan in
+pub lend_both-requires : goal.lend_both-requires
+lend_both-requires c =
+    let i = c.args.inputs.now in
+    let p = i.plan in
     let fit = c.requires.fit in
-    let same = ap packet_values c.deref-2.ensures.value in (
+    let numbers = numbers_of p.channels.items in (
       settings_of c.settings_of.result,
-      empty_ends c.shape.result c.args.channels.now c.deref.result.now,
+      c.shape.result,
+      c.args.channels.now,
+      c.deref.result.now,
       c.in_ok-duplex.ensures.waits,
-      subst (λ (ps : List (ℕ × List ℕ)). AreOn c.args.channels.now ps) (sym same) (on_order p.wide (numbers_of p.channels.items) c.args.channels.now (packet_values c.args.inputs.now.packets_of_a.items) p.in_width c.requires.channels fit.on_a),
-      subst (λ (ps : List (ℕ × List ℕ)). 0 + size_of ps < 2 ^ 40) (sym same) (has_room (size_of (packet_values c.args.inputs.now.packets_of_a.items)) fit.size_a),
-    )
-
-pub lend_all-requires-2 : goal.lend_all-requires-2
-lend_all-requires-2 c =
-    let p = c.args.inputs.now.plan in
-    let fit = c.requires.fit in
-    let same = ap packet_values c.deref-3.ensures.value in
-    let settings = settings_of c.settings_of.result in
-    let ends = empty_ends c.shape.result c.args.channels.now c.deref.result.now in (
-      settings,
-      all_added ends A (packet_values c.deref-2.result.now),
-      c.in_ok-lend_all.ensures.waits settings ends c.in_ok-duplex.ensures.waits,
-      subst (λ (ps : List (ℕ × List ℕ)). AreOn c.args.channels.now ps) (sym same) (on_order p.wide (numbers_of p.channels.items) c.args.channels.now (packet_values c.args.inputs.now.packets_of_b.items) p.in_width c.requires.channels fit.on_b),
-      subst (λ (ps : List (ℕ × List ℕ)). 0 + size_of ps < 2 ^ 40) (sym same) (has_room (size_of (packet_values c.args.inputs.now.packets_of_b.items)) fit.size_b),
+      record {
+        on_a = on_order p.wide numbers c.args.channels.now (packet_values i.packets_of_a.items) p.in_width c.requires.channels fit.on_a;
+        on_b = on_order p.wide numbers c.args.channels.now (packet_values i.packets_of_b.items) p.in_width c.requires.channels fit.on_b;
+        size_a = fit.size_a;
+        size_b = fit.size_b;
+      },
     )
 
 pub returns : goal.returns
@@ -74,12 +64,9 @@ returns c =
     let p = i.plan in
     let settings = settings_of c.settings_of.result in
     let ends = empty_ends c.shape.result c.args.channels.now c.deref.result.now in
-    let first = c.in_ok-lend_all.ensures.waits settings ends c.in_ok-duplex.ensures.waits in
-    is_loaded (duplex_reading i) settings c.shape.result c.args.channels.now c.deref.result.now c.max_packet.result p.wide _ _ (packet_values c.deref-2.result.now) (packet_values c.deref-3.result.now)
+    let both = c.in_ok-lend_both.ensures in
+    is_loaded (duplex_reading i) settings c.shape.result c.args.channels.now c.deref.result.now c.max_packet.result p.wide _ _ (packet_values i.packets_of_a.items) (packet_values i.packets_of_b.items)
     c.settings_of.ensures.delay c.settings_of.ensures.mark c.settings_of.ensures.drain
     (record { burst_max = c.shape.ensures.burst_max; burst_short = c.shape.ensures.burst_short; burst_min = c.shape.ensures.burst_min; group = c.shape.ensures.group; warmup = c.shape.ensures.warmup })
-    (plan_order p c.args.channels.now c.requires.channels) c.deref.ensures.value c.max_packet.ensures.value refl c.max_packet.ensures.most
-    (ap packet_values c.deref-2.ensures.value) (ap packet_values c.deref-3.ensures.value)
-    (c.in_ok-lend_all-2.ensures.waits settings (all_added ends A (packet_values c.deref-2.result.now)) first)
-    (keeps_both _ _ _ c.lend_all.ensures.inboxes c.lend_all-2.ensures.inboxes) c.in_ok-duplex.ensures.given c.in_ok-duplex.ensures.got
-    c.in_ok-lend_all.ensures.bytes c.in_ok-lend_all-2.ensures.bytes
+    (plan_order p c.args.channels.now c.requires.channels) c.deref.ensures.value c.max_packet.ensures.value refl c.max_packet.ensures.most refl refl
+    (both.waits settings ends c.in_ok-duplex.ensures.waits) both.inboxes c.in_ok-duplex.ensures.given c.in_ok-duplex.ensures.got both.bytes_of_a both.bytes_of_b
