@@ -70,10 +70,10 @@ impl LiveScheduler {
         requires distinct { AllPairs (λ x y. x ≡ y → ⊥) channels.now }
         ensures { IfOk result (λ s. Gives s (nothing_given shape channels.now entries.now) []) }
     {
+        let run = Vec::from_array(alloc, [0; 512])?;
         let incoming = CalendarIn::new(alloc, entries)?;
         let outgoing = CalendarOut::new(alloc, entries)?;
         let turns = empty_queues(alloc, channels)?;
-        let run = Vec::from_array(alloc, [0; 512])?;
         Ok(LiveScheduler {
             alloc,
             sizes: BurstSizes {

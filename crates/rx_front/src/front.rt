@@ -71,10 +71,10 @@ impl Front {
     pub fn new(alloc: Global, link: &Link) -> Result<Front, OutOfMemory>
         ensures { IfOk result (λ v. Stands v link.now (nothing_fed link.now.lanes) [] (begun link.now.lanes) × (v.waiting ≡ []) × (v.over ≡ false) × (v.deskew.settled ≡ true)) }
     {
-        let lanes = fresh_lanes(alloc, link)?;
-        let deskew = Deskew::new(alloc, link)?;
-        let batch = Batch::new(alloc)?;
         let block = Block::new(alloc)?;
+        let batch = Batch::new(alloc)?;
+        let deskew = Deskew::new(alloc, link)?;
+        let lanes = fresh_lanes(alloc, link)?;
         // proof: the settings of a link are within their limits
         link.keeps_limits();
         Ok(Front {
