@@ -39,6 +39,14 @@ def functions_in(path, text):
     return found
 
 
+def outline(path, text):
+    """The text without the bodies of functions that have an `ensures`: what others may rest on."""
+    for function in sorted(functions_in(path, text), key=lambda it: -it.body):
+        if not function.shows_code and function.end <= len(text):
+            text = text[: function.body] + text[function.end :]
+    return text
+
+
 class Crate:
     """The functions of a crate, by its files' texts."""
 

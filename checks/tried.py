@@ -1,14 +1,16 @@
 """checks/edits/tried.csv: a row for each wrong body that the prover refused, with the sums of what the refusal stands on.
 
-A refusal can change only with the edit, its crate's own texts, the contracts of the crates below and the kit's logic. A row has the sums
-of all but the contracts below; so a release has the whole set tried.
+A refusal can change only with the edit, its crate's own texts, what the crates below state and the kit's logic. A landing asks for rows with
+the present sums of all but the third; a release asks for all.
 """
 
 import csv
 import hashlib
 import os
 
-COLUMNS = ["crate", "edit", "edit_sum", "crate_sum", "logic", "refused_by"]
+from edit_rounds import outline
+
+COLUMNS = ["crate", "edit", "edit_sum", "crate_sum", "below_sum", "logic", "refused_by"]
 PARTS = ("src", "specs", "proofs")
 
 
@@ -17,16 +19,34 @@ def sum_of_file(path):
         return hashlib.sha256(file.read()).hexdigest()
 
 
+def files_of(folder, parts):
+    for part in parts:
+        for at, folders, files in os.walk(os.path.join(folder, part)):
+            folders.sort()
+            yield from (os.path.join(at, name) for name in sorted(files))
+
+
 def sum_of_crate(folder):
     """One sum of the names and sums of all files below src, specs and proofs."""
     whole = hashlib.sha256()
-    for part in PARTS:
-        for at, folders, files in os.walk(os.path.join(folder, part)):
-            folders.sort()
-            for name in sorted(files):
-                path = os.path.join(at, name)
-                whole.update(("%s %s\n" % (sum_of_file(path), os.path.relpath(path, folder))).encode())
+    for path in files_of(folder, PARTS):
+        whole.update(("%s %s\n" % (sum_of_file(path), os.path.relpath(path, folder))).encode())
     return whole.hexdigest()
+
+
+def sum_of_statements(folder):
+    """One sum of what a crate states: its specs, and its code without the bodies that a contract hides."""
+    whole = hashlib.sha256()
+    for path in files_of(folder, ("src", "specs")):
+        with open(path, encoding="utf-8") as file:
+            text = file.read()
+        whole.update(("%s\n%s\n" % (os.path.relpath(path, folder), outline(path, text) if path.endswith(".rt") else text)).encode())
+    return whole.hexdigest()
+
+
+def sum_below(crates, names):
+    """One sum of what these crates state, which are those that a crate stands on."""
+    return hashlib.sha256("".join(sum_of_statements(os.path.join(crates, name)) for name in sorted(names)).encode()).hexdigest()
 
 
 def rows_in(path):
@@ -45,11 +65,14 @@ def write_rows(path, rows):
     os.replace(path + ".new", path)
 
 
-def fault_of_row(row, edit_sum, crate_sum, logic):
-    """Why a row does not show that this edit of this crate is refused, or None."""
+WHAT = {"edit_sum": "the edit", "crate_sum": "its crate", "below_sum": "what a crate below states", "logic": "the kit's logic"}
+
+
+def fault_of_row(row, now):
+    """Why a row does not show that an edit is refused now, or None. `now` has the sums that are asked for, by their columns."""
     if row is None:
         return "it has no row in tried.csv: `checks/edits.sh try` of its crate writes one"
-    for column, now, what in (("edit_sum", edit_sum, "the edit"), ("crate_sum", crate_sum, "its crate"), ("logic", logic, "the kit's logic")):
-        if row[column] != now:
-            return "%s has changed since it was tried: `checks/edits.sh try` of its crate tries it again" % what
+    for column, sum_now in now.items():
+        if row[column] != sum_now:
+            return "%s has changed since it was tried: `checks/edits.sh try` of its crate tries it again" % WHAT[column]
     return None

@@ -22,13 +22,16 @@ import threading
 HERE = os.path.dirname(os.path.abspath(__file__))
 sys.path[:0] = [HERE, os.path.join(os.path.dirname(HERE), "tools")]
 
-from building.kit import Kit, copy_kept, kit_folder, logic_of
+from building.kit import Kit, below, copy_kept, kit_folder, logic_of
 from edit_files import BadEdit, edits_in, name_of, pairs_of, replaced, text_of
 from edit_rounds import Crate, rounds_of
 from tally import Tally
-from tried import rows_in, sum_of_crate, sum_of_file, write_rows
+from tried import rows_in, sum_below, sum_of_crate, sum_of_file, write_rows
 
 VERDICT = re.compile(r"^fn (\S+): (no proof: |not proved)(.*)$")
+ERROR = re.compile(r"^(?:\./)?(proofs/\S+?):\d+:\d+: error: (.*)$")
+# What a proof file is refused for that names what an edit took away: that says little of the contract.
+HOLLOW = re.compile(r"has no field|is not in scope|has no `|was not admitted")
 SHOWN = 200
 
 
@@ -51,15 +54,25 @@ def functions_of(edit, crate, texts):
 
 def refusals_in(lines):
     """The functions of which a check says that a goal of their own is not proved, with what it says."""
+    errors = [it.groups() for it in map(ERROR.match, lines) if it]
     found = {}
-    for line in lines:
-        verdict = VERDICT.match(line)
-        if not verdict:
-            continue
-        own = [it for it in verdict[3].split("; ") if not it.startswith("it calls ")]
-        if verdict[2] == "not proved" or own:
-            found[verdict[1]] = "%s: %s" % (verdict[1], "; ".join(it for it in own if it) or "not proved")
+    for verdict in filter(None, map(VERDICT.match, lines)):
+        name, answered, rest = verdict.groups()
+        own = [it for it in rest.split("; ") if it and not it.startswith("it calls ")]
+        if answered == "not proved":
+            own = of_answers(errors, "/".join(name.split("::")[1:]))
+        if own:
+            found[name] = "%s: %s" % (name, "; ".join(own))
     return found
+
+
+def of_answers(errors, function):
+    """Why a function's proof file is refused, in a list: the first reason that is not a name that is gone, if there is one."""
+    said = [text for path, text in errors if path.startswith("proofs/%s/" % function)]
+    whole = [it for it in said if not HOLLOW.search(it)]
+    if said and not whole:
+        return ["its proof file names what is gone: " + said[0]]
+    return [(whole or ["not proved"])[0].replace("; ", ", ")]
 
 
 def refused_by(functions, refusals):
@@ -146,14 +159,18 @@ class Book:
         self.top, self.logic, self.tally, self.lock = top, logic, Tally("edits"), threading.Lock()
         self.path = os.path.join(top, "checks", "edits", "tried.csv")
 
-    def add(self, trial, sum_before):
+    def sums_of(self, trial):
+        crates = os.path.join(self.top, "crates")
+        return {"crate_sum": sum_of_crate(trial.source), "below_sum": sum_below(crates, below(trial.kit.uses, trial.name)), "logic": self.logic}
+
+    def add(self, trial, sums):
         with self.lock:
             rows = rows_in(self.path)
-            if sum_of_crate(trial.source) != sum_before:
+            if self.sums_of(trial) != sums:
                 trial.refused, trial.wrong[trial.name] = {}, "its texts changed meanwhile"
             for edit, said in trial.refused.items():
-                row = [trial.name, name_of(edit), sum_of_file(edit), sum_before, self.logic, said]
-                rows[trial.name, name_of(edit)] = dict(zip(("crate", "edit", "edit_sum", "crate_sum", "logic", "refused_by"), row))
+                name = name_of(edit)
+                rows[trial.name, name] = {"crate": trial.name, "edit": name, "edit_sum": sum_of_file(edit), **sums, "refused_by": said}
                 self.tally.count("%s/%s" % (trial.name, name_of(edit)))
             for what, why in trial.wrong.items():
                 self.tally.count("%s/%s" % (trial.name, os.path.basename(what)), why)
@@ -163,11 +180,11 @@ class Book:
 
 def try_crate(kit, book, name):
     source = os.path.join(book.top, "crates", name)
-    before = sum_of_crate(source)
     with tempfile.TemporaryDirectory(prefix="interlaken-edits-") as room:
         trial = Trial(kit, name, source, edits_in(os.path.join(book.top, "checks", "edits", name)), room)
+        sums = book.sums_of(trial)
         trial.run()
-    book.add(trial, before)
+    book.add(trial, sums)
 
 
 def main():
