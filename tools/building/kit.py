@@ -1,13 +1,23 @@
 """A check of one crate by the kit's own `rattle`, as `rt` calls it: over the libraries of a checkout in which `rt ci` proved the crates
 below, and over what earlier checks kept in a folder, if one is named."""
 
+import ctypes
 import os
 import re
 import shutil
+import signal
 import subprocess
 import tempfile
 
 PARTS = ("src", "specs", "proofs")
+
+
+# The call that has the kernel end a child with its parent.
+DEATH_SIGNAL = 1
+
+
+def ends_with_parent():
+    ctypes.CDLL(None).prctl(DEATH_SIGNAL, signal.SIGKILL)
 
 
 def kit_folder():
@@ -73,7 +83,8 @@ class Kit:
                 with open(os.path.join(room, path), "w", encoding="utf-8") as file:
                     file.write(text)
             words = [self.folder + "/bin/rattle", "check"] + self.words(crate) + ["--incremental", kept]
-            ran = subprocess.run(words, cwd=room, stdin=subprocess.DEVNULL, stdout=subprocess.PIPE, stderr=subprocess.STDOUT)
+            how = {"stdin": subprocess.DEVNULL, "stdout": subprocess.PIPE, "stderr": subprocess.STDOUT}
+            ran = subprocess.run(words, cwd=room, preexec_fn=ends_with_parent, **how)
             return ran.returncode, ran.stdout.decode(errors="replace").rstrip("\n").split("\n")
 
 
