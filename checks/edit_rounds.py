@@ -8,6 +8,7 @@ import re
 
 HEAD = re.compile(r"^(\s*)(?:pub(?:\([^)]*\))? )?(?:const )?(?:unsafe )?(?:extern \"C\" )?fn (\w+)", re.M)
 WORD = re.compile(r"\w+")
+BLOCK = re.compile(r"^(?:pub )?(?:impl(?:<[^{]*?>)? (?:([\w:]+(?:<\w+>)?)(?:<[^{]*?>)? for )?([\w:]+)|trait (\w+))[^;{]*\{", re.M)
 
 
 class Function:
@@ -17,6 +18,26 @@ class Function:
         self.path, self.name, self.body, self.end = path, name, body, end
         self.words = set(WORD.findall(text[body:end]))
         self.shows_code = "ensures" not in text[head:body]
+        self.owner = owner_of(text, head)
+
+    def module(self):
+        """The path of its file below the crate; empty for the root."""
+        return "::".join(it for it in self.path[len("src/") : -len(".rt")].split("/") if it not in ("lib", "main"))
+
+    def full_name(self):
+        """Its name below the crate, as a check prints it."""
+        return "::".join(it for it in (self.module(), self.owner, self.name) if it)
+
+
+def owner_of(text, place):
+    """The type that a method is of, with its trait's name behind if it is a trait's; nothing for other functions."""
+    if not text[text.rfind("\n", 0, place) + 1 :].startswith(" "):
+        return ""
+    blocks = list(BLOCK.finditer(text, 0, place))
+    if not blocks:
+        return ""
+    of_trait, of_type, trait = ("".join(WORD.findall(it.split("::")[-1])) if it else "" for it in blocks[-1].groups())
+    return trait or of_type + of_trait
 
 
 def functions_in(path, text):

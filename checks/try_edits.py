@@ -2,10 +2,10 @@
 
     python3 try_edits.py TOP PROVED [--jobs N] CRATE..
 
-PROVED is a checkout in which `rt ci` proved the crates below. The edits of a crate are tried in rounds: in one check are those that change
-bodies of functions which do not see each other. An edit is refused if the check says of a function that it changes that a goal of its own
-is not proved; where it does not say so, the edit is tried alone. At the end the crate as it stands is checked over what the rounds
-kept: it has to be proved.
+PROVED is a checkout in which `rt ci` proved these crates. The edits of a crate are tried in rounds: in one check are those that change
+bodies of functions which do not see each other. The check is of these functions and of what they call. An edit is refused if the check
+says of a function that it changes that a goal of its own is not proved; if it does not say so, the edit is tried alone. Rounds after the
+first use what the first kept; then, at the end, the same functions as they stand have to be proved over it.
 """
 
 import argparse
@@ -33,6 +33,8 @@ ERROR = re.compile(r"^(?:\./)?(proofs/\S+?):\d+:\d+: error: (.*)$")
 # What a proof file is refused for that names what an edit took away: that says little of the contract.
 HOLLOW = re.compile(r"has no field|is not in scope|has no `|was not admitted")
 SHOWN = 200
+# The status of a check that knows no function of a name.
+NO_FUNCTION = 2
 
 
 def sources_of(folder):
@@ -76,12 +78,11 @@ def of_answers(errors, function):
 
 
 def refused_by(functions, refusals):
-    """What the check says of the functions that an edit changes, or None. A file's functions are under its module's name."""
+    """What the check says of the functions that an edit changes, or None."""
     for function in functions:
-        module = "::".join(function.path[len("src/") : -len(".rt")].split("/"))
         for name, said in refusals.items():
-            parts = name.split("::")
-            if parts[-1] == function.name and (module in ("lib", "main") or module in "::".join(parts[1:])):
+            below = name.split("::")[1:]
+            if below[-1] == function.name and "::".join(below).startswith(function.module()):
                 return said
     return None
 
@@ -104,34 +105,50 @@ class Trial:
                 changed.append((edit, functions_of(edit, crate, texts)))
             except BadEdit as why:
                 self.wrong[edit] = "it cannot be made: %s" % why
-        rounds = rounds_of(crate, changed)
-        for number, edits in enumerate(it for it in rounds if it[0][1] is not None):
+        rounds = [it for it in rounds_of(crate, changed) if it[0][1] is not None]
+        for number, edits in enumerate(rounds):
             self.round(edits, self.kept if number == 0 else None)
-        status, lines = self.kit.check(self.name, self.source, {}, self.kept)
+        alone = [it for it in changed if it[0] not in self.refused]
+        if (len(rounds) > 1 or alone) and not self.is_sound(rounds):
+            return
+        for edit, functions in alone:
+            self.alone(edit, functions)
+
+    def is_sound(self, rounds):
+        """Whether the functions that were changed are proved as they stand, over what the first round kept."""
+        functions = [it for edits in rounds for _, them in edits for it in them]
+        status, lines = self.check_only(functions, {}, self.kept)
         if status != 0:
             self.refused = {}
-            self.wrong[self.name] = "the crate as it stands is not proved over what the rounds kept: %s" % lines[-1][:SHOWN]
-            return
-        for edit, _ in changed:
-            if edit not in self.refused:
-                self.alone(edit)
+            self.wrong[self.name] = "the functions as they stand are not proved over what the first round kept: %s" % lines[-1][:SHOWN]
+        return status == 0
 
-    def check(self, texts, kept):
+    def check(self, texts, kept, only=()):
         if kept:
-            return self.kit.check(self.name, self.source, texts, kept)
+            return self.kit.check(self.name, self.source, texts, kept, only)
         over = tempfile.mktemp(dir=self.room)
         copy_kept(self.kept, over)
         try:
-            return self.kit.check(self.name, self.source, texts, over)
+            return self.kit.check(self.name, self.source, texts, over, only)
         finally:
             shutil.rmtree(over, ignore_errors=True)
+
+    def check_only(self, functions, texts, kept):
+        """Checks these functions. A name that the kit does not take for one function stands for its module."""
+        for names in ({it.full_name() for it in functions}, {it.module() for it in functions}):
+            if "" in names:
+                break
+            found = self.check(texts, kept, sorted(names))
+            if found[0] != NO_FUNCTION:
+                return found
+        return self.check(texts, kept)
 
     def round(self, edits, kept):
         texts = {}
         for edit, _ in edits:
             replaced(texts, self.source, edit)
-        status, lines = self.check(texts, kept)
-        if status != 1 or not lines[-1].startswith("logic=not-proved"):
+        status, lines = self.check_only([it for _, them in edits for it in them], texts, kept)
+        if status != 1:
             return
         refusals = refusals_in(lines)
         for edit, functions in edits:
@@ -139,12 +156,16 @@ class Trial:
             if said:
                 self.refused[edit] = said[:SHOWN]
 
-    def alone(self, edit):
+    def alone(self, edit, functions):
+        """Tries one edit: the functions that it changes, if it changes some, and then the whole crate."""
         texts = {}
         replaced(texts, self.source, edit)
-        status, lines = self.check(texts, None)
-        if status == 1 and lines[-1].startswith("logic=not-proved"):
-            said = next(iter(refusals_in(lines).values()), next((it for it in lines if ": error" in it), lines[-1]))
+        if functions:
+            status, lines = self.check_only(functions, texts, None)
+        if not functions or status != 1:
+            status, lines = self.check(texts, None)
+        said = next(iter(refusals_in(lines).values()), None)
+        if status == 1 and said:
             self.refused[edit] = said[:SHOWN]
         elif status == 0:
             self.wrong[edit] = "NOT REFUSED: the crate is still proved with it"

@@ -73,8 +73,9 @@ class Kit:
         logic = ["--antt-project", self.folder + "/rattle/logic/antt-project.json", "--logic-built", self.folder + "/logic_built"]
         return words + logic + ["--jobs", "1"]
 
-    def check(self, crate, source, texts, kept):
-        """Checks a copy of the crate in the folder `source` with these texts in place of its own. Returns the status and the lines."""
+    def check(self, crate, source, texts, kept, only=()):
+        """Checks a copy of the crate in the folder `source` with these texts in place of its own: all of it, or only these functions or
+        modules and what they call. Returns the status and the lines."""
         with tempfile.TemporaryDirectory(prefix="interlaken-check-") as room:
             for part in PARTS:
                 if os.path.isdir(os.path.join(source, part)):
@@ -83,6 +84,8 @@ class Kit:
                 with open(os.path.join(room, path), "w", encoding="utf-8") as file:
                     file.write(text)
             words = [self.folder + "/bin/rattle", "check"] + self.words(crate) + ["--incremental", kept]
+            for path in only:
+                words += ["--only", path]
             how = {"stdin": subprocess.DEVNULL, "stdout": subprocess.PIPE, "stderr": subprocess.STDOUT}
             ran = subprocess.run(words, cwd=room, preexec_fn=ends_with_parent, **how)
             return ran.returncode, ran.stdout.decode(errors="replace").rstrip("\n").split("\n")
