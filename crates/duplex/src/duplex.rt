@@ -99,6 +99,8 @@ impl<'a> Duplex<'a> {
         ensures given { IfOk result (λ d. IsGiven d) }
         ensures got { IfOk result (λ d. (setting : Setting) → IsSettingOf setting ends.now.channels.now ends.now.max_packet ends.now.wide → HasGot d setting (settings_of settings) 0 [] [] [] []) }
     {
+        let inbox_a = Inbox::new(alloc, ends.channels, ends.max_packet, ends.wide)?;
+        let inbox_b = Inbox::new(alloc, ends.channels, ends.max_packet, ends.wide)?;
         let a = Side::new(
             alloc,
             ends.shape,
@@ -113,8 +115,6 @@ impl<'a> Duplex<'a> {
             ends.entries,
             settings.delay as usize,
         )?;
-        let inbox_a = Inbox::new(alloc, ends.channels, ends.max_packet, ends.wide)?;
-        let inbox_b = Inbox::new(alloc, ends.channels, ends.max_packet, ends.wide)?;
         Ok(Duplex {
             a,
             b,

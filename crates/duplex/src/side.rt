@@ -42,9 +42,9 @@ impl<'a> Side<'a> {
         requires among { All (Contains channels.now) entries.now }
         ensures { IfOk result (λ s. (settings : Settings) (ends : Ends) → AreSettings settings → delay ≡ settings.delay → shape ≡ ends.shape → channels.now ≡ ends.channels → entries.now ≡ ends.entries → IsFresh s settings ends []) }
     {
-        let scheduler = Scheduler::new(alloc, shape, channels, entries)?;
         let queues = Queues::new(alloc)?;
         let way = HeapCircularBuffer::with_capacity(alloc, delay)?;
+        let scheduler = Scheduler::new(alloc, shape, channels, entries)?;
         Ok(Side {
             scheduler,
             queues,

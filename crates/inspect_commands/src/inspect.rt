@@ -40,8 +40,8 @@ fn inspect_lanes<S: Store>(alloc: Global, store: &mut S, read: &PlanLanes) -> Re
     let plan = &read.plan;
     // proof: the lanes are few
     plan.link.keeps_limits();
-    let mut lanes = FileLanes::new(alloc, read.names.as_slice())?;
     let names = table_names(alloc, plan.out.as_str())?;
+    let mut lanes = FileLanes::new(alloc, read.names.as_slice())?;
     let mut outputs = Outputs::create(alloc, store, names)?;
     write_table(alloc, store, &mut outputs, &mut lanes, &plan.link)
 }

@@ -105,8 +105,8 @@ impl<'a> LaneMaker<'a> {
     {
         // proof: the settings of a link are within their limits
         inputs.plan.link.keeps_limits();
-        let lanes = LaneFiller::new(alloc, &inputs.plan.link)?;
         let group = group_room(alloc, &inputs.plan.link)?;
+        let lanes = LaneFiller::new(alloc, &inputs.plan.link)?;
         Ok(LaneMaker {
             inputs,
             lanes,

@@ -1,14 +1,16 @@
 //! `receive FILE`, where FILE is a plan.
-ghost use Rattle.std.specs.Prelude.{◌≡◌, ◌<◌, ◌^◌, ◌++◌, List, ℕ, Ok, Contains, map, IfOk, IfSome, string_bytes};
+ghost use Rattle.std.specs.Prelude.{◌≡◌, ◌<◌, ◌^◌, ◌++◌, List, ℕ, Ok, Some, All, Contains, length, map, replicate, IfOk, IfSome, string_bytes};
 ghost use Rattle.lk_outside.specs.Files.{Told};
 ghost use Rattle.link_plan.specs.Views.{plan_value};
 ghost use Rattle.plan_inputs.specs.Inputs.{plan_in};
+ghost use Rattle.rx_end.specs.Standing.{IsUnfed};
 ghost use Rattle.run_shell.specs.Outcome.{LeavesOthers};
 ghost use Rattle.run_stops.specs.Stops.{StopCount};
 ghost use Rattle.run_stops.specs.Reading.{Probes};
 ghost use Rattle.run_shell.specs.Writing.{Fills};
 ghost use Rattle.receipts.specs.Settings.{plan_names};
 ghost use Rattle.receive_commands.specs.Receive.{IsReceiveInput, IsReceived, lanes_in, plan_lanes_in};
+ghost use Rattle.receive_commands.specs.ReadLanes.{AreBuffers, IsFresh};
 ghost use Rattle.lane_receipts.specs.LaneReports.{names_of_lanes};
 
 use crate::lanes_in::probe_lanes;
@@ -51,6 +53,32 @@ pub fn read_plan_lanes<S: Store>(
     Ok(PlanLanes { plan, names })
 }
 
+// What lanes become of which nothing was read. They are lent to all calls that may fail, so that one place lets them go.
+fn receive_open<S: Store>(
+    alloc: Global,
+    store: &mut S,
+    read: &PlanLanes,
+    lanes: &mut OpenLanes,
+) -> Result<Finished, Stop>
+    requires count { S.faults store.old < 2 ^ 60 }
+    requires names { map string_bytes read.now.names.items ≡ names_of_lanes (plan_value read.now.plan) }
+    requires receiver { IsUnfed read.now.plan lanes.old.receiver }
+    requires opened { lanes.old.lanes.names.now ≡ read.now.names.items }
+    requires buffers { AreBuffers (map string_bytes lanes.old.lanes.names.now) lanes.old.lanes.buffers.items }
+    requires fresh { All IsFresh lanes.old.lanes.buffers.items }
+    requires offsets { lanes.old.offsets.items ≡ replicate (length read.now.names.items) (Some 0) }
+    ensures cause { StopCount result (S.faults store.old) (S.faults store.new) }
+    ensures others { Told (S.files store.old) (S.files store.new) (LeavesOthers (λ files q. Contains (plan_names (plan_value read.now.plan)) q)) }
+    ensures fills { IfSome (S.files store.old) (λ files. (lanes : List (List ℕ)) → lanes_in files (names_of_lanes (plan_value read.now.plan)) ≡ Ok lanes →
+        Fills (IsReceived (record { plan = plan_value read.now.plan; lanes = lanes })) (plan_names (plan_value read.now.plan) ++ names_of_lanes (plan_value read.now.plan)) result (S.files store.old) (S.files store.new)) }
+{
+    let plan = &read.plan;
+    let channels = channels_in_order(alloc, plan.channels.as_slice())?;
+    let mut receipt = Receipt::open(alloc, store, plan.out.as_str(), &channels, plan.link_type)?;
+    let text = lanes.take_all(alloc, store, plan, &mut receipt)?;
+    receipt.finish(alloc, store, text)
+}
+
 // What the lanes become.
 fn receive_lanes<S: Store>(alloc: Global, store: &mut S, read: &PlanLanes) -> Result<Finished, Stop>
     requires count { S.faults store.old < 2 ^ 60 }
@@ -61,13 +89,8 @@ fn receive_lanes<S: Store>(alloc: Global, store: &mut S, read: &PlanLanes) -> Re
     ensures fills { IfSome (S.files store.old) (λ files. (lanes : List (List ℕ)) → lanes_in files (names_of_lanes (plan_value read.now.plan)) ≡ Ok lanes →
         Fills (IsReceived (record { plan = plan_value read.now.plan; lanes = lanes })) (plan_names (plan_value read.now.plan) ++ names_of_lanes (plan_value read.now.plan)) result (S.files store.old) (S.files store.new)) }
 {
-    let plan = &read.plan;
-    let names = read.names.as_slice();
-    let channels = channels_in_order(alloc, plan.channels.as_slice())?;
-    let mut lanes = OpenLanes::new(alloc, plan, names)?;
-    let mut receipt = Receipt::open(alloc, store, plan.out.as_str(), &channels, plan.link_type)?;
-    let text = lanes.take_all(alloc, store, plan, &mut receipt)?;
-    receipt.finish(alloc, store, text)
+    let mut lanes = OpenLanes::new(alloc, &read.plan, read.names.as_slice())?;
+    receive_open(alloc, store, read, &mut lanes)
 }
 
 /// `receive FILE`: the lanes of a plan become the captures of the plan's channels, by number, and the table of the fault spans,

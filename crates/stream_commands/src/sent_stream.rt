@@ -2,6 +2,7 @@
 ghost use Rattle.std.specs.Prelude.{◌≡◌, ◌<◌, ◌^◌, ◌++◌, List, [], length, IfOk, OnOk};
 ghost use Rattle.lk_base.specs.declared.word.Word.{Word as SentWord};
 ghost use Rattle.stream_model.specs.BurstStream.{Source, IsBurstStream};
+ghost use Rattle.tx_words.specs.Making.{GaveWords};
 ghost use Rattle.tx_words.specs.Sent.{AreSent};
 ghost use Rattle.stream_commands.specs.Listing.{Lists};
 ghost use Rattle.stream_commands.specs.Payload.{IsSentStreamOf};
@@ -65,6 +66,26 @@ fn listed_lines(
     stream_lines(alloc, &counts, slots)
 }
 
+// The stream of a source by a maker of its words, which made none yet.
+fn sent_stream_by(
+    alloc: Global,
+    source: &StreamSource,
+    maker: &mut WordMaker,
+) -> Result<SentStream, OutOfMemory>
+    requires few { length source.now.packets < 2 ^ 32 }
+    requires maker { GaveWords maker.old source.now [] }
+    ensures { IfOk result (IsSentStreamOf source.now) }
+{
+    let mut list = SentList::new(alloc, source.packet_count())?;
+    let mut words = WordList::new(alloc);
+    make_all(maker, &mut list, &mut words)?;
+    let lines = listed_lines(alloc, source, list.sent(), words.len() as u64)?;
+    let held = maker.held();
+    let sent = list.into_sent();
+    let stream = PayloadStream { words, held, lines };
+    Ok(SentStream { stream, sent })
+}
+
 /// The stream of a source, as `stream_of` gives it, with the packets whose SOP word is in it. Its channels are counted by these
 /// packets, so that its words are not gone over again.
 pub fn sent_stream_of(alloc: Global, source: &StreamSource) -> Result<SentStream, OutOfMemory>
@@ -72,12 +93,5 @@ pub fn sent_stream_of(alloc: Global, source: &StreamSource) -> Result<SentStream
     ensures { IfOk result (IsSentStreamOf source.now) }
 {
     let mut maker = WordMaker::new(alloc, source)?;
-    let mut list = SentList::new(alloc, source.packet_count())?;
-    let mut words = WordList::new(alloc);
-    make_all(&mut maker, &mut list, &mut words)?;
-    let lines = listed_lines(alloc, source, list.sent(), words.len() as u64)?;
-    let held = maker.held();
-    let sent = list.into_sent();
-    let stream = PayloadStream { words, held, lines };
-    Ok(SentStream { stream, sent })
+    sent_stream_by(alloc, source, &mut maker)
 }

@@ -1,5 +1,5 @@
 //! The words file of a stream, made as its words are.
-ghost use Rattle.std.specs.Prelude.{◌≡◌, ◌*◌, ◌≤◌, [], ◌∷◌, List, length, map, string_bytes, vec_len, IfOk, OnOk};
+ghost use Rattle.std.specs.Prelude.{◌≡◌, ◌*◌, ◌≤◌, [], ◌∷◌, List, length, map, string_bytes, vec_len, IfOk, OnOk, Some};
 ghost use Rattle.lk_base.specs.declared.word.Word.{Word as SentWord};
 ghost use Rattle.stream_model.specs.BurstStream.{IsBurstStream};
 ghost use Rattle.words_files.specs.WordsFile.{words_file};
@@ -39,6 +39,21 @@ fn end_of(alloc: Global, source: &StreamSource, words: StreamWords) -> Result<Fi
     let slots = words.slots();
     let counts = words.counts(alloc, source)?;
     reported(alloc, &counts, slots, held)
+}
+
+// What is reported once all words were made. What made them is used up: a step never lets it go.
+fn finish(
+    alloc: Global,
+    source: &StreamSource,
+    words: &mut Option<StreamWords>,
+) -> Result<Finished, OutOfMemory>
+    requires { (maker : StreamWords) × (made : List SentWord) × (words.old ≡ Some maker) × Streams maker source.now made × IsBurstStream source.now made }
+    ensures { IfOk result (λ f. (maker : StreamWords) (made : List SentWord) → words.old ≡ Some maker → Streams maker source.now made → IsBurstStream source.now made → IsEndOf source.now made f) }
+{
+    let Some(words) = words.take() else {
+        unreachable!()
+    };
+    end_of(alloc, source, words)
 }
 
 // Gives the one output the bytes of the next words, which have room in `bytes`.
@@ -113,17 +128,16 @@ impl Maker for WordsMaker<'_> {
     }
 
     fn step(&mut self, alloc: Global, outputs: &mut Outputs) -> Result<Step, OutOfMemory> {
-        let Some(mut words) = self.words.take() else {
-            // Only the last step does not put it back.
+        let Some(words) = &mut self.words else {
+            // Only the last step takes it away.
             unreachable!()
         };
         let count = words.next_block(&mut self.block);
         if count == 0 {
-            let finished = end_of(alloc, self.source, words)?;
+            let finished = finish(alloc, self.source, &mut self.words)?;
             return Ok(Step::Done(finished));
         }
         give_block(outputs, &mut self.bytes, &self.block[..count])?;
-        self.words = Some(words);
         Ok(Step::More)
     }
 }

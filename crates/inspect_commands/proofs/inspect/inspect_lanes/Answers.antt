@@ -8,22 +8,22 @@ use Rattle.inspect_commands.specs.Inspect.{events_name}
 use Rattle.inspect_commands.proofs.InspectRun.{as_many, ended, no_output, some_lanes, unmade, unopened}
 use Rattle.inspect_commands.proofs.inspect.inspect_lanes.Goals as goal
 
-pub returns-in_err-lanes-clause-fills : goal.returns-in_err-lanes-clause-fills
-returns-in_err-lanes-clause-fills g c =
-    let p = err_from_is_err_and c.from_residual.result c.from_residual.ensures.1 in
-    rw (p.1, p.2) (unmade c.args.read.now.plan _).fills
-
-pub returns-in_err-lanes-clause-others : goal.returns-in_err-lanes-clause-others
-returns-in_err-lanes-clause-others g c = (unmade c.args.read.now.plan _).others
-
 pub returns-in_err-names-clause-fills : goal.returns-in_err-names-clause-fills
 returns-in_err-names-clause-fills g c =
-    let r = c.from_residual-in_err-names in
-    let p = err_from_is_err_and r.result r.ensures.1 in
+    let p = err_from_is_err_and c.from_residual.result c.from_residual.ensures.1 in
     rw (p.1, p.2) (unmade c.args.read.now.plan _).fills
 
 pub returns-in_err-names-clause-others : goal.returns-in_err-names-clause-others
 returns-in_err-names-clause-others g c = (unmade c.args.read.now.plan _).others
+
+pub returns-in_err-lanes-clause-fills : goal.returns-in_err-lanes-clause-fills
+returns-in_err-lanes-clause-fills g c =
+    let r = c.from_residual-in_err-lanes in
+    let p = err_from_is_err_and r.result r.ensures.1 in
+    rw (p.1, p.2) (unmade c.args.read.now.plan _).fills
+
+pub returns-in_err-lanes-clause-others : goal.returns-in_err-lanes-clause-others
+returns-in_err-lanes-clause-others g c = (unmade c.args.read.now.plan _).others
 
 pub returns-in_err-outputs-clause-fills : goal.returns-in_err-outputs-clause-fills
 returns-in_err-outputs-clause-fills g c =

@@ -17,30 +17,30 @@ pub next_block-count-requires : goal.next_block-count-requires
 next_block-count-requires c =
     let m = c.args.self.now in
     let (done, g) = c.requires.stands in
-    (m.source.now, g.made, streams_there m.words c.in-Some.words _ _ m.source.now _ (sym c.take.ensures.value ∙ c.in-Some.is) g)
+    (m.source.now, g.made, streams_there m.words c.in-Some.words _ _ m.source.now _ (c.in-Some.is) g)
 
-pub end_of-requires : goal.end_of-requires
-end_of-requires c =
+pub finish-requires : goal.finish-requires
+finish-requires c =
     let m = c.args.self.now in
     let source = m.source.now in
     let (done, g) = c.requires.stands in
-    let is : m.words ≡ Some c.in-Some.words = sym c.take.ensures.value ∙ c.in-Some.is in
+    let is : m.words ≡ Some c.in-Some.words = c.in-Some.is in
     let streams = streams_there m.words c.in-Some.words _ _ source _ is g in
     let block = c.next_block-count.new.block in
     let all = none_left m.words c.in-Some.words _ _ source _ is g c.next_block-count.new.self block c.next_block-count.result c.if-count-eq0.true
     (c.next_block-count.ensures.given source g.made streams) (λ low. c.next_block-count.ensures.whole source g.made streams (omega (arith, low, c.deref_mut.ensures.len))) in
-    (g.made, all.0, all.1)
+    (c.next_block-count.new.self, g.made, refl, all.0, all.1)
 
 pub returns-then-count-eq0-clause-made : goal.returns-then-count-eq0-clause-made
 returns-then-count-eq0-clause-made c = λ done g.
     let m = c.args.self.now in
     let source = m.source.now in
-    let is : m.words ≡ Some c.in-Some.words = sym c.take.ensures.value ∙ c.in-Some.is in
+    let is : m.words ≡ Some c.in-Some.words = c.in-Some.is in
     let streams = streams_there m.words c.in-Some.words _ _ source _ is g in
     let block = c.next_block-count.new.block in
     let all = none_left m.words c.in-Some.words _ _ source _ is g c.next_block-count.new.self block c.next_block-count.result c.if-count-eq0.true
     (c.next_block-count.ensures.given source g.made streams) (λ low. c.next_block-count.ensures.whole source g.made streams (omega (arith, low, c.deref_mut.ensures.len))) in
-    file_made m.words c.in-Some.words _ _ source _ is g m.prefix.now c.in_ok-finished.finished (c.in_ok-finished.ensures g.made all.0 all.1)
+    file_made m.words c.in-Some.words _ _ source _ is g m.prefix.now c.in_ok-finished.finished (c.in_ok-finished.ensures c.next_block-count.new.self g.made refl all.0 all.1)
 
 pub give_block-requires-clause-one : goal.give_block-requires-clause-one
 give_block-requires-clause-one c = one_output c.args.outputs.now c.args.self.now.prefix.now c.requires.opens
@@ -50,7 +50,7 @@ returns-clause-less c =
     let m = c.args.self.now in
     let source = m.source.now in
     let (done, g) = c.requires.stands in
-    let is : m.words ≡ Some c.in-Some.words = sym c.take.ensures.value ∙ c.in-Some.is in
+    let is : m.words ≡ Some c.in-Some.words = c.in-Some.is in
     let count = c.next_block-count.result in
     let block = c.next_block-count.new.block in
     let within = c.next_block-count.ensures.within in
@@ -66,7 +66,7 @@ pub returns-clause-gave : goal.returns-clause-gave
 returns-clause-gave c = λ done g.
     let m = c.args.self.now in
     let source = m.source.now in
-    let is : m.words ≡ Some c.in-Some.words = sym c.take.ensures.value ∙ c.in-Some.is in
+    let is : m.words ≡ Some c.in-Some.words = c.in-Some.is in
     let count = c.next_block-count.result in
     let block = c.next_block-count.new.block in
     let before = join done (rests_of c.args.outputs.now) in

@@ -7,7 +7,7 @@ use Rattle.tx_words.specs.SentLists as packets
 use Rattle.tx_words.specs.declared.sent_list.SentList.{SentList}
 use Rattle.tx_words.specs.declared.word_maker.WordMaker.{WordMaker}
 use Rattle.stream_commands.specs.Listing.{Lists}
-use Rattle.stream_commands.proofs.sent_stream.sent_stream_of.Goals as goal
+use Rattle.stream_commands.proofs.sent_stream.sent_stream_by.Goals as goal
 
 -- no word is made, and there is room for all packets
 begins : (m : WordMaker) (l : SentList) (source : Source) (words : List Word) (room : ℕ) → GaveWords m source [] → EachHasBytes source → length source.packets < 2 ^ 32 → packets.Lists l [] room → room ≡ length source.packets → words ≡ [] → Lists m l source words
@@ -17,27 +17,27 @@ begins m l source words room gave bytes few lists all none =
 pub make_all-requires : goal.make_all-requires
 make_all-requires c = (
   c.args.source.now,
-  begins c.in_ok-maker.maker c.in_ok-list.list c.args.source.now c.new-words.result c.packet_count.result c.in_ok-maker.ensures c.packet_count.ensures.bytes c.requires.few c.in_ok-list.ensures c.packet_count.ensures.count c.new-words.ensures,
+  begins c.args.maker.now c.in_ok-list.list c.args.source.now c.new-words.result c.packet_count.result c.requires.maker c.packet_count.ensures.bytes c.requires.few c.in_ok-list.ensures c.packet_count.ensures.count c.new-words.ensures,
 )
 
 pub listed_lines-requires : goal.listed_lines-requires
 listed_lines-requires c =
     let source = c.args.source.now in
-    let begun = begins c.in_ok-maker.maker c.in_ok-list.list source c.new-words.result c.packet_count.result c.in_ok-maker.ensures c.packet_count.ensures.bytes c.requires.few c.in_ok-list.ensures c.packet_count.ensures.count c.new-words.ensures in
+    let begun = begins c.args.maker.now c.in_ok-list.list source c.new-words.result c.packet_count.result c.requires.maker c.packet_count.ensures.bytes c.requires.few c.in_ok-list.ensures c.packet_count.ensures.count c.new-words.ensures in
     let all = c.in_ok-make_all.ensures {u = tt} source begun in
     (c.make_all.new.words, c.sent.ensures c.make_all.new.words (length source.packets) all.0.lists)
 
 pub held-held-requires : goal.held-held-requires
 held-held-requires c =
     let source = c.args.source.now in
-    let begun = begins c.in_ok-maker.maker c.in_ok-list.list source c.new-words.result c.packet_count.result c.in_ok-maker.ensures c.packet_count.ensures.bytes c.requires.few c.in_ok-list.ensures c.packet_count.ensures.count c.new-words.ensures in
+    let begun = begins c.args.maker.now c.in_ok-list.list source c.new-words.result c.packet_count.result c.requires.maker c.packet_count.ensures.bytes c.requires.few c.in_ok-list.ensures c.packet_count.ensures.count c.new-words.ensures in
     let all = c.in_ok-make_all.ensures {u = tt} source begun in
     (source, c.make_all.new.words, all.0.gave)
 
 pub returns : goal.returns
 returns c =
     let source = c.args.source.now in
-    let begun = begins c.in_ok-maker.maker c.in_ok-list.list source c.new-words.result c.packet_count.result c.in_ok-maker.ensures c.packet_count.ensures.bytes c.requires.few c.in_ok-list.ensures c.packet_count.ensures.count c.new-words.ensures in
+    let begun = begins c.args.maker.now c.in_ok-list.list source c.new-words.result c.packet_count.result c.requires.maker c.packet_count.ensures.bytes c.requires.few c.in_ok-list.ensures c.packet_count.ensures.count c.new-words.ensures in
     let all = c.in_ok-make_all.ensures {u = tt} source begun in
     let words = c.make_all.new.words in
     let lists = all.0.lists in
