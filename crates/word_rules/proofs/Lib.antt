@@ -1,7 +1,7 @@
 -- What other crates cite.
 pub mod Making
-pub mod Runs
 -- What this crate alone cites.
+mod Runs
 mod ExamplesHold
 mod Befores
 mod Lifted
