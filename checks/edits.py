@@ -1,51 +1,80 @@
-"""Whether each edit of the wider set can still be made: every text that it changes stands in its file exactly once.
+"""Whether each wrong body of the wider set can still be made, and was refused as it is now: each text that an edit changes stands in its
+file exactly once, and checks/edits/tried.csv has a row with the present sums.
 
     python3 edits.py TOP
+    python3 edits.py TOP --whole    what a release asks for: nor has a crate below stated something else since
+    python3 edits.py TOP --turn     prints the crate whose edits the gate tries this time
 """
 
 import glob
+import hashlib
 import os
+import shutil
+import subprocess
 import sys
 
+HERE = os.path.dirname(os.path.abspath(__file__))
+sys.path[:0] = [HERE, os.path.join(os.path.dirname(HERE), "tools")]
+
+from building.kit import below, logic_of, uses_of
+from edit_files import BadEdit, edits_in, name_of, replaced
 from tally import Tally
+from tried import fault_of_row, rows_in, sum_below, sum_of_crate, sum_of_file
 
 
-def fault_of(edit, crate):
-    """Why the edit cannot be made, or None."""
-    texts, path, old, pairs = {}, None, None, 0
-    for line in open(edit, encoding="utf-8").read().split("\n"):
-        if line.startswith("file: "):
-            path = os.path.join(crate, line[len("file: ") :].strip())
-            if not os.path.isfile(path):
-                return "there is no file " + line[len("file: ") :]
-            texts.setdefault(path, open(path, encoding="utf-8").read())
-        elif line.startswith("old: "):
-            old = line[len("old: ") :]
-        elif line.startswith("new:"):
-            new = line[len("new:") :].removeprefix(" ")
-            if path is None or old is None:
-                return "a line 'new:' stands before its file or its old text"
-            count = texts[path].count(old)
-            if count != 1:
-                return "%r stands %d times in its file" % (old, count)
-            if new == old:
-                return "it changes nothing"
-            texts[path] = texts[path].replace(old, new)
-            old, pairs = None, pairs + 1
-    return None if pairs else "it has no pair of an old and a new text"
+def crates_with_edits(top):
+    return sorted(os.path.basename(it[:-1]) for it in glob.glob(os.path.join(top, "checks", "edits", "*", "")))
 
 
-def main(top):
-    tally = Tally("edits")
-    for edit in sorted(glob.glob(os.path.join(top, "checks", "edits", "*", "*.edit"))):
-        crate = os.path.basename(os.path.dirname(edit))
-        name = os.path.basename(edit)
-        fault = fault_of(edit, os.path.join(top, "crates", crate))
-        if fault is None and os.path.exists(os.path.join(top, "crates", crate, "must-fail", name)):
-            fault = "the gate has one of that name"
-        tally.count("%s/%s" % (crate, name), fault)
+def logic_here(top):
+    """The sum of the logic of the kit on this machine, or of the one that made the release."""
+    if shutil.which("rt"):
+        return logic_of(subprocess.run(["rt", "version"], capture_output=True, text=True).stdout)
+    with open(os.path.join(top, "release", "kit"), encoding="utf-8") as file:
+        return logic_of(file.read())
+
+
+def fault_of(edit, crate, row, now):
+    """Why the edit cannot be made or is not known as refused, or None. `now` has the sums of its crate."""
+    try:
+        replaced({}, crate, edit)
+    except BadEdit as why:
+        return str(why)
+    if os.path.exists(os.path.join(crate, "must-fail", os.path.basename(edit))):
+        return "the gate has one of that name"
+    return fault_of_row(row, {**now, "edit_sum": sum_of_file(edit)})
+
+
+def check(top, whole):
+    tally, rows, logic = Tally("edits"), rows_in(os.path.join(top, "checks", "edits", "tried.csv")), logic_here(top)
+    crates, uses = os.path.join(top, "crates"), uses_of(os.path.join(top, "crates.txt"))
+    for name in crates_with_edits(top):
+        now = {"crate_sum": sum_of_crate(os.path.join(crates, name)), "logic": logic}
+        if whole:
+            now["below_sum"] = sum_below(crates, below(uses, name))
+        for edit in edits_in(os.path.join(top, "checks", "edits", name)):
+            row = rows.pop((name, name_of(edit)), None)
+            tally.count("%s/%s" % (name, name_of(edit)), fault_of(edit, os.path.join(crates, name), row, now))
+    for name, edit in rows:
+        tally.count("%s/%s" % (name, edit), "tried.csv has a row of it, and there is no such edit")
     return tally.end()
 
 
+def turn(top):
+    """The crate whose turn it is: the sum of all sources picks one of those that have edits."""
+    names = crates_with_edits(top)
+    whole = hashlib.sha256()
+    for crate in sorted(glob.glob(os.path.join(top, "crates", "*", ""))):
+        whole.update(sum_of_crate(crate).encode())
+    return names[int(whole.hexdigest(), 16) % len(names)]
+
+
+def main(top, *words):
+    if words == ("--turn",):
+        print(turn(top))
+        return 0
+    return check(top, words == ("--whole",))
+
+
 if __name__ == "__main__":
-    sys.exit(main(sys.argv[1]))
+    sys.exit(main(*sys.argv[1:]))

@@ -12,7 +12,7 @@ trap 'rm -rf "$folder"' EXIT
 tree=$folder/a\ tree
 mkdir -p "$tree"/{release,checks,tools,.ci} "$folder"/{bin,elsewhere} "$tree"/crates/{low,interlaken,interlaken_main,beside,interlaken_c}/src
 cp "$top/interlaken" "$tree"
-cp -r "$top"/tools/{sources.bash,archive.bash,build,building,release} "$tree/tools/"
+cp -r "$top"/tools/{sources.bash,archive.bash,build,building,jobs,release} "$tree/tools/"
 cp "$top"/checks/{run,release.sh,*.bash} "$tree/checks/"
 cp "$top/.ci/run" "$tree/.ci/"
 printf '%s\n' 'low:' 'interlaken: low' 'interlaken_main: interlaken low' 'beside: low' 'interlaken_c staticlib: beside core' >"$tree/crates.txt"
@@ -20,6 +20,9 @@ echo 'Handles allowed: none.' >"$tree/HANDLES"
 for crate in low interlaken interlaken_main beside interlaken_c; do
   echo "$crate as released" >"$tree/crates/$crate/src/lib.rt"
 done
+
+# The wrong bodies are all known as refused, unless a file says otherwise.
+printf '%s\n' 'import os, sys' "print('edits', *sys.argv[2:])" "sys.exit(os.path.exists('$folder/untried'))" >"$tree/checks/edits.py"
 
 # A program that prints who it is, and its words one a line.
 program_of() { # NAME
@@ -117,6 +120,10 @@ ran 'another name of a file' '70 ' without x
 mv "$tree/crates/low/src/bil.rt" "$tree/crates/low/src/lib.rt"
 
 # What is proved here.
+# The last calls of rt, with `some` for a number of jobs that processors and memory allow, which may change meanwhile.
+last_calls() { # COUNT
+  tail -n "$1" "$folder/calls" | sed 's/ jobs=[1-9][0-9]*$/ jobs=some/'
+}
 settings=(INTERLAKEN_PROVE=1 INTERLAKEN_JOBS=3)
 ran 'proved here' '5 built' with x
 holds 'jobs' "$(tail -n 1 "$folder/calls")" 'ci jobs=3'
@@ -125,10 +132,10 @@ settings=()
 ran 'what was proved here, from then on' '5 built' without x
 settings=(INTERLAKEN_PROVE=anew)
 ran 'proved anew' '5 built' with x
-holds 'rt is told' "$(tail -n 1 "$folder/calls")" 'ci --anew jobs='
+holds 'rt is told' "$(last_calls 1)" 'ci --anew jobs=some'
 touch "$folder/keeps nothing"
 ran 'proved anew by a kit that keeps nothing' '5 built' with x
-holds 'which is not told' "$(tail -n 1 "$folder/calls")" 'ci jobs='
+holds 'which is not told' "$(last_calls 1)" 'ci jobs=some'
 rm "$folder/keeps nothing"
 settings=()
 
@@ -193,7 +200,10 @@ fails_to_release 'a release without an archive' 'libinterlaken_c.a is absent'
 found 'no archive' ''
 echo archive >"$tree/$built"
 found 'an archive that was built' "$built"
-holds 'a release' "$(PATH=$folder/bin:$PATH "$tree/tools/release" | wc -l)" 5
+touch "$folder/untried"
+fails_to_release 'a release with wrong bodies that were not tried' 'not each wrong body'
+rm "$folder/untried"
+holds 'a release' "$(PATH=$folder/bin:$PATH "$tree/tools/release" | wc -l)" 6
 checked 'the release that was made' 'release: 8 passed, 0 failed'
 ran 'what was released' '5 built' without x
 mv "$tree/$built" "$folder/archive"
@@ -255,15 +265,23 @@ holds 'what a check printed that failed' "$(grep -c '^in full$' <<<"$text")" 1
 holds 'a part that was not tried' "$(grep -c '^part: not tried, no no-such-tool (Debian package another): all-of-it$' <<<"$text")" 1
 run_checks 'a check that is not there' '2 checks: there is no check absent' absent
 rm "$tree"/checks/{bad,silent,none,late,odd,killed}.sh
+# One crate's wrong bodies are refused, unless a file says otherwise.
+printf '%s\n' '#!/bin/sh' "[ \$# -gt 0 ] || { echo 'edits: 1 passed, 0 failed'; exit; }" "echo edits \"\$@\" >>'$folder/calls'" \
+  "[ ! -f '$folder/survivor' ]" >"$tree/checks/edits.sh"
+chmod +x "$tree/checks/edits.sh"
 gate() { # WHAT WANTED
   text=$(cd / && PATH=$folder/bin:/usr/bin:/bin "$tree/.ci/run" 2>/dev/null)
   holds "$1" "$? $(tail -n 1 <<<"$text")" "$2"
 }
-gate 'a gate' '0 checks: 2 passed, 0 failed, 1 skipped'
-holds 'what rt is asked' "$(tail -n 1 "$folder/calls")" 'ci jobs='
+gate 'a gate' '0 checks: 3 passed, 0 failed, 1 skipped'
+holds 'what rt is asked, and which wrong bodies are tried' "$(last_calls 2)" 'ci jobs=some
+edits turn'
+touch "$folder/survivor"
+gate 'a gate with a wrong body that is not refused' '1 checks: 3 passed, 0 failed, 1 skipped'
+rm "$folder/survivor"
 check bad "$begin" 'holds program "$program" "$INTERLAKEN_BUILT"' 'holds one 1 2' ends
-gate 'a gate with a check that fails' '1 checks: 2 passed, 1 failed, 1 skipped'
+gate 'a gate with a check that fails' '1 checks: 3 passed, 1 failed, 1 skipped'
 rm "$tree/checks/bad.sh"
 say low wrong
-gate 'a gate with a crate that is not proved' '1 checks: 2 passed, 0 failed, 1 skipped'
+gate 'a gate with a crate that is not proved' '1 checks: 3 passed, 0 failed, 1 skipped'
 ends

@@ -1,2 +1,3 @@
 mod TwoChannels
 mod OnePacket
+mod Running

@@ -1,0 +1,8 @@
+#!/usr/bin/env bash
+# What the gate's own tools decide, on small texts: which wrong bodies share a check, which of them a check refuses, which rows of
+# edits/tried.csv count, how many crates are proved at once, and what tools/costs adds up.
+set -u
+top=$(cd "$(dirname "${BASH_SOURCE[0]}")/.." && pwd)
+. "$top/checks/tally.bash"
+wants python3 python3
+exec python3 -B "$top/checks/gate_tools.py" "$top"
