@@ -1,7 +1,8 @@
 -- Of the rows of the present slot only what the last of each channel says counts: a row that says what already holds changes
 -- nothing.
-use Rattle.std.proofs.Common.{◌≡◌, ℕ, suc, ◌<◌, ◌≤◌, Bool, true, false, List, [], ◌∷◌, ◌++◌, length, take, find, reverse, ◌==◌, if◌then◌else◌, Some, All, refl, sym, ap, ◌∙◌, arith}
+use Rattle.std.proofs.Common.{◌≡◌, inl, inr, ℕ, suc, ◌<◌, ◌≤◌, Bool, true, false, List, [], ◌∷◌, ◌++◌, length, take, find, reverse, ◌==◌, if◌then◌else◌, Some, All, refl, sym, ap, ◌∙◌, arith}
 use Rattle.std.specs.Option.{option_map_or}
+use Rattle.std.proofs.lemmas.Bool.{cases_lt}
 use Rattle.std.proofs.lemmas.List.{reverse-append, length-take-le}
 use Rattle.std.proofs.lemmas.List.Elements.{All-cons, All-append, All-weaker}
 use Rattle.std.proofs.lemmas.Option.{slice_get_within}
@@ -73,8 +74,9 @@ module _ (s : Scheduler) (a : Asked) (rows rows_too : List LocalRow) (here : Are
       (All-weaker (λ (row : LocalRow). row.slot ≡ length a.words) (λ (row : LocalRow). row.slot ≤ length a.words) (λ row e. omega (arith, e)) rows_too here_too)
 
   -- the words are given as well with other rows of the slot, where the last of each channel says the same
-  pub same_words : ((channel : ℕ) → channel < 65536 → last_local (a.source.local ++ rows) channel ≡ last_local (a.source.local ++ rows_too) channel) → HasWords s (locals_added a rows) → HasWords s (locals_added a rows_too)
-  same_words same g = record {
+  pub same_words : ((channel : ℕ) → channel < 65536 → last_local (a.source.local ++ rows) channel ≡ last_local (a.source.local ++ rows_too) channel)
+      → ((channel : ℕ) → 65536 ≤ channel → last_local (a.source.local ++ rows_too) channel ≡ true) → HasWords s (locals_added a rows) → HasWords s (locals_added a rows_too)
+  same_words same far g = record {
     holds = record {
       settings = g.holds.settings;
       slot = g.holds.slot;
@@ -92,6 +94,10 @@ module _ (s : Scheduler) (a : Asked) (rows rows_too : List LocalRow) (here : Are
         wide = g.holds.outgoing.wide;
         first = g.holds.outgoing.first;
         states = λ channel h. g.holds.outgoing.states channel h ∙ same channel h;
+        same = λ on channel. elim (cases_lt channel 65536) [
+          | inl below ↦ sym (same channel below) ∙ g.holds.outgoing.same on channel
+          | inr above ↦ far channel (omega (arith, above))
+        ];
       };
       queues = g.holds.queues;
       at = g.holds.at;

@@ -14,7 +14,7 @@ use Rattle.duplex.specs.Ways.{IsOnWay}
 use Rattle.duplex.specs.Sides.{IsSideAt, HasTaken, AreListed}
 use Rattle.duplex.specs.declared.queue.ArrivalQueue.{ArrivalQueue}
 use Rattle.duplex.specs.declared.side.Side.{Side}
-use Rattle.duplex.proofs.Told.{told_before, told_after, rows_told, rows_here}
+use Rattle.duplex.proofs.Told.{told_before, told_after, rows_told, rows_here, far_on}
 
 -- ---- queues
 
@@ -87,7 +87,8 @@ side_turned taken new settings ends packets own sent joined drains mark passed w
     let rows : List LocalRow = map (local_row settings sent slot) ends.channels in
     let b : Asked = locals_added a rows in
     let told : HasWords passed b = told_after passed a mark new.queues.by_channel.items rows (tells a (tells_taken taken settings ends packets own sent joined mark keeps t listed marks)) (rows_here settings sent slot (length a.words) ends.channels at)
-    (λ c below. ap (λ (s : Source). last_local (s.local ++ rows) c) asks.source_is ∙ rows_told settings ends.channels sent (suc slot) c listed keeps.mark_low ∙ ap₂ nat_lt (sym (all c below).words) (sym marks)) in
+    (λ c below. ap (λ (s : Source). last_local (s.local ++ rows) c) asks.source_is ∙ rows_told settings ends.channels sent (suc slot) c listed keeps.mark_low ∙ ap₂ nat_lt (sym (all c below).words) (sym marks))
+    (λ c far. ap (λ (s : Source). last_local (s.local ++ rows) c) asks.source_is ∙ rows_told settings ends.channels sent (suc slot) c listed keeps.mark_low ∙ far_on settings sent (suc slot) c keeps.mark_low far) in
     record {
       hears = record {
         asks = record {

@@ -1,16 +1,20 @@
 -- What an end has told of its channels.
 use Rattle.std.proofs.Common.{◌≡◌, ◌≢◌, inl, inr, ℕ, zero, suc, ◌+◌, ◌-◌, ◌%◌, ◌<◌, ◌≤◌, Bool, true, false, ◌&&◌, List, [], ◌∷◌, ◌++◌, length, map, nat_lt, nat_le, ◌==◌, if◌then◌else◌, Contains, refl, sym, ap, ◌∙◌, subst, arith, append_assoc, append-nil, lt-ltb, eq-eqb, ne_eqb}
 use Rattle.std.proofs.Math.ListN.{set}
-use Rattle.std.proofs.lemmas.Bool.{cases_lt, cases_eq}
+use Rattle.std.proofs.lemmas.Bool.{and_parts, cases_lt, cases_eq, eqb-true, false≢true}
 use Rattle.std.proofs.lemmas.List.{get_or-set_same, get_or-set_other}
 use Rattle.std.proofs.lemmas.List.Elements.{All-push, All-cons}
+use Rattle.lk_base.specs.Fields.{channel_number, has_burst}
+use Rattle.lk_base.specs.Words.{is_data, word_at}
 use Rattle.lk_base.specs.declared.word.Word.{Word}
+use Rattle.lk_base.specs.declared.word.Word.TheVariants.{Control, Data}
+use Rattle.stream_model.specs.BurstStream.{is_burst_on}
 use Rattle.stream_model.specs.declared.rows.LocalRow.{LocalRow}
 use Rattle.calendar.specs.Outgoing.{last_local}
 use Rattle.burst_scheduler.specs.Asked.{Asked, having_local, local_added}
 use Rattle.burst_scheduler.specs.Gives.{HasWords}
 use Rattle.burst_scheduler.specs.declared.scheduler.Scheduler.{Scheduler}
-use Rattle.duplex_model.specs.DuplexRun.{Settings, is_data_on, arrival, queue_before, local_row, local_rows}
+use Rattle.duplex_model.specs.DuplexRun.{Settings, is_data_on, last_control, arrival, queue_before, local_row, local_rows}
 use Rattle.duplex.specs.Queues.{empty_queue, queue_at, locals_added, Tells}
 use Rattle.duplex.specs.Sides.{AreListed}
 use Rattle.duplex.specs.declared.queue.ArrivalQueue.{ArrivalQueue}
@@ -54,30 +58,46 @@ module _ (s : Scheduler) (a : Asked) (mark : ℕ) (queues : List ArrivalQueue) (
 
 -- ---- what all rows of a run say last
 
--- an arrival is one of a listed channel
-arrives_listed : (settings : Settings) (channels : List ℕ) (sent : List Word) (c t : ℕ) → AreListed channels sent → 1 ≤ arrival settings sent c t → Contains channels c
-arrives_listed settings channels sent c t listed some = by (nat_le settings.delay t) (is_data_on c sent (t - settings.delay)) refl some
+-- what is so of the channel of each data word is so of that of an arrival
+arrives_as : (settings : Settings) (sent : List Word) (c t : ℕ) (P : Type 0) → ((slot : ℕ) → is_data_on c sent slot ≡ true → P) → 1 ≤ arrival settings sent c t → P
+arrives_as settings sent c t P heard some = by (nat_le settings.delay t) (is_data_on c sent (t - settings.delay)) refl some
   where
-    by : (late here : Bool) → is_data_on c sent (t - settings.delay) ≡ here → 1 ≤ (if late && here then 1 else 0) → Contains channels c
-    by true true e h = listed c (t - settings.delay) e
+    by : (late here : Bool) → is_data_on c sent (t - settings.delay) ≡ here → 1 ≤ (if late && here then 1 else 0) → P
+    by true true e h = heard (t - settings.delay) e
     by true false e h = absurd (omega (arith, h))
     by false here e h = absurd (omega (arith, h))
 
--- a queue that is not empty is one of a listed channel
-queued_listed : (settings : Settings) (channels : List ℕ) (sent : List Word) (c t : ℕ) → AreListed channels sent → 1 ≤ queue_before settings sent c t → Contains channels c
+-- and of that of a queue that is not empty
+queued_as : (settings : Settings) (sent : List Word) (c t : ℕ) (P : Type 0) → ((slot : ℕ) → is_data_on c sent slot ≡ true → P) → 1 ≤ queue_before settings sent c t → P
 unfolding queue_before
-queued_listed settings channels sent c zero listed some = absurd (omega (arith, some))
-queued_listed settings channels sent c (suc t) listed some =
+queued_as settings sent c zero P heard some = absurd (omega (arith, some))
+queued_as settings sent c (suc t) P heard some =
     let filled : ℕ = queue_before settings sent c t + arrival settings sent c t in
     let full : 1 ≤ filled = by (t % settings.drain == 0) filled some in
     elim (cases_lt 0 (queue_before settings sent c t)) [
-      | inl before ↦ queued_listed settings channels sent c t listed (omega (arith, before))
-      | inr none ↦ arrives_listed settings channels sent c t listed (omega (arith, none, full))
+      | inl before ↦ queued_as settings sent c t P heard (omega (arith, before))
+      | inr none ↦ arrives_as settings sent c t P heard (omega (arith, none, full))
     ]
   where
     by : (b : Bool) (n : ℕ) → 1 ≤ (if b then n - 1 else n) → 1 ≤ n
     by true n h = omega (arith, h)
     by false n h = h
+
+-- a data word is on a channel below 65536
+data_low : (sent : List Word) (c slot : ℕ) → is_data_on c sent slot ≡ true → c < 65536
+data_low sent c slot h = by (last_control sent slot) (and_parts (is_data (word_at sent slot)) (is_burst_on c (last_control sent slot)) h).1
+  where
+    by : (word : Word) → is_burst_on c word ≡ true → c < 65536
+    by (Data x) e = absurd (false≢true e)
+    by (Control x) e = let same : channel_number true x ≡ c = eqb-true (channel_number true x) c (and_parts (has_burst x) (channel_number true x == c) e).1 in omega (arith, same)
+
+-- so the queue of a higher number is below the mark
+pub far_on : (settings : Settings) (sent : List Word) (t c : ℕ) → 1 ≤ settings.mark → 65536 ≤ c → nat_lt (queue_before settings sent c t) settings.mark ≡ true
+far_on settings sent t c low far =
+    lt-ltb (queue_before settings sent c t) settings.mark (elim (cases_lt 0 (queue_before settings sent c t)) [
+      | inl some ↦ let below : c < 65536 = queued_as settings sent c t (c < 65536) (data_low sent c) (omega (arith, some)) in absurd (omega (arith, below, far))
+      | inr none ↦ omega (arith, none, low)
+    ])
 
 -- the rows of a slot say of a channel what holds at it, where it is listed or it held before
 rows_keep : (settings : Settings) (sent : List Word) (t c : ℕ) (on : Bool) (local : List LocalRow) (channels : List ℕ) → (local_row settings sent t c).on ≡ on → last_local local c ≡ on → last_local (local ++ map (local_row settings sent t) channels) c ≡ on
@@ -113,9 +133,9 @@ rows_told settings channels sent (suc t) c listed low =
     let local : List LocalRow = local_rows settings channels sent t in
     let by_listed = λ (h : Contains channels c). rows_say settings sent t c (nat_lt now settings.mark) local channels refl h in
     elim (cases_lt 0 now) [
-      | inl some ↦ by_listed (queued_listed settings channels sent c (suc t) listed (omega (arith, some)))
+      | inl some ↦ by_listed (queued_as settings sent c (suc t) (Contains channels c) (listed c) (omega (arith, some)))
       | inr none ↦ elim (cases_lt 0 before) [
-        | inl some ↦ by_listed (queued_listed settings channels sent c t listed (omega (arith, some)))
+        | inl some ↦ by_listed (queued_as settings sent c t (Contains channels c) (listed c) (omega (arith, some)))
         | inr none_before ↦ (
             let same : before ≡ now = omega (arith, none, none_before) in
             rows_keep settings sent t c (nat_lt now settings.mark) local channels refl (rows_told settings channels sent t c listed low ∙ ap (λ n. nat_lt n settings.mark) same))
@@ -135,8 +155,8 @@ told_before s a mark queues words last = record {
 
 -- after them, all rows of the slot count as told
 pub told_after : (s : Scheduler) (a : Asked) (mark : ℕ) (queues : List ArrivalQueue) (rows : List LocalRow) → Tells s a mark queues → AreHere (length a.words) rows
-    → ((c : ℕ) → c < 65536 → last_local (a.source.local ++ rows) c ≡ nat_lt (queue_at queues c).words mark) → HasWords s (locals_added a rows)
-told_after s a mark queues rows t here last = same_words s a t.rows rows t.here here (λ c h. t.last c h ∙ sym (last c h)) t.words
+    → ((c : ℕ) → c < 65536 → last_local (a.source.local ++ rows) c ≡ nat_lt (queue_at queues c).words mark) → ((c : ℕ) → 65536 ≤ c → last_local (a.source.local ++ rows) c ≡ true) → HasWords s (locals_added a rows)
+told_after s a mark queues rows t here last far = same_words s a t.rows rows t.here here (λ c h. t.last c h ∙ sym (last c h)) far t.words
 
 pub rows_here : (settings : Settings) (sent : List Word) (t slot : ℕ) (channels : List ℕ) → t ≡ slot → AreHere slot (map (local_row settings sent t) channels)
 rows_here settings sent t slot [] e = λ k d h. absurd (omega (arith, h))
