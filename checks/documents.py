@@ -6,6 +6,7 @@ no line stands below a command, the page says in words what it prints. A command
 the next one is `echo $?`, below which the page has the status. Where a tool of a block is missing the block is not tried.
 
 No page of the repository has a place that is still to be filled, as a measured number: a name between two `@`, in capital letters.
+What tools write into pages is what they would write now; and the words of pages are those of documents.words (wording.py).
 """
 
 import glob
@@ -17,9 +18,14 @@ import subprocess
 import sys
 import tempfile
 
-from tally import Tally
-
 PROGRAM, TOP = os.path.abspath(sys.argv[1]), os.path.abspath(sys.argv[2])
+sys.path.append(os.path.join(TOP, "tools"))
+
+from building import costs, edits
+from building.page import NoPlace, part_of
+from tally import Tally
+from wording import check_words
+
 # The pages, with the folder of the first command of each.
 PAGES = {"README.md": "", "docs/TOUR.md": "examples", "tools/README.md": "", "examples/testbench/README.md": "examples/testbench"}
 # What the pages call that a machine may lack: the tool and its Debian package, by the command that needs it.
@@ -135,9 +141,32 @@ def check_filled(tally):
     tally.count("pages", "" if len(pages) >= len(PAGES) else "there are %d" % len(pages))
 
 
+def part_in(page, name):
+    """What a tool wrote into a page, or why there is no place for it."""
+    with open(os.path.join(TOP, page), encoding="utf-8") as file:
+        try:
+            return part_of(file.read(), name)
+        except NoPlace as error:
+            return str(error)
+
+
+def check_made(tally):
+    """That what tools write into pages is up to date. The first line of the table of costs says when they were measured."""
+    faults = list(edits.faults_of(edits.edits_in(TOP), edits.reasons_in(TOP)))
+    tally.count("checks/edits/REASONS.csv", "\n  ".join(faults))
+    if not faults:
+        is_new = part_in("docs/WRONG_BODIES.md", "edits") == edits.page_part(TOP)
+        tally.count("docs/WRONG_BODIES.md", "" if is_new else "its list is not that of today: tools/wrong_bodies --page writes it")
+    part = part_in("docs/WORKING.md", "seconds")
+    is_new = part == costs.page_part(TOP, part.split("\n")[0])
+    tally.count("docs/WORKING.md", "" if is_new else "its table of costs is not that of today: tools/seconds --page writes it")
+
+
 def main():
     tally = Tally("documents")
     check_filled(tally)
+    check_made(tally)
+    check_words(tally, TOP)
     for page in PAGES:
         check_page(tally, page)
     return tally.end()

@@ -1,5 +1,5 @@
 """What checks/documents.sh finds in the words of the pages by lists: words that the glossary replaces, terms with a second name,
-sentences that are too long, and names of pages that are no links.
+sentences that are too long, names of pages that are no links, and links that lead nowhere.
 
 The lists are in documents.words, with a line for each entry and empty lines and lines of '#' between them:
 
@@ -16,9 +16,10 @@ word that begins with a small letter is looked for with a capital one too, and e
 import os
 import re
 
-FENCE = re.compile(r"^```.*?^```$", re.M | re.S)
+FENCE = re.compile(r"^ *```.*?^ *```$", re.M | re.S)
 CODE = re.compile(r"`[^`\n]*`")
 LINK = re.compile(r"!?\[([^\]]*)\]\([^)]*\)")
+TARGET = re.compile(r"\]\((?!https?:)([^)\s]+)\)")
 MADE = re.compile(r"^<!-- (\w+) -->$.*?^<!-- /\1 -->$", re.M | re.S)
 COMMENT = re.compile(r"<!--.*?-->", re.S)
 # A page between backquotes, or one of docs by its bare name.
@@ -114,16 +115,35 @@ def bare_pages(text):
         yield "line %d: %s is no link" % (line_at(text, found.start()), found[0])
 
 
-def faults_of(text, lists):
+def anchors_in(page):
+    """The anchors of the headings of a page."""
+    with open(page, encoding="utf-8") as file:
+        heads = re.findall(r"^#+ (.*)$", FENCE.sub(blank, file.read()), re.M)
+    return {re.sub(r"[^\w -]", "", LINK.sub(r"\1", head).lower()).replace(" ", "-") for head in heads}
+
+
+def dead_links(text, page):
+    """Links to files that do not exist, or to headings that their page has not."""
+    text = CODE.sub("X", FENCE.sub(blank, text))
+    for found in TARGET.finditer(text):
+        path, _, anchor = found[1].partition("#")
+        target = os.path.normpath(os.path.join(os.path.dirname(page), path)) if path else page
+        if not os.path.exists(target):
+            yield "line %d: there is no %s" % (line_at(text, found.start()), found[1])
+        elif anchor and anchor not in anchors_in(target):
+            yield "line %d: %s has no heading for #%s" % (line_at(text, found.start()), path or "the page", anchor)
+
+
+def faults_of(page, lists):
+    with open(page, encoding="utf-8") as file:
+        text = file.read()
     prose = prose_of(text)
-    return [*old_words(prose, lists), *long_sentences(prose, lists), *bare_pages(text)]
+    return [*old_words(prose, lists), *long_sentences(prose, lists), *bare_pages(text), *dead_links(text, page)]
 
 
 def check_words(tally, top):
     """Counts each page of the list."""
     lists = Lists(os.path.join(top, "checks", "documents.words"))
     for page in lists.pages:
-        with open(os.path.join(top, page), encoding="utf-8") as file:
-            faults = faults_of(file.read(), lists)
-        tally.count("words of " + page, "\n  ".join(faults))
+        tally.count("words of " + page, "\n  ".join(faults_of(os.path.join(top, page), lists)))
     tally.count("lists of words", "" if lists.pages and lists.old and lists.most else "documents.words lacks pages, words or the length of sentences")
