@@ -6,7 +6,8 @@ no line stands below a command, the page says in words what it prints. A command
 the next one is `echo $?`, below which the page has the status. Where a tool of a block is missing the block is not tried.
 
 No page of the repository has a place that is still to be filled, as a measured number: a name between two `@`, in capital letters.
-What tools write into pages is what they would write now; and the words of pages are those of documents.words (wording.py).
+What tools write into pages is what they would write now; the words of pages are those of documents.words
+(wording.py), and the names that they cite exist (cited.py).
 """
 
 import glob
@@ -23,6 +24,7 @@ sys.path.append(os.path.join(TOP, "tools"))
 
 from building import costs, edits
 from building.page import NoPlace, part_of
+from cited import check_cited
 from tally import Tally
 from wording import check_words
 
@@ -167,6 +169,7 @@ def main():
     check_filled(tally)
     check_made(tally)
     check_words(tally, TOP)
+    check_cited(tally, TOP)
     for page in PAGES:
         check_page(tally, page)
     return tally.end()
