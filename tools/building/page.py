@@ -1,6 +1,7 @@
 """Parts of a page that a tool writes: what stands between the lines `<!-- NAME -->` and `<!-- /NAME -->`."""
 
 import re
+import sys
 
 
 class NoPlace(Exception):
@@ -27,8 +28,12 @@ def with_part(text, name, part):
 
 
 def write_part(path, name, part):
-    """Writes the part into the page, and leaves the rest of the page as it is."""
+    """Writes the part into the page, and leaves the rest of the page as it is. Ends the tool if the page has no place for it."""
     with open(path, encoding="utf-8") as file:
         text = file.read()
+    try:
+        text = with_part(text, name, part)
+    except NoPlace as error:
+        sys.exit("%s: %s" % (path, error))
     with open(path, "w", encoding="utf-8") as file:
-        file.write(with_part(text, name, part))
+        file.write(text)
