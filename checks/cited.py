@@ -1,5 +1,6 @@
 """Whether the names that pages cite exist: each name in code style of an entry of docs/CRATES.md in the sources of its crate or of
-one below it, and each of docs/PROVED.md and docs/DEFINITIONS.md in the sources of some crate, or of the crate that stands before it.
+one below it, and each of docs/PROVED.md and docs/DEFINITIONS.md in the sources of some crate, or of the crate that stands before it; and whether paths in
+crates that other pages have lead to files.
 """
 
 import glob
@@ -12,6 +13,7 @@ FENCE = re.compile(r"^ *```.*?^ *```$", re.M | re.S)
 NAME = re.compile(r"`([A-Za-z_]\w*(?:::\w+)*)`")
 # The names of an entry's crates, and its text up to the next entry or part.
 ENTRY = re.compile(r"^- ((?:\*\*`\w+`\*\*(?:, )?)+)(.*?)(?=^- \*\*`|^## |\Z)", re.M | re.S)
+PATH = re.compile(r"`(\w+/(?:src|specs|proofs)/\w+(?:\.rt)?)`")
 OF_CRATE = re.compile(r"`(\w+)`: ((?:`\w+`(?:, )?)+)")
 
 
@@ -69,8 +71,17 @@ def faults_of_page(sources, page):
                 yield "%s has no %s" % (crate, name)
 
 
+def faults_of_paths(top, page):
+    """Paths of a page in a crate, without their endings, that lead to no file."""
+    for path in sorted(set(PATH.findall(text_of(top, page)))):
+        if not glob.glob(os.path.join(top, "crates", path + ".*t")) and not os.path.exists(os.path.join(top, "crates", path)):
+            yield "there is no crates/%s" % path
+
+
 def check_cited(tally, top):
     sources = Sources(top)
     tally.count("names of docs/CRATES.md", "\n  ".join(faults_of_crates(sources, "docs/CRATES.md")))
     for page in ("docs/PROVED.md", "docs/DEFINITIONS.md"):
         tally.count("names of " + page, "\n  ".join(faults_of_page(sources, page)))
+    for page in ("docs/ARCHITECTURE.md", "docs/DECISIONS.md", "docs/DEBTS.md", "docs/WORKING.md"):
+        tally.count("paths of " + page, "\n  ".join(faults_of_paths(top, page)))
