@@ -159,6 +159,11 @@ def check_made(tally):
     if not faults:
         is_new = part_in("docs/WRONG_BODIES.md", "edits") == edits.page_part(TOP)
         tally.count("docs/WRONG_BODIES.md", "" if is_new else "its list is not that of today: tools/wrong_bodies --page writes it")
+    with open(os.path.join(TOP, "docs", "WORKING.md"), encoding="utf-8") as file:
+        working = file.read()
+    names = [os.path.basename(path)[: -len(".sh")] for path in sorted(glob.glob(os.path.join(TOP, "checks", "*.sh")))]
+    lacking = [name for name in names if "\n| `%s` |" % name not in working]
+    tally.count("the checks of docs/WORKING.md", "it has no row of " + ", ".join(lacking) if lacking else "")
     part = part_in("docs/WORKING.md", "seconds")
     is_new = part == costs.page_part(TOP, part.split("\n")[0])
     tally.count("docs/WORKING.md", "" if is_new else "its table of costs is not that of today: tools/seconds --page writes it")
