@@ -81,8 +81,9 @@ def refused_by(functions, refusals):
     """What the check says of the functions that an edit changes, or None."""
     for function in functions:
         for name, said in refusals.items():
-            below = name.split("::")[1:]
-            if below[-1] == function.name and "::".join(below).startswith(function.module()):
+            *before, last = name.split("::")[1:]
+            place = "::".join(before)
+            if last == function.name and place.startswith(function.module()) and function.owner in place:
                 return said
     return None
 
