@@ -71,10 +71,26 @@ same_as_receive() { # WHAT PLAN PREFIX SEED..
   done
 }
 
+# The example in the header's first comment, as the body of a function that main calls with a plan and a lane of one lane.
+header_example() {
+  printf '%s\n' '#include "interlaken.h"' '#include <stdio.h>' 'static uint8_t plan[65536], lane[65536];' \
+    'static size_t load(const char *name, uint8_t *bytes) {' '  FILE *file = fopen(name, "rb");' \
+    '  return file == NULL ? 0 : fread(bytes, 1, 65536, file);' '}' 'int main(int count, char **words) {' \
+    '  size_t plan_size = load(words[1], plan), size = load(words[count - 1], lane);'
+  sed -n '/interlaken_receiver r = /,/interlaken_receiver_free/ { s/^ \*//p; /interlaken_receiver_free/q }' "$include/interlaken.h"
+  printf '%s\n' '  return 0;' '}'
+}
+
 # The bytes of the one packet of a capture, in hex.
 hex_of() { # FILE
   od -An -v -tx1 -j40 "$1" | tr -d ' \n'
 }
+
+header_example >example.c
+cc -std=c99 "${strict[@]}" -o example example.c "$archive" "$top/examples/c/alloc.c" || gives_up "the header's example is not compiled"
+printf 'lanes,1\nmetaframe,32\nchannel,1,one.pcap\nout,one\n' >one.plan
+cp "$top/examples/one.pcap" . && "$program" send one.plan >/dev/null || gives_up 'send fails'
+holds "the header's example" "$(./example one.plan one.lane.0)" $'packet of 300 bytes\npacket of 40 bytes'
 
 cp "$top"/examples/{damaged.plan,damaged.schedule,one.pcap,two.pcap} . && "$program" link damaged.plan >/dev/null || gives_up 'link fails'
 same_as_receive 'examples/damaged.plan' damaged.plan damaged '' 1 2
