@@ -394,8 +394,8 @@ uint32_t interlaken_damage_free(interlaken_damage *damage);
  * Results: DONE, OUT_OF_MEMORY, NO_LANE, NO_DAMAGE, OUT_OF_RANGE, PASSED. */
 uint32_t interlaken_damage_flip(interlaken_damage *damage, uint32_t lane, uint64_t bit);
 
-/* Forces `bits` bits of a lane, counted from 0, to 0, from bit `first` on. Those of them that have
- * passed stay as they were. The result is OUT_OF_RANGE if first + bits is above 2^44, and PASSED if
+/* Forces `bits` bits of a lane, counted from 0, to 0, from bit `first` on. Bits that have passed
+ * stay as they were. The result is OUT_OF_RANGE if first + bits is above 2^44, and PASSED if
  * all bits below first + bits have passed: nothing happens then.
  * Results: DONE, OUT_OF_MEMORY, NO_LANE, NO_DAMAGE, OUT_OF_RANGE, PASSED. */
 uint32_t interlaken_damage_dark(interlaken_damage *damage, uint32_t lane, uint64_t first,
