@@ -30,7 +30,8 @@
  * Threads
  *
  * A handle is used by one call at a time. If threads share a handle, one call returns before the
- * next begins, as with a mutex. Calls on different handles may run at the same time.
+ * next begins, as with a mutex. Calls on different handles may run at the same time, if the
+ * functions of interlaken_alloc.h may.
  *
  * Terms
  *
@@ -75,7 +76,8 @@
  * makes have them over malloc, realloc and free. After `interlaken_receiver_new` no call on a
  * receiver allocates memory. Of the calls on damage `new`, `flip` and `dark` do; of the calls on a
  * transmitter `new` and `packet` do. A receiver keeps room for the longest packet of the plan
- * (`max_packet`) on each channel, so a smaller `max_packet` saves memory. */
+ * (`max_packet`) on each channel, so a smaller `max_packet` saves memory. Give a thread that calls
+ * `interlaken_receiver_new` or `interlaken_transmitter_new` a stack of 128 KiB or more. */
 #ifndef INTERLAKEN_H
 #define INTERLAKEN_H
 
