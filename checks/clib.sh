@@ -24,6 +24,10 @@ holds 'calls of the header and of the archive' "$(grep -o '^uint32_t interlaken_
 holds 'calls of the shared library' "$(nm -D --defined-only library/lib/libinterlaken.so | awk '$2 == "T" { sub(/@.*/, "", $3); print $3 }' | sort)" \
   "$(nm -g --defined-only "$archive" 2>/dev/null | grep -oE '\binterlaken_(receiver|transmitter|damage)_[a-z_]*$' | sort -u)"
 
+# One number counts for the program, the library and the formats.
+holds 'the version of the header and of the release' "$(sed -n 's/^#define INTERLAKEN_VERSION "\(.*\)"$/\1/p' "$include/interlaken.h")" \
+  "$(cat "$top/release/VERSION" 2>&1)"
+
 # The keys after `out` are of other files, and no plan of lanes lacks one.
 numbers=$(grep -oE '\bINTERLAKEN_[A-Z_]+ = [0-9]+' "$include/interlaken.h" | sed 's/^INTERLAKEN_//; s/ = / /' | LC_ALL=C sort)
 holds 'numbers of the header and of the crate' "$numbers" \

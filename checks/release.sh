@@ -17,8 +17,6 @@ archive=crates/$library/out/lib$library.a
 
 holds 'the SHA-256 of the program' "$(cd release && sha256sum "${release##*/}" 2>&1)" "$(cat "$release.sha256" 2>&1)"
 holds 'the sum of the sources (after a change tools/release makes another)' "$(sum_of_sources .)" "$(cat release/sources.sha256 2>&1)"
-holds 'the version of the release and of the header' "$(cat release/VERSION 2>&1)" \
-  "$(sed -n 's/^#define INTERLAKEN_VERSION "\(.*\)"$/\1/p' include/interlaken.h)"
 if [ -f "$library_release" ]; then
   holds 'the SHA-256 of the archive' "$(cd release && sha256sum "${library_release##*/}" 2>&1)" "$(cat "$library_release.sha256" 2>&1)"
   holds "the sum of the C library's sources" "$(sum_of_sources . "$library")" "$(cat release/library_sources.sha256 2>&1)"
