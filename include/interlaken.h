@@ -36,7 +36,7 @@
  * Terms
  *
  * - Code: the 67 bits of a word on a lane: inversion bit, 2 header bits, 64 bits.
- * - Bad word: a word with the header 00 or 11. A word has the header 01 (data) or 10 (control).
+ * - Bad word: a word with the header 00 or 11. All others have 01 (data) or 10 (control).
  * - Control word: a word of 64 bits between bursts, with channel, start and end marks, flow
  *   control and CRC24. SOP marks the start of a packet.
  * - CRC24 block: the words after a control word, up to and with the next, which its CRC24 covers.
@@ -88,7 +88,8 @@
 extern "C" {
 #endif
 
-/* The version of these calls. The shared library has the first number in its name. */
+/* The version of the program, the library and the formats of files. The shared library has the
+ * first number in its name. */
 #define INTERLAKEN_VERSION "1.4.0"
 
 /* The results of calls. */
