@@ -35,7 +35,7 @@ def draw_words(picture, plan, roles, begin):
         picture.box(x, y - 11, 14, 14, FRAMING[role])
         picture.text(x + 20, y, text)
     count = roles.count("payload")
-    picture.text(LEFT, TOP + TALL + 62, "light: %d payload words, scrambled; with %d lanes every %s payload word of the stream" % (count, plan.lanes, "second" if plan.lanes == 2 else "one"))
+    picture.text(LEFT, TOP + TALL + 62, "light: %d payload words, scrambled; of the stream one word in %d is on this lane" % (count, plan.lanes))
 
 
 def draw_code(picture, code, at, word):
