@@ -29,7 +29,7 @@ from tally import Tally
 from wording import check_words
 
 # The pages, with the folder of the first command of each.
-PAGES = {"README.md": "", "docs/TOUR.md": "examples", "tools/README.md": "", "examples/testbench/README.md": "examples/testbench"}
+PAGES = {"README.md": "", "docs/TOUR.md": "examples", "docs/MORE.md": "examples", "tools/README.md": "", "examples/testbench/README.md": "examples/testbench"}
 # What the pages call that a machine may lack: the tool and its Debian package, by the command that needs it.
 TOOLS = {"iverilog": ("iverilog", "iverilog"), "vvp": ("vvp", "iverilog"), "verilator": ("verilator", "verilator"), "../tools/campaign": ("parallel", "parallel")}
 UNFILLED = re.compile("@[A-Z_]+@")

@@ -137,9 +137,12 @@ def check_examples(results, folder):
         draw(results, folder, [name + ".plan", "--program", PROGRAM])
         results.expect(name, counts_of(folder, name), wanted)
     lanes = xml.parse(os.path.join(folder, "damaged.lanes.svg")).getroot()
-    groups = [(element.text, element.findtext(SVG + "title")) for element in lanes.iter(SVG + "text") if element.text.startswith("group 3")]
-    results.expect("damaged, the bit of a group", groups, [("group 3", "bit 6443")])
-    results.expect("damaged, the legend of groups", [element.text for element in lanes.iter(SVG + "text") if "by which the span table names it" in element.text] != [], True)
+    groups = [(element.text, element.findtext(SVG + "title")) for element in lanes.iter(SVG + "text") if element.text.startswith("group 6")]
+    results.expect("damaged, the name of a group", groups, [("group 6443", "metaframe 3")])
+    texts = [element.text for element in lanes.iter(SVG + "text")]
+    results.expect("damaged, the legend of groups", [text for text in texts if "a group is named as in the span table" in text] != [], True)
+    for text in ("bit 9011 is inverted (bit 9000 as sent)", "11 bits late", "200 bits late", "14000"):
+        results.expect("damaged, lanes, " + text, texts.count(text), 1)
     stream = xml.parse(os.path.join(folder, "damaged.stream.svg")).getroot()
     texts = [element.text for element in stream.iter(SVG + "text")]
     for text in ("slot 230 is damaged: lane 0, bit 9011", "span 1 of slots 224 to 290: crc"):
@@ -182,7 +185,7 @@ def check_tour(results, folder):
     for name in sorted(os.listdir(target)):
         with open(os.path.join(target, name), "rb") as drawn, open(os.path.join(TOP, "docs", "tour", name), "rb") as kept:
             results.expect("tour, " + name, drawn.read() == kept.read(), True)
-    results.expect("pictures of the tour", len(os.listdir(target)), 5)
+    results.expect("pictures of the tour", len(os.listdir(target)), 9)
     check_pictures(results, target)
 
 
