@@ -10,9 +10,10 @@ import tempfile
 from decimal import Decimal
 
 from campaigns import reports
-from campaigns.one_number import copy_plan, printed, slots_of, words_counts
+from campaigns.one_number import printed, slots_of, words_counts
 from campaigns.parallel import RUN, run_all, run_job
 from campaigns.records import Records, digest
+from reading.copies import copy_plan
 from reading.ending import INTERRUPTED, Options
 from reading.files import Folder, Refused, own_program
 from reading.plans import Plan

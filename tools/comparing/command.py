@@ -1,20 +1,19 @@
 """The command `packets`: its options, what it prints, and its errors."""
 
-import argparse
 import os
-import sys
 
 from comparing.differences import byte_told, differences_of, is_equal, stamp_text, stretches, word_told
 from comparing.records import PACKETS, Records, read_records
+from reading.ending import Options
 from reading.files import Folder, Refused, shown_name
 from reading.kinds import read_plan
 
-EQUAL, DIFFERENT, REFUSED = 0, 1, 2
+EQUAL, DIFFERENT = 0, 1
 
 
 def options_of(words):
     told = "Compares two captures, or two words files: what differs, what is missing in the second and what is extra, in order."
-    parser = argparse.ArgumentParser(prog="packets", description=told, allow_abbrev=False)
+    parser = Options(prog="packets", description=told)
     parser.add_argument("--plan", metavar="PLAN", help="compares each capture that a plan names with OUT.C.pcap, what came on its channel")
     parser.add_argument("--stamps", action="store_true", help="compares the time stamps of packets too")
     parser.add_argument("files", metavar="FILE", nargs="*", help="the file that is right, and the one that is judged")
@@ -64,19 +63,10 @@ def first_line(one, other, found):
     return "%s: %s" % (name, (byte_told if one.kind == PACKETS else word_told)(ours.data, theirs.data))
 
 
-def compare(options):
-    """Prints what is found, and returns the status."""
-    folder, status = Folder(None, os.getcwd()), EQUAL
+def main(words):
+    options, folder, status = options_of(words), Folder(None, os.getcwd()), EQUAL
     for one, other in pairs_of(folder, options):
         found = differences_of(one.items, other.items, options.stamps)
         status = status if is_equal(found) else DIFFERENT
         print("\n".join(lines_of(one, other, found)))
     return status
-
-
-def main(words):
-    try:
-        return compare(options_of(words))
-    except Refused as error:
-        print("packets: %s" % str(error).replace("\n", " "), file=sys.stderr)
-        return REFUSED

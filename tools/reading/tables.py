@@ -13,10 +13,7 @@ def read_events(folder, plan, lanes):
     if not folder.has(name):
         return None
     events = [{} for _ in lanes]
-    for where, lane, bit, event in table_of(folder, name, ["lane", "bit", "event"]):
-        if event not in EVENTS:
-            raise Refused("%s: %r is no event" % (where, event[:20]))
-        number, place = number_of(where, lane), number_of(where, bit)
+    for where, number, place, event in event_rows(folder, name):
         if number >= len(lanes) or place + CODE > len(lanes[number].bits):
             raise Refused("%s: no word of the lanes: they are not those of the table" % where)
         events[number].setdefault(place, []).append(event)
@@ -27,17 +24,31 @@ def read_events(folder, plan, lanes):
     return events
 
 
+def event_rows(folder, name):
+    """The rows of a table of `inspect`: the place of each, the lane, the bit and the event."""
+    for where, lane, bit, event in table_of(folder, name, ["lane", "bit", "event"]):
+        if event not in EVENTS:
+            raise Refused("%s: %r is no event" % (where, event[:20]))
+        yield where, number_of(where, lane), number_of(where, bit), event
+
+
+def fault_rows(folder, name):
+    """The rows of a table of `check`: the place of each, the word, the rule and the channel, or None."""
+    for where, word, rule, channel in table_of(folder, name, ["word", "rule", "channel"]):
+        if rule not in RULES:
+            raise Refused("%s: %r is no rule" % (where, rule[:20]))
+        yield where, number_of(where, word), rule, None if channel == "-" else number_of(where, channel)
+
+
 def read_faults(folder, plan, count):
     """The rules that words break, by word, of a table that `check` wrote of a words file of so many words; none where there is no table."""
     name, faults = plan.out + ".faults.csv", {}
     if not folder.has(name):
         return faults
-    for where, word, rule, channel in table_of(folder, name, ["word", "rule", "channel"]):
-        if rule not in RULES:
-            raise Refused("%s: %r is no rule" % (where, rule[:20]))
-        if number_of(where, word) >= count:
-            raise Refused("%s: word %s, and the words file has %d" % (where, word, count))
-        faults.setdefault(int(word), []).append(rule if channel == "-" else "%s of channel %d" % (rule, number_of(where, channel)))
+    for where, word, rule, channel in fault_rows(folder, name):
+        if word >= count:
+            raise Refused("%s: word %d, and the words file has %d" % (where, word, count))
+        faults.setdefault(word, []).append(rule if channel is None else "%s of channel %d" % (rule, channel))
     return faults
 
 
