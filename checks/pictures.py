@@ -197,7 +197,7 @@ def check_spoiled(results, folder):
                 file.write(change(data))
         done = run([TOOL, plan], folder)
         first = done.stderr[:len("picture: " + told)] if done.stderr.count("\n") == 1 else done.stderr
-        results.expect("%s spoiled" % name, (done.returncode, first), (1, "picture: " + told))
+        results.expect("%s spoiled" % name, (done.returncode, first), (2, "picture: " + told))
         with open(path, "wb") as file:
             file.write(data)
 
@@ -221,7 +221,7 @@ def check_stale(results, folder):
             with open(os.path.join(folder, file), "wb") as changed:
                 changed.write(data)
         done = run([TOOL, "stale.plan"] + words, folder)
-        wanted = (1, "picture: " + told, 1) if told else (0, "", 0)
+        wanted = (2, "picture: " + told, 1) if told else (0, "", 0)
         found = (done.returncode, done.stderr[:len("picture: " + told)] if told else done.stderr, done.stderr.count("\n"))
         results.expect("%s with %s" % (plan, from_other), found, wanted)
 
@@ -234,7 +234,7 @@ def check_changed(results, folder):
         statuses = [run([PROGRAM, name, "changed.plan"], folder).returncode for name in ("burst", command)]
         write_files(folder, {"changed.schedule": after.encode()})
         done = run([TOOL, "changed.plan"] + words, folder)
-        wanted = (1, "picture: " + told, 1) if told else (0, "", 0)
+        wanted = (2, "picture: " + told, 1) if told else (0, "", 0)
         found = (done.returncode, done.stderr[:len("picture: " + told)] if told else done.stderr, done.stderr.count("\n"))
         results.expect("%r, %s, %r, %s" % (before[:60], command, after[:60], words), (statuses, found), ([0, 0], wanted))
         if command == "send":
@@ -265,7 +265,7 @@ def check_joined(results, folder):
     run([PROGRAM, "join", "damaged.plan"], folder)
     told = "picture: damaged.spans.csv: 2 spans, and the run printed 3: these files are not of one run: "
     done = run([TOOL, "damaged.plan", "--text", "printed"], folder)
-    results.expect("a table of join", (done.returncode, done.stderr[:len(told)]), (1, told))
+    results.expect("a table of join", (done.returncode, done.stderr[:len(told)]), (2, told))
     draw(results, folder, ["damaged.plan", "--to", "joined"])
     texts = [element.text for element in xml.parse(os.path.join(folder, "joined.stream.svg")).getroot().iter(SVG + "text")]
     results.expect("damage of joined words", [text for text in texts if "damaged" in text], [])

@@ -189,14 +189,14 @@ def check_refused(tally, folder):
         if change:
             tally.expect("%s has %s" % (name, change[0]), data.count(change[0]), 1)
             write_files(folder.folder, {name: data.replace(*change)})
-        tally.expect("%s changed by %s, %s" % (name, change, words), told("damaged.plan", words), (1, "", "slots: %s\n" % wanted))
+        tally.expect("%s changed by %s, %s" % (name, change, words), told("damaged.plan", words), (2, "", "slots: %s\n" % wanted))
         write_files(folder.folder, {name: data})
     for name, kind in OTHERS.items():
-        tally.expect("%s in place of a plan" % name, told(name, []), (1, "", "slots: %s is %s, and a plan is wanted here\n" % (name, kind)))
+        tally.expect("%s in place of a plan" % name, told(name, []), (2, "", "slots: %s is %s, and a plan is wanted here\n" % (name, kind)))
     folder.run("join", "damaged.plan")
     joined = "slots: damaged.spans.csv: its spans are of a words file, as `join` writes them, and the text is of lanes: %s\n" % ANEW
     write_files(folder.folder, {"printed": content(folder.path("printed")).replace(b"spans 3", b"spans 2")})
-    tally.expect("a table of join and a text of link", told("damaged.plan", MISSING), (1, "", joined))
+    tally.expect("a table of join and a text of link", told("damaged.plan", MISSING), (2, "", joined))
     tally.expect("a table of join", told("damaged.plan", [])[::2], (0, ""))
 
 

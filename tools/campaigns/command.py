@@ -13,13 +13,13 @@ from campaigns import reports
 from campaigns.one_number import copy_plan, printed, slots_of, words_counts
 from campaigns.parallel import RUN, run_all, run_job
 from campaigns.records import Records, digest
+from reading.ending import INTERRUPTED, Options
 from reading.files import Folder, Refused, own_program
 from reading.plans import Plan
 
 RATES = ("flips_per_million", "dark", "skew")
 # What the launcher ends with where it cannot build the program.
 NOT_BUILT = 70
-INTERRUPTED = 130
 MOST_NUMBER, MOST_SKEW, MOST_DARK = 2 ** 64 - 1, 65535, 1000
 
 
@@ -48,7 +48,7 @@ def jobs(text):
 
 def options_of(words):
     told = "Runs the program for each number of a range with GNU parallel, and keeps what comes of each."
-    parser = argparse.ArgumentParser(prog="campaign", description=told, allow_abbrev=False)
+    parser = Options(prog="campaign", description=told)
     parser.add_argument("first", metavar="FIRST", type=whole(0, MOST_NUMBER))
     parser.add_argument("last", metavar="LAST", type=whole(0, MOST_NUMBER))
     parser.add_argument("folder", metavar="FOLDER", help="gets the tables; the same call goes on where it was cut off, and does again what was not done")
@@ -155,9 +155,6 @@ def main(words):
     options = options_of(words)
     try:
         return 0 if run_campaign(sys.argv[0], options) else 1
-    except Refused as error:
-        print("campaign: %s" % str(error).replace("\n", " "), file=sys.stderr)
-        return 1
     except KeyboardInterrupt:
         print("campaign: interrupted: the same call goes on with what is not done", file=sys.stderr)
         return INTERRUPTED

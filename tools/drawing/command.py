@@ -1,14 +1,13 @@
 """The command `picture`: its options, the files that it needs, and its errors."""
 
-import argparse
 import os
-import sys
 import tempfile
 
 from reading.agreement import must_be_damaged, must_be_in_lanes, must_be_of_run, must_fill_lanes
 from drawing.lanes import draw_lanes
 from drawing.queues import draw_queues
 from drawing.stream import draw_stream
+from reading.ending import Options
 from reading.files import Folder, Refused
 from reading.lane_bits import read_lanes
 from reading.kinds import read_plan
@@ -18,7 +17,7 @@ from reading.words import Stream, are_joined, read_spans
 
 
 def options_of(words):
-    parser = argparse.ArgumentParser(prog="picture", description="Draws the lanes and the stream of a plan, or the queues of a run of two ends, as SVG files.")
+    parser = Options(prog="picture", description="Draws the lanes and the stream of a plan, or the queues of a run of two ends, as SVG files.")
     parser.add_argument("plan", help="a plan, or the settings of a run of two ends")
     parser.add_argument("--program", help="the program, which makes the files that are missing, and the lanes as they were sent to compare with")
     parser.add_argument("--only", choices=("lanes", "stream"), help="one picture of a plan, from the files that it alone needs")
@@ -169,11 +168,6 @@ def draw_plan_stream(work, plan, schedule, lanes, damaged, skew):
 
 
 def main(words):
-    options = options_of(words)
-    try:
-        work = Work(options)
-        (draw_settings if are_settings(work.folder, options.plan) else draw_plan)(work)
-    except Refused as error:
-        print("picture: %s" % str(error).replace("\n", " "), file=sys.stderr)
-        return 1
+    work = Work(options_of(words))
+    (draw_settings if are_settings(work.folder, work.options.plan) else draw_plan)(work)
     return 0

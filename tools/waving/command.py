@@ -1,10 +1,9 @@
 """The command `waves`: its options, the files that it reads, and its errors."""
 
-import argparse
 import os
-import sys
 
 from reading.agreement import must_fill_lanes
+from reading.ending import Options
 from reading.files import Folder, Refused
 from reading.kinds import read_plan
 from reading.lane_bits import read_lanes
@@ -16,7 +15,7 @@ from waving.vcd import write_vcd
 
 
 def options_of(words):
-    parser = argparse.ArgumentParser(prog="waves", description="Writes the waves of a plan's lanes and of their stream as a VCD file.")
+    parser = Options(prog="waves", description="Writes the waves of a plan's lanes and of their stream as a VCD file.")
     parser.add_argument("plan", help="a plan, whose lanes `link` or `send` wrote, or another")
     parser.add_argument("--to", metavar="FILE", help="the file; OUT.vcd where it is not named, with OUT the plan's `out`")
     return parser.parse_args(words)
@@ -76,9 +75,5 @@ def write_file(folder, name, scopes, end):
 
 def main(words):
     options = options_of(words)
-    try:
-        print(write_waves(Folder(None, os.getcwd()), options.plan, options.to))
-    except Refused as error:
-        print("waves: %s" % str(error).replace("\n", " "), file=sys.stderr)
-        return 1
+    print(write_waves(Folder(None, os.getcwd()), options.plan, options.to))
     return 0
