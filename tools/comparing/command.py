@@ -2,13 +2,16 @@
 
 import os
 
-from comparing.differences import byte_told, differences_of, is_equal, stamp_text, stretches, word_told
+from comparing.differences import byte_told, differences_of, is_equal, stamp_text, word_told
 from comparing.records import PACKETS, Records, read_records
 from reading.ending import Options
 from reading.files import Folder, Refused, shown_name
+from reading.intervals import listed
 from reading.kinds import read_plan
 
 EQUAL, DIFFERENT = 0, 1
+# So many stretches of numbers are written.
+MOST_STRETCHES = 20
 
 
 def options_of(words):
@@ -47,7 +50,7 @@ def lines_of(one, other, found):
         yield "  first: " + first
     for what, numbers in (("differing", [number for number, _ in found.differing]), ("missing", found.missing), ("extra", found.extra), ("stamps", [number for number, _ in found.stamps])):
         if numbers:
-            yield "  %s: %s" % (what, stretches(numbers))
+            yield "  %s: %s" % (what, listed(numbers, MOST_STRETCHES))
 
 
 def first_line(one, other, found):

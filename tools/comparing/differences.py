@@ -8,8 +8,6 @@ from reading.files import NANO
 # `equal` are how many records are equal; `differing` are pairs of numbers, `missing` are numbers of the first list and `extra` of the
 # second; `stamps` are pairs of numbers whose packets are equal and whose stamps are not.
 Differences = namedtuple("Differences", "equal differing missing extra stamps")
-# So many stretches of numbers are written.
-MOST_STRETCHES = 20
 
 
 def differences_of(one, other, with_stamps=False, ends_at_front=False):
@@ -55,16 +53,3 @@ def word_text(data):
 
 def stamp_text(stamp):
     return "%d.%09d" % divmod(stamp, NANO)
-
-
-def stretches(numbers):
-    """Numbers in order as a text, those together that follow one another: `3, 7 to 9`."""
-    found = []
-    for number in numbers:
-        if found and found[-1][1] == number - 1:
-            found[-1][1] = number
-        else:
-            found.append([number, number])
-    texts = ["%d" % first if first == last else "%d to %d" % (first, last) for first, last in found[:MOST_STRETCHES]]
-    left = sum(last - first + 1 for first, last in found[MOST_STRETCHES:])
-    return ", ".join(texts) + (", and %d more" % left if left else "")

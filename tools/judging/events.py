@@ -1,0 +1,90 @@
+"""The events of lanes as findings: where they stand, what was expected there, and what was found."""
+
+from judging.findings import Finding
+from judging.frames import SKIP, Frames, inverted_bit
+from reading.metaframes import CONTROL, STATE, STATE_BITS, SYNC
+from reading.plans import CODE
+
+LOCK, UNFRAMED, BALANCE = "lock", "unframed", "balance"
+MOST_BALANCE = 129
+WELL = 3  # both health bits
+
+
+def event_findings(run):
+    """A finding for each event but the declared locks, by lane in order of bit."""
+    return [list(of_lane(run, number)) for number in range(len(run.lanes))]
+
+
+def of_lane(run, number):
+    """The findings of a lane. Its metaframes are read one after another, for all of their events."""
+    frames = Frames(run.lanes[number], run.locks[number], run.plan)
+    locks, plan = run.locks[number], run.plan
+    for bit, event in run.events[number]:
+        if event == LOCK:
+            continue
+        lock = locks.lock_at(bit)
+        finding = Finding(event, bit=bit, lane=number, metaframe=metaframe_of(locks, bit, plan))
+        if lock and bit >= lock.first and event != UNFRAMED:
+            begin = bit - (bit - lock.first) % plan.period
+            finding.word = run.places.word_at(number, bit, begin)
+            tell(finding, event, frames, lock)
+        yield finding
+
+
+def metaframe_of(locks, bit, plan):
+    """The metaframe of a lane from its first declared lock on, or None before it."""
+    first = locks.firsts[0] if locks.firsts else None
+    return None if first is None or bit < first else (bit - first) // plan.period
+
+
+def tell(finding, event, frames, lock):
+    """Puts what was expected and found into the finding of an event of a lock."""
+    frame, place = frames.of(finding.bit)
+    if event == BALANCE:
+        finding.expected, finding.found = "-%d to %d" % (MOST_BALANCE, MOST_BALANCE), frames.lane.disparity(lock.first, finding.bit + CODE)
+    elif frame is None or place >= len(frame.codes):
+        return
+    elif event in ("bad", "lost-headers"):
+        finding.expected, finding.found = "01 or 10", format(frame.codes[place].header, "02b")
+    elif event in TOLD:
+        finding.expected, finding.found = TOLD[event](frame, place)
+        if event == "diag":
+            tell_diagnostic(finding, frame)
+
+
+def payload_text(header, payload):
+    """A payload in digits, with what its header says where that is not control."""
+    return {1: "data ", CONTROL: ""}.get(header, "bad ") + "%016X" % payload
+
+
+def sync_told(frame, place):
+    return payload_text(CONTROL, SYNC), payload_text(frame.words[place].header, frame.words[place].raw)
+
+
+def state_told(frame, place):
+    carried = frame.carried()
+    found = payload_text(frame.words[place].header, frame.words[place].raw) if carried is None else "%015X" % carried
+    return "%015X" % frame.state, found
+
+
+def skip_told(frame, place):
+    return payload_text(CONTROL, SKIP), payload_text(frame.words[place].header, frame.words[place].word)
+
+
+def diagnostic_told(frame, place):
+    found, word = frame.found_crc(), frame.words[place]
+    return "%08X" % frame.crc(), payload_text(word.header, word.word) if found is None else "%08X" % found
+
+
+def health_told(frame, place):
+    return format(WELL, "02b"), format(frame.words[place].word >> 32 & WELL, "02b")
+
+
+def tell_diagnostic(finding, frame):
+    """Names the one bit that makes a wrong CRC32 right, where there is one."""
+    bit = inverted_bit(frame)
+    if bit is not None:
+        finding.note = "right with bit %d of the lane inverted" % bit
+
+
+TOLD = {"sync": sync_told, "lost-sync": sync_told, "state": state_told, "lost-state": state_told, "skip": skip_told, "diag": diagnostic_told, "health": health_told}
