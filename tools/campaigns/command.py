@@ -4,23 +4,20 @@ import argparse
 import os
 import re
 import shutil
-import subprocess
 import sys
 import tempfile
 from decimal import Decimal
 
 from campaigns import reports
-from campaigns.one_number import printed, slots_of, words_counts
+from campaigns.one_number import copy_plan, printed, slots_of, words_counts
 from campaigns.parallel import RUN, run_all, run_job
 from campaigns.records import Records, digest
-from reading.copies import copy_plan
+from reading.apart import found_program
 from reading.ending import INTERRUPTED, Options
 from reading.files import Folder, Refused, own_program
 from reading.plans import Plan
 
 RATES = ("flips_per_million", "dark", "skew")
-# What the launcher ends with where it cannot build the program.
-NOT_BUILT = 70
 MOST_NUMBER, MOST_SKEW, MOST_DARK = 2 ** 64 - 1, 65535, 1000
 
 
@@ -76,19 +73,6 @@ def options_of(words):
 def must_have(tool, package):
     if not shutil.which(tool):
         raise Refused("%s is not there (Debian package %s)" % (tool, package))
-
-
-def found_program(name, is_here):
-    """The path of the program. A launcher builds it first where it has to, and prints where it is; but other machines run their own
-    launcher, since what was built here is not there."""
-    found = shutil.which(name)
-    if found is None:
-        raise Refused("there is no program %s; INTERLAKEN_PROGRAM or --program names it" % name)
-    done = subprocess.run([found], stdin=subprocess.DEVNULL, stdout=subprocess.PIPE, env={**os.environ, "INTERLAKEN_WHICH": "1"})
-    if done.returncode == NOT_BUILT:
-        raise Refused("the program was not built")
-    told = os.fsdecode(done.stdout).strip()
-    return told if is_here and os.path.isabs(told) and os.access(told, os.X_OK) else os.path.abspath(found)
 
 
 def settings_of(options, program):

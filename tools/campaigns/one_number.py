@@ -10,11 +10,13 @@ from collections import Counter
 
 from campaigns.coverage import ACCIDENTS, skew_counts, span_counts, stream_counts, text_counts
 from campaigns.schedules import drawn_rows, struck_bits
-from reading.copies import CASE, copy_plan, write_rows
+from reading.apart import Links, write_rows
 from reading.files import Folder, Refused
 from reading.plans import Flow, Plan, Schedule
 from reading.words import Stream
 
+# The prefix of the files of a run. Its plan is CASE.plan, and the plan's outputs begin with CASE.out.
+CASE = "case"
 # Statuses of runs whose files are written to their ends; and the status that is kept of a run that is late.
 DONE, LATE = (0, 3), 124
 
@@ -35,6 +37,12 @@ def record_of(number, settings):
     finally:
         if not settings["keep"]:
             shutil.rmtree(folder, ignore_errors=True)
+
+
+def copy_plan(source, name, target):
+    """Writes a plan into another folder, with links to the files that it names, with outputs of its own, and without a schedule."""
+    links = Links(source, target, CASE + ".input")
+    write_rows(os.path.join(target, CASE + ".plan"), links.rows(Folder(None, source).rows(name), CASE + ".out", without=("schedule",)))
 
 
 def draw_schedule(folder, number, settings):
