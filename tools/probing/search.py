@@ -1,6 +1,5 @@
 """Where the Sync words of a lane stand, in whatever order its bits are."""
 
-import re
 from collections import Counter, namedtuple
 
 from reading.bit_orders import COMPLEMENT, bits_reversed, bytes_swapped, in_order, reordered
@@ -11,7 +10,9 @@ from reading.plans import CODE
 
 REVERSED_WITHIN, SWAPPED_WITHIN = (8, 16, 20, 32, 40, 64, 66, 67, 80), (16, 32, 64)
 LEAST_METAFRAME, MOST_METAFRAME = 32, 8192
-SHORT = 4 * CODE * 512  # bytes in which a Sync word is looked for in every order: two of the longest metaframes and a half
+LONGEST = CODE * MOST_METAFRAME // 8  # bytes of the longest metaframe
+SHORT = 2 * LONGEST + 2 * CODE  # bytes in which a Sync word is looked for in every order
+LEAST_FRAMES = 5  # metaframes of a lane that are looked at where it has them
 ROUND = 16  # the Sync word has a period of so many bits, in every order within it
 PAYLOAD = 64
 
@@ -65,13 +66,22 @@ def sync_payloads(bits):
     number, found = int(bits or "0", 2), {payload: [] for payload in PAYLOADS}
     # Bit q is 1 where the bits q and q + 16 differ.
     differing = as_text(number ^ number << ROUND, len(bits))[:-ROUND]
-    for run in re.finditer("0{%d,}" % (PAYLOAD - ROUND), differing):
-        first, last = run.start(), run.end() - (PAYLOAD - ROUND)
-        for at in range(first, min(last, first + ROUND) + 1):
+    for first, last in runs_of_zeros(differing, PAYLOAD - ROUND):
+        for at in range(first, min(last - (PAYLOAD - ROUND), first + ROUND) + 1):
             payload = PATTERNS.get(bits[at:at + ROUND])
             if payload and at >= 3:
                 found[payload].append(at)
     return found
+
+
+def runs_of_zeros(text, least):
+    """The first and the last + 1 of each run of at least so many zeros."""
+    at = text.find("0" * least)
+    while at >= 0:
+        end = text.find("1", at)
+        end = len(text) if end < 0 else end
+        yield at, end
+        at = text.find("0" * least, end)
 
 
 def metaframe_of(places, wanted):
@@ -102,7 +112,8 @@ def found_in(bits, order, wanted):
         metaframe = metaframe_of(places, wanted)
         if metaframe is None:
             if places:
-                yield Found(order, bits, payload, is_inverted(bits, places), places[0] - 3, None, (len(places), len(places)), headers_of(bits, places[0] - 3))
+                yield Found(order, bits, payload, is_inverted(bits, places), places[0] - 3, None, (len(places), len(places)),
+                            headers_of(bits, places[0] - 3))
             continue
         places = phase_of(places, metaframe)
         first = places[0] - 3
@@ -129,21 +140,28 @@ def is_good(found):
 
 def rank(found):
     """What is nearer to a lane: a metaframe, legal headers, Sync words."""
+    if found is None:
+        return ()
     fits, tried = found.headers
     return found.metaframe is not None, 4 * fits >= 3 * tried, found.syncs[0], -ORDERS.index(found.order)
 
 
-def search(data, wanted=None, first=None):
-    """What the Sync words of a lane's bytes show, or None if no order has any. A metaframe that is wanted is tried first, and so is
-    an order, as that of another lane."""
+def search(data, wanted=None, first=None, words=1 << 17):
+    """What the Sync words of a lane's bytes show, or None if no order has any: of about so many words of it. A metaframe that is wanted
+    is tried first, and so is an order, as that of another lane."""
     best = None
     for order in sorted(ORDERS, key=lambda order: order != first):
-        part = data if order in (ORDERS[0], first) else data[:SHORT]
-        for found in found_in(in_one_order(bits_of(part), order), order, wanted):
-            best = found if best is None or rank(found) > rank(best) else best
+        best = max([best] + found_of(data[:SHORT], order, wanted), key=rank)
         if best and is_good(best):
             break
-    if best and len(best.bits) < 8 * len(data) // len(best.order.places) * len(best.order.places):
-        again = [found for found in found_in(in_one_order(bits_of(data), best.order), best.order, best.metaframe) if found.payload == best.payload]
-        best = max(again, key=rank, default=best)
+    if best is None:
+        for order in (ORDERS[0], first or ORDERS[0]):
+            best = max([best] + found_of(data, order, wanted), key=rank)
+    if best and best.metaframe:
+        part = data[:(best.first + CODE * max(words, LEAST_FRAMES * best.metaframe)) // 8 + CODE]
+        best = max([found for found in found_of(part, best.order, best.metaframe) if found.payload == best.payload], key=rank)
     return best
+
+
+def found_of(data, order, wanted):
+    return list(found_in(in_one_order(bits_of(data), order), order, wanted))
