@@ -1,13 +1,15 @@
 """The events of lanes as findings: where they stand, what was expected there, and what was found."""
 
 from judging.findings import Finding
-from judging.frames import SKIP, Frames, inverted_bit
-from reading.metaframes import CONTROL, STATE, STATE_BITS, SYNC
+from judging.frames import Frames, inverted_bit
+from probing.variants import RIGHT, crc32_variant, skip_variant
+from reading.metaframes import CONTROL, SKIP, SYNC
 from reading.plans import CODE
 
 LOCK, UNFRAMED, BALANCE = "lock", "unframed", "balance"
 MOST_BALANCE = 129
 WELL = 3  # both health bits
+MOST_TRIED = 200000  # words of all lanes in which variants of the CRC32 and inverted bits are tried
 
 
 def event_findings(run):
@@ -18,6 +20,7 @@ def event_findings(run):
 def of_lane(run, number):
     """The findings of a lane. Its metaframes are read one after another, for all of their events."""
     frames = Frames(run.lanes[number], run.locks[number], run.plan)
+    frames.tries = MOST_TRIED // len(run.lanes)
     locks, plan = run.locks[number], run.plan
     for bit, event in run.events[number]:
         if event == LOCK:
@@ -49,7 +52,11 @@ def tell(finding, event, frames, lock):
     elif event in TOLD:
         finding.expected, finding.found = TOLD[event](frame, place)
         if event == "diag":
-            tell_diagnostic(finding, frame)
+            tell_diagnostic(finding, frames, frame)
+        elif event == "skip":
+            raw, word = frame.words[place].raw, frame.words[place].word
+            variant = skip_variant(raw, raw ^ word)
+            finding.variant = None if variant == RIGHT else variant
 
 
 def payload_text(header, payload):
@@ -80,9 +87,17 @@ def health_told(frame, place):
     return format(WELL, "02b"), format(frame.words[place].word >> 32 & WELL, "02b")
 
 
-def tell_diagnostic(finding, frame):
-    """Names the one bit that makes a wrong CRC32 right, where there is one."""
-    bit = inverted_bit(frame)
+def tell_diagnostic(finding, frames, frame):
+    """Says whether a wrong CRC32 is right by the Sync and Skip words as they should be, by a known variant, or with one bit inverted."""
+    found = frame.found_crc()
+    if found is None or any(code.header in (0, 3) for code in frame.codes):
+        return
+    finding.is_mended = found == frame.crc(is_mended=True)
+    if finding.is_mended or frames.tries <= 0:
+        return
+    frames.tries -= len(frame.codes)
+    finding.variant = crc32_variant([word.word for word in frame.words])
+    bit = inverted_bit(frame) if finding.variant is None else None
     if bit is not None:
         finding.note = "right with bit %d of the lane inverted" % bit
 

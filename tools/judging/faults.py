@@ -3,6 +3,7 @@
 from judging.calendars import told_by_word
 from judging.events import metaframe_of
 from judging.findings import Finding
+from probing.variants import crc24_variant
 from reading.checksums import CRC24
 
 NO_END = 0
@@ -55,18 +56,16 @@ def fault_findings(run):
                 finding.expected, finding.found = calendar.get(word, (None, None))
             elif rule in TOLD:
                 finding.expected, finding.found = TOLD[rule](words, word)
+            if rule == "crc":
+                finding.variant = crc24_variant(words.bytes_of(words.before(word), word), run.stream.word(word))
             found.append(finding)
     return found
 
 
 def crc_told(words, word):
     value = words.stream.word(word)
-    return "%06X" % crc24_of(words, word), "%06X" % (value & 0xFFFFFF)
-
-
-def crc24_of(words, word):
-    """The CRC24 that a control word should have."""
-    return CRC24.of(words.bytes_of(words.before(word), word) + (words.stream.word(word) >> 24 << 24).to_bytes(8, "big"))
+    covered = words.bytes_of(words.before(word), word) + (value >> 24 << 24).to_bytes(8, "big")
+    return "%06X" % CRC24.of(covered), "%06X" % (value & CRC24.ones)
 
 
 def control_told(words, word):

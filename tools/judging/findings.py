@@ -4,17 +4,19 @@ import csv
 import io
 
 COLUMNS = ("bit", "lane", "metaframe", "word", "what", "channel", "packet", "expected", "found", "note")
+OWN = ("cause", "place", "last", "variant", "is_mended")
 
 
 class Finding:
     """A row of the table. `cause` is the finding that it follows from, or None; `place` its own in the table once that is in order;
-    `last` is the last word that a span or a packet has."""
+    `last` the last word of a span or a packet; `variant` the known way in which a sender makes it so, or None; `is_mended` is true of a
+    wrong CRC32 that is right of the Sync and Skip words as they should be."""
 
-    __slots__ = COLUMNS + ("cause", "place", "last")
+    __slots__ = COLUMNS + OWN
 
     def __init__(self, what, **known):
         self.what = what
-        for column in COLUMNS[:4] + COLUMNS[5:] + ("cause", "place", "last"):
+        for column in set(COLUMNS + OWN) - {"what"}:
             setattr(self, column, known.get(column))
 
     def add_note(self, text):

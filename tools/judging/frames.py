@@ -2,16 +2,17 @@
 
 from collections import namedtuple
 
+from probing import frames as probing_frames
+from probing.variants import after, jump
 from reading.checksums import CRC32
-from reading.metaframes import CONTROL, DIAGNOSTIC_MARK, HALF, STATE, STATE_BITS, STATE_MARK, SYNC, crc_after, key_after
+from reading.metaframes import CONTROL, DIAGNOSTIC_MARK, HALF, SKIP, STATE, STATE_BITS, STATE_MARK, SYNC, crc_after, key_after
 from reading.plans import CODE
-from reading.scrambler import state_after
 
-SKIP = 0x1E1E1E1E1E1E1E1E
 SYNC_PLACE, STATE_PLACE, FIRST_SKIP = 0, 1, 2
 POLYNOMIAL = CRC32.after(0, b"\1")  # what the last bit of a message adds
 # So many words are descrambled in a call; the findings after them have no expected values.
 MOST_WORDS = 1500000
+FEW_TURNS = 40
 
 # A word of a metaframe: its header, its payload as it is on the lane, and descrambled.
 Framed = namedtuple("Framed", "header raw word")
@@ -45,12 +46,12 @@ class Frame:
         code = self.codes[STATE_PLACE] if len(self.codes) > STATE_PLACE else None
         return code.payload & STATE if code and code.header == CONTROL and code.payload >> STATE_BITS == STATE_MARK else None
 
-    def covered(self, words=None, has_state=False, is_mended=False):
-        """The payloads that the CRC32 covers: bad words are zeros, and so are the state and the place of the CRC32. `has_state` leaves
-        the state in, `is_mended` takes the Sync and Skip words as they should be."""
-        for place, framed in enumerate(words or self.words):
+    def covered(self, is_mended=False):
+        """The payloads that the CRC32 covers: bad words are zeros, and so are the state and the place of the CRC32. `is_mended` takes
+        the Sync and Skip words as they should be."""
+        for place, framed in enumerate(self.words):
             value = 0 if framed.header in (0, 3) else framed.word
-            if place == STATE_PLACE and not has_state:
+            if place == STATE_PLACE:
                 value = value >> STATE_BITS << STATE_BITS
             if is_mended and place == SYNC_PLACE:
                 value = SYNC
@@ -58,13 +59,14 @@ class Frame:
                 value = SKIP
             yield value & ~HALF if place == self.plan.metaframe - 1 else value
 
-    def bytes_covered(self, **how):
-        return b"".join(value.to_bytes(8, "big") for value in self.covered(**how))
+    def as_probed(self):
+        """The metaframe as the variants of senders take it."""
+        return probing_frames.Frame(self.begin, [code.header for code in self.codes], [code.payload for code in self.codes])
 
-    def crc(self, **how):
+    def crc(self, is_mended=False):
         """The CRC32 of the metaframe."""
         register = CRC32.ones
-        for value in self.covered(**how):
+        for value in self.covered(is_mended):
             register = crc_after(register, value)
         return register ^ HALF
 
@@ -75,27 +77,45 @@ class Frame:
 
 
 class Frames:
-    """The metaframes of a lane, each read once while its findings follow one another."""
+    """The metaframes of a lane, each read once if its findings follow one another."""
 
     def __init__(self, lane, locks, plan):
         self.lane, self.locks, self.plan = lane, locks, plan
         self.left, self.begin, self.frame = MOST_WORDS, None, None
+        self.lock, self.turn, self.state = None, 0, 0
 
     def of(self, bit):
-        """The metaframe that covers the word at a bit and the word's place in it; None where no lock does, or too many were read."""
+        """The metaframe that has the word at a bit and the word's place in it; None if no lock does, or too many were read."""
         lock = self.locks.lock_at(bit)
         if lock is None or bit < lock.first:
             return None, None
         turn, rest = divmod(bit - lock.first, self.plan.period)
-        begin = bit - rest
-        if self.begin != begin:
+        if self.begin != bit - rest:
             if self.left < self.plan.metaframe:
                 return None, None
             self.left -= self.plan.metaframe
-            loaded = self.lane.code(lock.first + CODE).payload & STATE if lock.first + 2 * CODE <= self.lane.count else 0
-            state = state_after(loaded, turn * 64 * (self.plan.metaframe - 2))
-            self.begin, self.frame = begin, Frame(self.lane, begin, state, self.plan)
+            self.begin, self.frame = bit - rest, Frame(self.lane, bit - rest, self.running_state(lock, turn), self.plan)
         return self.frame, rest // CODE
+
+    def running_state(self, lock, turn):
+        """The state of the Scrambler State word of a metaframe of a lock, by that of its first."""
+        if self.lock != lock or turn < self.turn:
+            has_state = lock.first + 2 * CODE <= self.lane.count
+            self.lock, self.turn, self.state = lock, 0, self.lane.code(lock.first + CODE).payload & STATE if has_state else 0
+        turns, self.turn = turn - self.turn, turn
+        words = self.plan.metaframe - 2
+        if turns <= FEW_TURNS:
+            for _ in range(turns):
+                self.state = after(jump(words), self.state)
+        else:
+            self.state = after(jump(turns * words), self.state)
+        return self.state
+
+    def from_bit(self, bit, most):
+        """The whole metaframes from a bit on, at most so many, as long as each begins with a Sync word."""
+        while most and bit + self.plan.period <= self.lane.count and self.lane.code(bit).payload == SYNC:
+            yield Frame(self.lane, bit, 0, self.plan).as_probed()
+            bit, most = bit + self.plan.period, most - 1
 
 
 def inverted_bit(frame):

@@ -1,56 +1,55 @@
-"""The program reads the lanes of a plan in a folder of its own, and what comes of it."""
+"""The program reads the lanes of a plan apart from the user's files, and what comes of it."""
 
 import os
+import tempfile
+from collections import namedtuple
 
-from reading.copies import CASE, copy_plan, write_rows
-from reading.files import Folder, Refused, rows_of
+from reading.apart import write_rows
+from reading.files import Refused, rows_of
 from reading.lane_files import LaneFile, LaneLocks
+from reading.outputs import EVENTS, FAULTS, PLACES, SPANS, WORDS, capture_names, lane_names
 from reading.places import Places
-from reading.plans import CODE, MOST_SLOT, Flow, Local, Plan
+from reading.plans import CODE, MOST_SLOT, Flow, Local
 from reading.tables import event_rows, fault_rows
 from reading.words import Stream
 
-PLAN, CHECKED = CASE + ".plan", CASE + ".checked"
 BAD_WORD = b"\3" + bytes(8)
+# The plan by which words are judged: its name, and that of its outputs.
+Judged = namedtuple("Judged", "name out")
 
 
 class Run:
     """What `receive`, `inspect`, `gather` and `check` made of the lanes: the program's text, the events by lane, the locks, the words and
     their places, the faults by word as (rule, channel), the spans as the table has them, and the packets that came."""
 
-    def __init__(self, folder, name, plan, temporary):
-        self.plan_name, self.named = name, plan
+    def __init__(self, folder, plan):
+        self.folder, self.plan = folder, plan
         self.local, self.captures = Local(folder, plan), captures_of(folder, plan)
         Flow(folder, plan)
-        self.here = Folder(folder.program, temporary)
-        copy_plan(folder.folder, name, temporary)
-        self.plan = plan_here = Plan(self.here, PLAN)
-        for lane in range(plan.lanes):
-            source = folder.path("%s.lane.%d" % (plan.out, lane))
-            if not folder.has("%s.lane.%d" % (plan.out, lane)):
-                raise Refused("%s.lane.%d: No such file or directory" % (plan.out, lane))
-            os.symlink(os.path.abspath(source), os.path.join(temporary, "%s.lane.%d" % (plan_here.out, lane)))
-        self.lanes = [LaneFile(self.here.path("%s.lane.%d" % (plan_here.out, lane))) for lane in range(plan.lanes)]
-        self.text = self.here.run("receive", PLAN)
-        self.spans = self.here.rows(plan_here.out + ".spans.csv")[1:]
-        self.came = {channel: self.here.records("%s.%d.pcap" % (plan_here.out, channel)) for channel in plan.channels}
+        for name in lane_names(plan):
+            if not folder.has(name):
+                raise Refused("%s: No such file or directory" % name)
+        self.lanes = [LaneFile(folder.path(name)) for name in lane_names(plan)]
+        self.text = folder.make("receive", plan)
+        self.spans = folder.rows(plan.out + SPANS)[1:]
+        self.came = [folder.records(name) for name in capture_names(plan)]
         self.read_events()
         self.read_words()
 
     def read_events(self):
-        self.here.run("inspect", PLAN)
+        self.folder.make("inspect", self.plan)
         self.events = [[] for _ in self.lanes]
-        for _, lane, bit, event in event_rows(self.here, self.plan.out + ".events.csv"):
+        for _, lane, bit, event in event_rows(self.folder, self.plan.out + EVENTS):
             self.events[lane].append((bit, event))
         self.locks = [LaneLocks(events, lane.count, self.plan.period) for events, lane in zip(self.events, self.lanes)]
 
     def read_words(self):
-        self.here.run("gather", PLAN)
-        self.stream = Stream(self.here, self.plan.out + ".words", self.plan)
+        self.folder.make("gather", self.plan)
+        self.stream = Stream(self.folder, self.plan.out + WORDS, self.plan)
         reach = CODE * self.plan.deskew
         syncs = [lambda bit, locks=locks: locks.sync_near(bit, reach) for locks in self.locks]
-        self.places = Places(self.here, self.plan, self.stream.count, syncs)
-        self.faults = faults_without_the_start(self.here, self.plan, self.stream)
+        self.places = Places(self.folder, self.plan, self.stream.count, syncs)
+        self.faults = faults_without_the_start(self.folder, self.plan, self.stream)
 
 
 def captures_of(folder, plan):
@@ -61,19 +60,30 @@ def captures_of(folder, plan):
 def faults_without_the_start(folder, plan, stream):
     """The faults of the words by word. They begin in the middle of traffic, so one bad word stands before them when `check` judges them:
     nothing is known of what was sent before."""
-    with open(folder.path(CHECKED + ".words"), "wb") as file:
-        file.write(BAD_WORD)
-        file.write(stream.data)
-    rows = folder.rows(PLAN)
-    if plan.flow:
-        # A flow row counts from a slot on, and each word has one slot more.
-        flow = [row.fields for row in rows_of(folder.content(plan.flow))]
-        write_rows(folder.path(CHECKED + ".flow"), [[min(int(slot) + 1, MOST_SLOT), word] for slot, word in flow])
-    changed = {"out": CHECKED, "flow": CHECKED + ".flow"}
-    write_rows(folder.path(CHECKED + ".plan"), [[row[0], changed[row[0]]] if row[0] in changed else row for row in rows])
-    folder.run("check", CHECKED + ".plan")
+    gathered = folder.made[plan.out + WORDS]
+    with tempfile.TemporaryDirectory(prefix="judge.") as room:
+        with open(os.path.join(room, "words"), "wb") as file:
+            file.write(BAD_WORD)
+            file.write(stream.data)
+        judged = Judged(os.path.join(room, "plan"), plan.out)
+        write_rows(judged.name, plan_rows(folder, plan, room))
+        folder.made[plan.out + WORDS] = os.path.join(room, "words")
+        try:
+            folder.make("check", judged)
+        finally:
+            folder.made[plan.out + WORDS] = gathered
     faults = {}
-    for _, word, rule, channel in fault_rows(folder, CHECKED + ".faults.csv"):
+    for _, word, rule, channel in fault_rows(folder, plan.out + FAULTS):
         if word:
             faults.setdefault(word - 1, []).append((rule, channel))
     return faults
+
+
+def plan_rows(folder, plan, room):
+    """The rows of a plan whose flow rows count one slot later, as the words stand one later; `check` reads no other file of it."""
+    for row in folder.rows(plan.name):
+        if row[0] == "flow":
+            flow = [fields.fields for fields in rows_of(folder.content(plan.flow))]
+            write_rows(os.path.join(room, "flow"), [[min(int(slot) + 1, MOST_SLOT), word] for slot, word in flow])
+            row = ["flow", os.path.join(room, "flow")]
+        yield row
