@@ -8,7 +8,6 @@ from reading.control_words import is_control, is_reset
 from reading.intervals import listed
 
 BITS = 16
-MOST_SHIFT = 15
 
 # An accepted control word: its number, its reset bit, its flow bits, and which word of the calendar it is after the last reset word, or
 # None where none is known.
@@ -65,42 +64,46 @@ def reversed_bits(flow):
     return int(format(flow, "016b")[::-1], 2)
 
 
-def rotated(flow, count):
-    """Flow bits, so many places towards the first entry."""
-    return (flow << count | flow >> BITS - count) & 0xFFFF
-
-
 def shifted(flow, count):
     """Flow bits so many places towards the first entry, or away from it, with ones where none came."""
     ones = (1 << abs(count)) - 1
     return (flow << count | ones) & 0xFFFF if count > 0 else flow >> -count | ones << BITS + count
 
 
-def changes():
-    """The ways in which a sender's flow bits differ, each as a name and what turns them into the right ones."""
+def changes(entries):
+    """The ways in which a sender's flow bits differ, each as a name and what turns them into the right ones. A shift by which no bit past
+    the last entry is left tells nothing."""
     yield "where the 16 flow bits are reversed", reversed_bits
-    for count in range(1, MOST_SHIFT + 1):
-        yield "where the flow bits are shifted by %d towards the first entry" % count, lambda flow, count=count: shifted(flow, count)
-        yield "where the flow bits are shifted by %d towards the last entry" % count, lambda flow, count=count: shifted(flow, -count)
     for count in range(1, BITS):
-        yield "where the 16 flow bits are rotated by %d" % count, lambda flow, count=count: rotated(flow, count)
+        if count < -len(entries) % BITS:
+            yield "where the flow bits are shifted by %d towards the last entry" % count, lambda flow, count=count: shifted(flow, count)
+        yield "where the flow bits are shifted by %d towards the first entry" % count, lambda flow, count=count: shifted(flow, -count)
 
 
-def common(run):
-    """What makes the faulty words of the calendar right, as (how many, of how many, how), the first way that makes most so."""
+def late_name(late):
+    return "where Reset Calendar comes %d word%s late" % (late, "s" * (late > 1))
+
+
+def common(run, faulty):
+    """What makes the words at which the calendar is wrong right, of all its words almost all: (how many, of how many, how), or None."""
     entries, count = run.plan.entries, words_of(run.plan.entries)
-    faulty = {word for word, faults in run.faults.items() if any(rule == "calendar" for rule, _ in faults)}
-    shown = [shown for shown in shown_words(run.stream) if shown.word in faulty and shown.block is not None] if faulty else []
-    best = (0, len(faulty), "")
-    for name, change in changes() if shown else ():
-        fits = sum(has_padding(change(one.flow), entries, one.block) and one.flow & padding(entries, one.block) != padding(entries, one.block) for one in shown)
-        best = max(best, (fits, len(faulty), name), key=lambda found: found[0])
+    if not faulty:
+        return None
+    shown = [shown for shown in shown_words(run.stream) if shown.block is not None]
+    for name, change in changes(entries):
+        if is_almost_all(has_padding(change(one.flow), entries, one.block) for one in shown):
+            return sum(has_padding(change(one.flow), entries, one.block) for one in shown if one.word in faulty), len(faulty), name
     for late in range(1, count):
-        fits = {one.word for one in shown_words(run.stream, late) if one.block is not None and has_padding(one.flow, entries, one.block % count)}
-        wrong = sum(1 for one in shown_words(run.stream, late) if one.block is not None and not has_padding(one.flow, entries, one.block % count))
-        if len(faulty & fits) > best[0] and wrong == 0:
-            best = len(faulty & fits), len(faulty), "where Reset Calendar comes %d word%s late" % (late, "s" * (late > 1))
-    return best if best[0] else None
+        fits = {one.word: has_padding(one.flow, entries, one.block % count) for one in shown_words(run.stream, late) if one.block is not None}
+        if is_almost_all(fits.values()):
+            return sum(fits.get(word, False) for word in faulty), len(faulty), late_name(late)
+    return None
+
+
+def is_almost_all(fits):
+    """Whether something fits 99 of 100 times."""
+    fits = list(fits)
+    return bool(fits) and 100 * sum(fits) >= 99 * len(fits)
 
 
 def has_padding(flow, entries, block):
@@ -160,12 +163,12 @@ def is_local(entries, states, local):
 
 def local_change(run):
     """The way in which the last calendar is that of the local file, where it is not as it stands; or nothing."""
-    for name, change in changes():
+    for name, change in changes(run.plan.entries):
         last = last_calendar(run, change)
         if last and is_local(run.plan.entries, last.states, run.local):
             return name
     for late in range(1, words_of(run.plan.entries)):
         last = last_calendar(run, None, late)
         if last and is_local(run.plan.entries, last.states, run.local):
-            return "where Reset Calendar comes %d word%s late" % (late, "s" * (late > 1))
+            return late_name(late)
     return ""

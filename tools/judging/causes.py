@@ -8,9 +8,10 @@ from probing.frames import descrambled
 from probing.variants import NOT_SCRAMBLED, RIGHT, Scrambler, crc32_variant, is_next, scrambler_of
 from reading.intervals import listed
 from reading.plans import CODE
+from reading.tables import EVENTS, RULES
 
 # By kind, what is said of findings that are right by a variant.
-OF_VARIANT = {"skip": "right where they are %s", "diag": "right where the CRC32 is %s", "crc": "right where the CRC24 is %s"}
+OF_VARIANT = {"skip": "right where they are %s", "diag": "right with another CRC32: %s", "crc": "right with another CRC24: %s"}
 OF_STATE = ("state", "lost-state", "skip", "diag")  # what a scrambler that runs otherwise makes wrong
 SCRAMBLED, TRIED = 8, 400  # metaframes by which a scrambler is chosen, and findings that are tried by it
 FEW = 3  # so many findings make a row
@@ -21,25 +22,21 @@ def causes_of(run, findings):
     by_kind = {}
     for finding in findings:
         by_kind.setdefault(finding.what, []).append(finding)
-    scramblers = {number: scrambler for number, scrambler in scramblers_of(run, findings)}
+    scramblers = dict(scramblers_of(run, findings))
     for what, own in by_kind.items():
         yield from variant_lines(what, own)
         yield from scrambler_lines(run, what, own, scramblers)
+        own = [finding for finding in own if not finding.cause]
         if what in ("skip", "sync"):
             yield from difference_lines(what, own)
         if what == "calendar":
-            found = calendars.common(run)
+            found = calendars.common(run, {finding.word for finding in own})
             if found:
                 yield "calendar: %d of %d are right %s" % found
-        yield from lane_lines(run, what, own)
-        yield from row_lines(run, what, own)
-
-
-def of_lanes(run_lanes, lanes):
-    """The lanes of a line: none where there is one lane in all."""
-    if run_lanes == 1 or not lanes:
-        return ""
-    return " of lane %d" % lanes[0] if len(lanes) == 1 else " of lanes %s" % listed(lanes)
+        if what in EVENTS:
+            yield from lane_lines(run, what, own)
+        if what in EVENTS + RULES:
+            yield from row_lines(run, what, own)
 
 
 def variant_lines(what, own):
@@ -66,8 +63,9 @@ def variant_lines(what, own):
 # ---- the scrambler
 
 def scramblers_of(run, findings):
-    """The scrambler of each lane that has wrong State words and whose metaframes are those of a known variant."""
-    lanes = sorted({finding.lane for finding in findings if finding.what in ("state", "lost-state")})
+    """The scrambler of each lane that has wrong State or Skip words and whose metaframes are those of a known variant."""
+    wrong = Counter(finding.lane for finding in findings if finding.what in ("state", "lost-state") or finding.what == "skip" and not finding.variant)
+    lanes = sorted(lane for lane, count in wrong.items() if count >= FEW)
     for number in lanes:
         frames = list(Frames(run.lanes[number], run.locks[number], run.plan).from_bit(run.locks[number].firsts[0], SCRAMBLED))
         if len(frames) > 1:
@@ -146,11 +144,14 @@ def row_lines(run, what, own):
     if any(finding.word is not None for finding in own):
         yield from word_rows(run, what, own)
         return
-    steps = {}
-    for lane in {finding.lane for finding in own}:
-        steps[lane] = step_of(sorted({finding.metaframe for finding in own if finding.lane == lane and finding.metaframe is not None}))
-    if None not in steps.values() and len(set(steps.values())) == 1:
-        yield "%s: %d of %d are in every %smetaframe" % (what, len(own), len(own), nth(next(iter(steps.values()))))
+    frames = {}
+    for finding in own:
+        frames.setdefault(finding.lane, set()).add(finding.metaframe)
+    rows = {tuple(sorted(own)) for own in frames.values() if None not in own}
+    if len(rows) == 1:
+        row = rows.pop()
+        if step_of(row):
+            yield "%s: %d of %d are in every %smetaframe from %d to %d" % (what, len(own), len(own), nth(step_of(row)), row[0], row[-1])
 
 
 def word_rows(run, what, own):

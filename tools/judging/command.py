@@ -10,19 +10,19 @@ from judging.events import event_findings
 from judging.faults import fault_findings, place_finding
 from judging.findings import Finding, in_order, table_text
 from judging.following import Following
-from judging.lost import Lost, no_lock_findings
+from judging.lost import Lost, follow_no_lock, no_lock_findings
 from judging.page import is_own_page, page_text
 from judging.runs import Run
-from probing.lanes import MOST_BYTES, lines_of, probe_lane
 from reading.apart import Apart
 from reading.ending import Options
 from reading.files import Refused, shown_name
+from reading.intervals import listed
 from reading.kinds import read_plan
 from reading.tables import EVENTS, RULES
 
 CLEAN, FOUND = 0, 1
 # The kinds in the order in which they are counted.
-KINDS = ("no-lock", "no-group") + EVENTS + RULES + ("span", "dropped", "missing")
+KINDS = ("no-lock", "no-group") + EVENTS + tuple(rule for rule in RULES if rule not in EVENTS) + ("span", "dropped", "missing")
 
 
 def whole(text):
@@ -50,13 +50,10 @@ class Judgement:
         by_lane, lost = event_findings(run), Lost(run)
         following = Following(run, by_lane, fault_findings(run), lost)
         found = [finding for own in by_lane for finding in own] + following.faults + lost.all()
-        found += list(no_lock_findings(run, self.probed)) + list(self.calendar_findings())
-        self.findings = in_order(found, skews_of(run))
-        self.lines = list(self.all_lines(lost))
-
-    def probed(self, lane):
-        """What the bits of a lane tell that has no lock."""
-        return lines_of(probe_lane(self.run.lanes[lane].data[:MOST_BYTES], self.run.plan.metaframe), lane)
+        without = list(no_lock_findings(run))
+        follow_no_lock(by_lane, without)
+        self.findings = in_order(found + without + list(self.calendar_findings()), skews_of(run))
+        self.lines = list(self.all_lines(lost, following.slips))
 
     def calendar_findings(self):
         """A finding where the last calendar is not the local file's."""
@@ -70,7 +67,7 @@ class Judgement:
             place_finding(run, finding, last.word)
             yield finding
 
-    def all_lines(self, lost):
+    def all_lines(self, lost, slips):
         """What is printed: counts by kind, what is common, and the channels."""
         counts = Counter(finding.what for finding in self.findings)
         following = Counter(finding.what for finding in self.findings if finding.cause)
@@ -78,9 +75,9 @@ class Judgement:
             if counts[what]:
                 yield "%s=%d%s" % (what, counts[what], " following=%d" % following[what] if following[what] else "")
         yield from causes_of(self.run, self.findings)
-        for finding in self.findings:
-            if finding.what in ("no-lock", "no-group"):
-                yield "%s%s: %s" % (finding.what, "" if finding.lane is None else ": lane %d" % finding.lane, finding.note)
+        yield from by_lanes("no-lock", [(finding.lane, finding.note) for finding in self.findings if finding.what == "no-lock"])
+        yield from ("no-group: " + finding.note for finding in self.findings if finding.what == "no-group")
+        yield from by_lanes("slip", [(lane, "%s, by the Sync words at bits %d and %d" % (text, old, new)) for lane, old, new, text in slips])
         yield from lost.lines
         yield from self.channel_lines()
 
@@ -91,6 +88,15 @@ class Judgement:
         local = self.run.plan.local
         told = "" if not local else ", as %s says" % local if self.is_local else ", not as %s says" % local
         yield "channels: %s%s" % (states_text(self.run.plan.entries, self.last.states), told)
+
+
+def by_lanes(what, told):
+    """What is said of lanes, those of one text together."""
+    lanes = {}
+    for lane, text in told:
+        lanes.setdefault(text, []).append(lane)
+    for text, own in lanes.items():
+        yield "%s: lane%s %s: %s" % (what, "s" if len(own) > 1 else "", listed(own), text)
 
 
 def skews_of(run):

@@ -19,6 +19,7 @@ class Following:
 
     def __init__(self, run, by_lane, faults, lost):
         self.run, self.by_lane, self.lost = run, by_lane, lost
+        self.slips = []  # the lane, the right Sync words before and after, and what is said
         self.by_frame = {}  # by lane and the bit of a metaframe's Sync word, its findings
         for findings in by_lane:
             for finding in findings:
@@ -85,7 +86,8 @@ class Following:
             return
         struck = [finding for finding in findings if old <= finding.bit < after.first and finding.what != "balance"]
         if struck:
-            struck[0].add_note("between bits %d and %d %s" % (old, new, slip_text(shift)))
+            self.slips.append((number, old, new, slip_text(shift)))
+            struck[0].add_note("between bits %d and %d %s" % self.slips[-1][1:])
             struck[0].cause = None
             for finding in struck[1:]:
                 finding.cause = finding.cause or struck[0]
@@ -185,7 +187,7 @@ class Following:
         for missing in self.lost.missing:
             first, last = missing.last if isinstance(missing.last, tuple) else (missing.word, missing.last)
             if not missing.found:
-                missing.cause = drops.get((missing.channel, missing.word)) or self.span_at(first, last) or self.rule_at(last)
+                missing.cause = drops.get((missing.channel, missing.word)) or self.drop_in(missing.channel, first, last) or self.span_at(first, last) or self.rule_at(last)
 
     def cause_of_span(self, span):
         if span.found == "lost":
@@ -207,6 +209,10 @@ class Following:
         if first is None or last is None:
             return None
         return next((span for span in self.lost.spans if span.word is not None and span.word <= last and first < span.last), None)
+
+    def drop_in(self, channel, first, last):
+        """The first drop of a channel between these words, or None."""
+        return next((drop for drop in self.lost.drops if drop.channel == channel and drop.word is not None and first < drop.word < last), None)
 
     def rule_at(self, word):
         return next(iter(self.by_word.get(word, ())), None)

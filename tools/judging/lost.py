@@ -7,6 +7,7 @@ from comparing.differences import byte_told, differences_of
 from judging.faults import place_finding, put_place
 from judging.findings import Finding
 from judging.pieces import END, Pieces, dropped_of
+from probing.lanes import MOST_BYTES, mend_of, probe_lane, said_of
 from reading.files import Record
 from reading.plans import CODE
 
@@ -110,19 +111,28 @@ class Lost:
         return [Seen(packet.first, packet.last, packet.data, pieces.get(packet.first)) for packet in self.run.stream.packets if packet.channel == channel]
 
 
-def frame_of(bit, lock, period):
-    """The bit at which the metaframe of a bit begins."""
-    return bit - (bit - lock.first) % period
-
-
-def no_lock_findings(run, probed):
+def no_lock_findings(run):
     """Lanes without a lock, with what their bits tell; and lanes that have their locks and form no group."""
     without = [number for number, locks in enumerate(run.locks) if not locks.locks]
     for number in without:
-        yield Finding("no-lock", lane=number, note="; ".join(probed(number)))
+        yield Finding("no-lock", lane=number, note="; ".join(probed(run, number)))
     if not without and not run.places.entries:
         phases = sorted(locks.firsts[0] % run.plan.period for locks in run.locks)
         gaps = [after - before for before, after in zip(phases, phases[1:] + [phases[0] + run.plan.period])]
         apart = run.plan.period - max(gaps)
         yield Finding("no-group", expected="at most %d bits" % (CODE * run.plan.deskew), found="%d bits" % apart,
                       note="the Sync words of the lanes lie %d bits apart, which needs deskew,%d" % (apart, -(-apart // CODE)))
+
+
+def probed(run, number):
+    """What the bits of a lane tell: what has to be changed, or all if nothing has."""
+    said = list(said_of(probe_lane(run.lanes[number].data[:MOST_BYTES], run.plan.metaframe)))
+    changed = [one for one in said if one.mend is not None]
+    return ["%s%s" % (one.text, "" if one.mend is None else ": " + mend_of(one.mend, number)) for one in changed or said]
+
+
+def follow_no_lock(by_lane, without):
+    """Searches that were given up on a lane without a lock follow from that."""
+    for finding in without:
+        for other in by_lane[finding.lane] if finding.lane is not None else ():
+            other.cause = finding

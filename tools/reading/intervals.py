@@ -20,6 +20,6 @@ def listed(numbers, most=None):
             found[-1][1] = number
         else:
             found.append([number, number])
-    texts = ["%d" % first if first == last else "%d to %d" % (first, last) for first, last in found[:most]]
+    texts = ["%d%s%d" % (first, " to " if last > first + 1 else ", ", last) if last > first else "%d" % first for first, last in found[:most]]
     left = sum(last - first + 1 for first, last in found[len(texts):])
     return ", ".join(texts) + (", and %d more" % left if left else "")
