@@ -101,9 +101,8 @@ def by_lanes(what, told):
 
 def skews_of(run):
     """How many bits each lane lies behind, by the first group; 0 where there is none."""
-    groups = [entry.group for entry in run.places.entries if not entry.why]
-    syncs = [sync(groups[0]) for sync in run.places.syncs] if groups else []
-    return [0] * len(run.lanes) if None in syncs or not syncs else [sync - min(syncs) for sync in syncs]
+    syncs = [run.places.sync_of(run.places.pieces[0], lane) for lane in range(run.plan.lanes)] if run.places.pieces else [0] * run.plan.lanes
+    return [sync - min(syncs) for sync in syncs]
 
 
 def write_file(folder, name, text):

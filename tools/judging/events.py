@@ -21,23 +21,22 @@ def of_lane(run, number):
     """The findings of a lane. Its metaframes are read one after another, for all of their events."""
     frames = Frames(run.lanes[number], run.locks[number], run.plan)
     frames.tries = MOST_TRIED // len(run.lanes)
-    locks, plan = run.locks[number], run.plan
+    locks = run.locks[number]
     for bit, event in run.events[number]:
         if event == LOCK:
             continue
         lock = locks.lock_at(bit)
-        finding = Finding(event, bit=bit, lane=number, metaframe=metaframe_of(locks, bit, plan))
+        finding = Finding(event, bit=bit, lane=number, metaframe=run.places.metaframe_of(number, bit))
         if lock and bit >= lock.first and event != UNFRAMED:
-            begin = bit - (bit - lock.first) % plan.period
-            finding.word = run.places.word_at(number, bit, begin)
+            finding.word = word_at(run, number, bit)
             tell(finding, event, frames, lock)
         yield finding
 
 
-def metaframe_of(locks, bit, plan):
-    """The metaframe of a lane from its first declared lock on, or None before it."""
-    first = locks.firsts[0] if locks.firsts else None
-    return None if first is None or bit < first else (bit - first) // plan.period
+def word_at(run, lane, bit):
+    """The gathered word that begins at a bit of a lane, or None."""
+    word = run.places.slot_of(lane, bit)
+    return word if word is not None and run.places.place(word)[2] == bit and word not in run.breaks else None
 
 
 def tell(finding, event, frames, lock):

@@ -1,7 +1,6 @@
 """The faults of words as findings: where the word stands on its lane, what was expected, and what was found."""
 
 from judging.calendars import told_by_word
-from judging.events import metaframe_of
 from judging.findings import Finding
 from probing.variants import crc24_variant
 from reading.checksums import CRC24
@@ -35,13 +34,7 @@ class Words:
 def place_finding(run, finding, word):
     """Puts a word of the gathered ones into a finding, and where it stands on its lane."""
     finding.word = word
-    put_place(run, finding, run.places.place_of(word))
-
-
-def put_place(run, finding, place):
-    if place:
-        finding.bit, finding.lane = place.bit, place.lane
-        finding.metaframe = metaframe_of(run.locks[place.lane], place.bit, run.plan)
+    finding.lane, finding.metaframe, finding.bit = run.places.place(word)
 
 
 def fault_findings(run):

@@ -19,6 +19,7 @@ class Following:
 
     def __init__(self, run, by_lane, faults, lost):
         self.run, self.by_lane, self.lost = run, by_lane, lost
+        self.losses = [[finding for finding in findings if finding.what in LOSSES] for findings in by_lane]
         self.slips = []  # the lane, the right Sync words before and after, and what is said
         self.by_frame = {}  # by lane and the bit of a metaframe's Sync word, its findings
         for findings in by_lane:
@@ -101,11 +102,9 @@ class Following:
 
     def damage_at(self, word):
         """The event of a lane by which a word may be wrong, or None."""
-        place = self.run.places.place_of(word)
-        if place is None:
-            return None
-        sync = self.run.places.syncs[place.lane](place.group)
-        here = self.by_frame.get((place.lane, sync), ())
+        piece, index = self.run.places.index_of(word)
+        lane = index % self.run.plan.lanes
+        here = self.by_frame.get((lane, self.run.places.sync_of(piece, lane)), ())
         return next((finding for what in DAMAGE for finding in here if finding.what == what and not (what == "diag" and (finding.is_mended or finding.variant))), None)
 
     def damage_in(self, first, last):
@@ -116,8 +115,8 @@ class Following:
         """A fault follows from the damage of a word of its own stretch, or from what stands untrusted before it on its channel."""
         untrusted = {}  # by word the first finding of a stretch that is not trusted for damage
         for finding in self.faults:
-            if finding.word in self.run.places.breaks:
-                finding.cause = self.loss_at(self.run.places.place_of(finding.word))
+            if finding.word in self.run.breaks:
+                finding.cause = self.loss_at(finding.word)
                 untrusted.setdefault(finding.word, finding)
             elif finding.what in UNTRUSTED:
                 first = self.stretch_of(finding.word)
@@ -161,12 +160,11 @@ class Following:
                 self.by_channel.setdefault(its, []).append(slot)
         return self.by_channel.get(channel, [])
 
-    def loss_at(self, place):
-        """The loss of a lane's lock that ends an epoch at a place, or None."""
-        if place is None:
-            return None
-        losses = [finding for finding in self.by_lane[place.lane] if finding.what in LOSSES and finding.bit <= place.bit + self.run.plan.period]
-        return losses[-1] if losses else None
+    def loss_at(self, word):
+        """The loss of a lane's lock that ends an epoch at the bad word of a break, or None."""
+        lane, _, bit = self.run.places.place(word)
+        at = bisect_right(self.losses[lane], bit + self.run.plan.period, key=lambda finding: finding.bit) - 1
+        return self.losses[lane][at] if at >= 0 else None
 
     # ---- what was lost
 
@@ -191,9 +189,9 @@ class Following:
 
     def cause_of_span(self, span):
         if span.found == "lost":
-            ended = [entry for word, entry in self.run.places.breaks.items() if span.word <= word <= span.last and entry.why == "lost"]
+            ended = [word for word, piece in self.run.breaks.items() if span.word <= word <= span.last and piece.why == "lost"]
             if ended:
-                return self.loss_at(self.run.places.place_at(ended[0].group, ended[0].index))
+                return self.loss_at(ended[0])
         if span.word is None:
             return None
         at = bisect_left(self.words, span.word)

@@ -4,7 +4,7 @@ import re
 from collections import namedtuple
 
 from comparing.differences import byte_told, differences_of
-from judging.faults import place_finding, put_place
+from judging.faults import place_finding
 from judging.findings import Finding
 from judging.pieces import END, Pieces, dropped_of
 from probing.lanes import MOST_BYTES, mend_of, probe_lane, said_of
@@ -35,7 +35,7 @@ class Lost:
         *ends, why = row
         if why in NO_FINDING:
             return None
-        after, before = (None if end[0] == "-" else self.run.places.word_of(int(end[0]), int(end[1])) for end in (ends[:2], ends[2:]))
+        after, before = (None if end[0] == "-" else self.run.places.slot_at(int(end[0]), int(end[1])) for end in (ends[:2], ends[2:]))
         finding = Finding("span", found=why, last=self.run.stream.count if before is None else before)
         first = 0 if after is None else after + 1
         if first < self.run.stream.count:
@@ -116,7 +116,7 @@ def no_lock_findings(run):
     without = [number for number, locks in enumerate(run.locks) if not locks.locks]
     for number in without:
         yield Finding("no-lock", lane=number, note="; ".join(probed(run, number)))
-    if not without and not run.places.entries:
+    if not without and not run.places.pieces:
         phases = sorted(locks.firsts[0] % run.plan.period for locks in run.locks)
         gaps = [after - before for before, after in zip(phases, phases[1:] + [phases[0] + run.plan.period])]
         apart = run.plan.period - max(gaps)

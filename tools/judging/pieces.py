@@ -21,7 +21,7 @@ class Pieces:
 
     def __init__(self, run):
         self.run, self.stream, self.plan, self.found = run, run.stream, run.plan, []
-        self.listed, self.breaks = set(self.plan.channels), run.places.breaks
+        self.listed, self.breaks = set(self.plan.channels), run.breaks
         self.restart()
         self.walk()
 

@@ -7,10 +7,10 @@ from collections import namedtuple
 from reading.apart import write_rows
 from reading.files import Refused, rows_of
 from reading.lane_files import LaneFile, LaneLocks
-from reading.outputs import EVENTS, FAULTS, PLACES, SPANS, WORDS, capture_names, lane_names
-from reading.places import Places
-from reading.plans import CODE, MOST_SLOT, Flow, Local
-from reading.tables import event_rows, fault_rows
+from reading.outputs import EVENTS, FAULTS, SPANS, WORDS, capture_names, lane_names
+from reading.placing import GatheredPlaces
+from reading.plans import MOST_SLOT, Flow, Local
+from reading.tables import events_in, faults_in
 from reading.words import Stream
 
 BAD_WORD = b"\3" + bytes(8)
@@ -20,7 +20,7 @@ Judged = namedtuple("Judged", "name out")
 
 class Run:
     """What `receive`, `inspect`, `gather` and `check` made of the lanes: the program's text, the events by lane, the locks, the words and
-    their places, the faults by word as (rule, channel), the spans as the table has them, and the packets that came."""
+    their places, the breaks by word, the faults by word as (rule, channel), the spans as the table has them, and the packets that came."""
 
     def __init__(self, folder, plan):
         self.folder, self.plan = folder, plan
@@ -39,16 +39,15 @@ class Run:
     def read_events(self):
         self.folder.make("inspect", self.plan)
         self.events = [[] for _ in self.lanes]
-        for _, lane, bit, event in event_rows(self.folder, self.plan.out + EVENTS):
+        for lane, bit, event in events_in(self.folder, self.plan.out + EVENTS, self.plan.lanes):
             self.events[lane].append((bit, event))
         self.locks = [LaneLocks(events, lane.count, self.plan.period) for events, lane in zip(self.events, self.lanes)]
 
     def read_words(self):
         self.folder.make("gather", self.plan)
         self.stream = Stream(self.folder, self.plan.out + WORDS, self.plan)
-        reach = CODE * self.plan.deskew
-        syncs = [lambda bit, locks=locks: locks.sync_near(bit, reach) for locks in self.locks]
-        self.places = Places(self.folder, self.plan, self.stream.count, syncs)
+        self.places = GatheredPlaces(self.folder, self.plan, [locks.firsts[0] if locks.firsts else None for locks in self.locks])
+        self.breaks = {piece.word: piece for piece in self.places.pieces if piece.is_break}
         self.faults = faults_without_the_start(self.folder, self.plan, self.stream)
 
 
@@ -73,7 +72,7 @@ def faults_without_the_start(folder, plan, stream):
         finally:
             folder.made[plan.out + WORDS] = gathered
     faults = {}
-    for _, word, rule, channel in fault_rows(folder, plan.out + FAULTS):
+    for word, rule, channel in faults_in(folder, plan.out + FAULTS):
         if word:
             faults.setdefault(word - 1, []).append((rule, channel))
     return faults

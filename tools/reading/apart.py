@@ -3,6 +3,7 @@
 import csv
 import os
 import re
+import shlex
 import shutil
 import subprocess
 import tempfile
@@ -104,6 +105,14 @@ class Apart(Folder):
         except Refused:
             return False
         return all(name in made and same_bytes(made[name], self.path(name)) for name in names)
+
+    def is_made_by(self, plan, name, *commands):
+        """Whether a table is what one of these commands makes of the lanes and the words that are here."""
+        return name in self.made or any(self.makes_the_same(command, plan, [name]) for command in commands)
+
+    def must_be_made_by(self, plan, name, *commands):
+        if not self.is_made_by(plan, name, *commands):
+            raise Refused("%s is of an older run: `interlaken %s %s` makes it anew" % (name, commands[0], shlex.quote(plan.name)))
 
     def run_apart(self, command, plan):
         """What a command of a plan prints, and the files that it writes, by the names that they would have here."""

@@ -77,6 +77,12 @@ def tell(tool, what):
     return FAILED
 
 
+def note(text):
+    """Tells a person at a terminal what a tool leaves out; a script reads none."""
+    if sys.stderr is not None and sys.stderr.isatty():
+        print("%s: note: %s" % (os.path.basename(sys.argv[0]), one_line(text)), file=sys.stderr)
+
+
 def one_line(text):
     return " ".join(str(text).splitlines())
 

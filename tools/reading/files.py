@@ -69,8 +69,13 @@ class Folder:
 
     def beginning(self, name, most):
         """The first bytes of a file."""
+        return self.part(name, 0, most)
+
+    def part(self, name, first, count):
+        """Bytes of a file from one on, as many as there are."""
         with open(self.path(name), "rb") as file:
-            return file.read(most)
+            file.seek(first)
+            return file.read(max(count, 0))
 
     def size(self, name):
         return os.path.getsize(self.path(name))

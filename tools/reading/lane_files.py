@@ -57,14 +57,3 @@ class LaneLocks:
         """The lock that covers a bit, or of the word that loses it; None where there is none."""
         number = bisect_right(self.firsts, bit) - 1
         return self.locks[number] if number >= 0 and bit <= self.locks[number].end else None
-
-    def sync_near(self, bit, reach):
-        """The covered Sync word that is nearest to a bit, of those at most `reach` bits from it, or None."""
-        number = bisect_right(self.firsts, bit + reach) - 1
-        near = []
-        for lock in self.locks[max(0, number - 1):number + 1]:
-            for turn in ((bit - lock.first) // self.period, (bit - lock.first) // self.period + 1):
-                at = lock.first + turn * self.period
-                if turn >= 0 and at + CODE <= lock.end and abs(at - bit) <= reach:
-                    near.append(at)
-        return min(near, key=lambda at: abs(at - bit), default=None)

@@ -66,7 +66,7 @@ def writes_over(folder, plan, command):
     """The first file that a command of a plan would write over and that may be the user's own, or None. What the program made of lanes
     or words (captures, tables) it may make again."""
     written = outputs_of(command, plan.name, plan)
-    if command in MAKERS or command == "gather":
+    if command in MAKERS:
         return next((name for name in written if os.path.lexists(folder.path(name))), None)
     return next((output for output, _ in captures_struck(folder, written, filter(None, plan.captures.values()))), None)
 
