@@ -52,7 +52,8 @@ class Judgement:
         found = [finding for own in by_lane for finding in own] + following.faults + lost.all()
         without = list(no_lock_findings(run))
         follow_no_lock(by_lane, without)
-        self.findings = in_order(found + without + list(self.calendar_findings()), skews_of(run))
+        self.skews = skews_of(run)
+        self.findings = in_order(found + without + list(self.calendar_findings()), self.skews)
         self.lines = list(self.all_lines(lost, following.slips))
 
     def calendar_findings(self):
@@ -138,6 +139,6 @@ def main(words):
     last = "%s rows=%d%s" % (table, len(shown), " of %d" % len(judged.findings) if len(shown) < len(judged.findings) else "")
     write_file(folder, table, table_text(shown))
     if options.html:
-        write_file(folder, options.html, page_text(judged, options.plan, shown, judged.lines))
+        write_file(folder, options.html, page_text(judged, options.plan, shown, options.most))
     print("\n".join(judged.lines + [last]))
     return FOUND if judged.findings else CLEAN
