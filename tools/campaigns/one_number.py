@@ -9,6 +9,7 @@ import time
 from collections import Counter
 
 from campaigns.coverage import ACCIDENTS, skew_counts, span_counts, stream_counts, text_counts
+from campaigns.each import each_record
 from campaigns.schedules import drawn_rows, struck_bits
 from reading.apart import Links, write_rows
 from reading.files import Folder, Refused
@@ -33,6 +34,8 @@ def record_of(number, settings):
             copy_plan(settings["folder"], settings["plan"], folder)
             draw_schedule(folder, number, settings)
             words = ["link", CASE + ".plan"]
+        if settings.get("each"):
+            return {"number": number, **each_record(os.path.abspath(folder), number, settings, CASE)}
         return {"number": number, **run_record(folder, words, settings)}
     finally:
         if not settings["keep"]:

@@ -8,7 +8,7 @@ from judging.calendars import is_local, last_calendar, local_change, states_text
 from judging.causes import causes_of
 from judging.events import event_findings
 from judging.faults import fault_findings, place_finding
-from judging.findings import Finding, in_order, table_text
+from judging.findings import Finding, in_order, judged_table
 from judging.following import Following
 from judging.lost import Lost, follow_no_lock, no_lock_findings
 from judging.page import is_own_page, page_text
@@ -137,7 +137,7 @@ def main(words):
     judged = Judgement(folder, plan)
     shown = judged.findings[:options.most]
     last = "%s rows=%d%s" % (table, len(shown), " of %d" % len(judged.findings) if len(shown) < len(judged.findings) else "")
-    write_file(folder, table, table_text(shown))
+    write_file(folder, table, judged_table(shown))
     if options.html:
         write_file(folder, options.html, page_text(judged, options.plan, shown, options.most))
     print("\n".join(judged.lines + [last]))

@@ -54,7 +54,7 @@ def in_order(findings, skews):
     return findings
 
 
-def table_text(findings):
+def judged_table(findings):
     """The table of findings."""
     text = io.StringIO()
     rows = csv.writer(text, lineterminator="\n")
