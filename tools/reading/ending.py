@@ -77,6 +77,12 @@ def tell(tool, what):
     return FAILED
 
 
+def must_be_new(path, name, overwrite):
+    """An error where a file is there that would be written over; `--overwrite` allows it."""
+    if os.path.lexists(path) and not overwrite:
+        raise Refused("%s is there; --overwrite writes over it" % shown_name(name))
+
+
 def note(text):
     """Tells a person at a terminal what a tool leaves out; a script reads none."""
     if sys.stderr is not None and sys.stderr.isatty():

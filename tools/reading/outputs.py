@@ -45,6 +45,11 @@ def names_captures(plan):
     return any(plan.captures.values())
 
 
+def is_of_device(folder, plan):
+    """Whether lanes are there that the plan did not send, since it names no captures."""
+    return not names_captures(plan) and any(folder.has(name) for name in lane_names(plan))
+
+
 def captures_struck(folder, outputs, captures):
     """The outputs that are captures by another name or by the same, each with that capture."""
     for output in outputs:

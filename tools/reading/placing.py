@@ -50,6 +50,9 @@ class SentPlaces(Places):
         lane, metaframe, bit = self.plan.place_of(slot)
         return lane, metaframe, bit + self.skew[lane]
 
+    def lane_of(self, slot):
+        return slot % self.plan.lanes
+
     def row_bit(self, slot):
         """The bit of lane 0 at which the row of a slot begins: the words of all lanes that were sent together."""
         return self.skew[0] + self.plan.place_of(slot)[2]
@@ -106,6 +109,9 @@ class GatheredPlaces(Places):
 
     def sync_of(self, piece, lane):
         return piece.group + self.syncs[lane][piece.epoch]
+
+    def lane_of(self, slot):
+        return self.index_of(slot)[1] % self.plan.lanes
 
     def row_bit(self, slot):
         piece, index = self.index_of(slot)

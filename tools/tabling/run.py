@@ -7,7 +7,7 @@ from reading.apart import Apart
 from reading.files import Refused, shown_name
 from reading.kinds import read_plan
 from reading.lane_bits import bits_of, read_lanes, sync_words
-from reading.outputs import lane_names, names_captures
+from reading.outputs import is_of_device, lane_names, names_captures
 from reading.placing import SentPlaces, gathered_anew, gathered_places, must_have_all
 from reading.plans import MOST_SKEW, Schedule
 from reading.strikes import strikes_of
@@ -42,13 +42,13 @@ class Run:
 
     def make(self):
         """Has the program make the files of the table; what `link` or `receive` printed."""
-        if names_captures(self.plan):
+        if not is_of_device(self.folder, self.plan):
             text = self.folder.make("link", self.plan)
             for command in AFTER_LINK.get(self.table, ()):
                 self.folder.make(command, self.plan)
             return text
         if self.table in OF_LINK:
-            raise Refused("%s names no captures, so that `link` of it sends no packets" % shown_name(self.plan.name))
+            raise Refused("%s names no captures, and its lanes are there: `link` did not make them" % shown_name(self.plan.name))
         must_have_all(self.folder, self.plan, self.names)
         return [self.folder.make(command, self.plan) for command in OF_LANES[self.table]][-1]
 
