@@ -5,6 +5,8 @@ from collections import Counter
 from judging import calendars
 from judging.frames import Frames
 from probing.frames import descrambled
+from probing.lanes import MOST_BYTES, is_most, probe_lane, share_of
+from probing.stream import columns_of, order_of, skews_of
 from probing.variants import NOT_SCRAMBLED, RIGHT, Scrambler, crc32_variant, is_next, scrambler_of
 from reading.intervals import listed
 from reading.plans import CODE
@@ -15,6 +17,7 @@ OF_VARIANT = {"skip": "right where they are %s", "diag": "right with another CRC
 OF_STATE = ("state", "lost-state", "skip", "diag")  # what a scrambler that runs otherwise makes wrong
 SCRAMBLED, TRIED = 8, 400  # metaframes by which a scrambler is chosen, and findings that are tried by it
 FEW = 3  # so many findings make a row
+FEW_WRONG = 8  # checksums for which the order of lanes is tried
 
 
 def causes_of(run, findings):
@@ -27,6 +30,7 @@ def causes_of(run, findings):
         yield from variant_lines(what, own)
         yield from scrambler_lines(run, what, own, scramblers)
         own = [finding for finding in own if not finding.cause]
+        yield from order_lines(run, what, own)
         if what in ("skip", "sync"):
             yield from difference_lines(what, own)
         if what == "calendar":
@@ -112,6 +116,21 @@ def is_right_by(frames, finding, scrambler, plan):
 
 def skip_is_right(words, place):
     return "%016X" % words[place] == "1E" * 8
+
+
+# ---- the order of lanes
+
+def order_lines(run, what, own):
+    """Another order of the lanes in which the CRC24 of most control words is right."""
+    if what != "crc" or len(run.lanes) < 2 or sum(finding.variant is None for finding in own) < FEW_WRONG:
+        return
+    findings = [probe_lane(bytes(lane.data[:MOST_BYTES]), run.plan.metaframe) for lane in run.lanes]
+    if not all(finding.frames for finding in findings):
+        return
+    order, share = order_of(columns_of(findings, skews_of(findings)))
+    if order and order.lanes != list(range(len(run.lanes))) and is_most(share):
+        numbers = ",".join("%d" % lane for lane in order.lanes)
+        yield "crc: %s are right with the lanes in the order %s: tools/lanes --order %s mends it" % (share_of(share, "control words after data"), numbers, numbers)
 
 
 # ---- what differs, and where
