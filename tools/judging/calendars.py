@@ -84,20 +84,34 @@ def late_name(late):
     return "where Reset Calendar comes %d word%s late" % (late, "s" * (late > 1))
 
 
-def common(run, faulty):
-    """What makes the words at which the calendar is wrong right, of all its words almost all: (how many, of how many, how), or None."""
+# How a sender's calendar differs: what is said of it, what turns its flow bits into the right ones or None, and how many words its reset
+# bit is late.
+Way = namedtuple("Way", "name change late", defaults=(None, 0))
+
+
+def ways(run):
+    """The ways by which the bits past the last entry are right in almost all words; those first by which the last calendar is that of the
+    local file, if there is one."""
     entries, count = run.plan.entries, words_of(run.plan.entries)
-    if not faulty:
+    tried = [Way(name, change) for name, change in changes(entries)] + [Way(late_name(late), None, late) for late in range(1, count)]
+    fitting = [way for way in tried if is_almost_all(fits_by_word(run, way).values())]
+    return sorted(fitting, key=lambda way: not is_local_by(run, way)) if run.plan.local else fitting
+
+
+def fits_by_word(run, way):
+    """By accepted control word whether its bits past the last entry are right by a way."""
+    entries, count = run.plan.entries, words_of(run.plan.entries)
+    return {one.word: has_padding(way.change(one.flow) if way.change else one.flow, entries, one.block % count if way.late else one.block)
+            for one in shown_words(run.stream, way.late) if one.block is not None}
+
+
+def common(run, faulty):
+    """What makes the words at which the calendar is wrong right, as (how many, of how many, how), or None."""
+    way = next(iter(ways(run)), None) if faulty else None
+    if way is None:
         return None
-    shown = [shown for shown in shown_words(run.stream) if shown.block is not None]
-    for name, change in changes(entries):
-        if is_almost_all(has_padding(change(one.flow), entries, one.block) for one in shown):
-            return sum(has_padding(change(one.flow), entries, one.block) for one in shown if one.word in faulty), len(faulty), name
-    for late in range(1, count):
-        fits = {one.word: has_padding(one.flow, entries, one.block % count) for one in shown_words(run.stream, late) if one.block is not None}
-        if is_almost_all(fits.values()):
-            return sum(fits.get(word, False) for word in faulty), len(faulty), late_name(late)
-    return None
+    fits = fits_by_word(run, way)
+    return sum(fits.get(word, False) for word in faulty), len(faulty), way.name
 
 
 def is_almost_all(fits):
@@ -150,7 +164,7 @@ def is_local(entries, states, local):
     changes_of = {channel: [(0, True)] for channel in entries}
     for number, row in enumerate(local.rows, 1):
         changes_of.setdefault(row.channel, [(0, True)]).append((number, row.is_on))
-    at = 0
+    at = sum(row.slot == 0 for row in local.rows)
     for channel, is_on in zip(entries, states):
         of_channel = changes_of[channel]
         current = bisect_right(of_channel, (at, True)) - 1
@@ -161,14 +175,12 @@ def is_local(entries, states, local):
     return True
 
 
+def is_local_by(run, way):
+    """Whether the last calendar is that of the local file by a way."""
+    last = last_calendar(run, way.change, way.late)
+    return last is not None and is_local(run.plan.entries, last.states, run.local)
+
+
 def local_change(run):
     """The way in which the last calendar is that of the local file, where it is not as it stands; or nothing."""
-    for name, change in changes(run.plan.entries):
-        last = last_calendar(run, change)
-        if last and is_local(run.plan.entries, last.states, run.local):
-            return name
-    for late in range(1, words_of(run.plan.entries)):
-        last = last_calendar(run, None, late)
-        if last and is_local(run.plan.entries, last.states, run.local):
-            return late_name(late)
-    return ""
+    return next((way.name for way in ways(run) if is_local_by(run, way)), "")

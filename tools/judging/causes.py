@@ -34,7 +34,7 @@ def causes_of(run, findings):
         if what in ("skip", "sync"):
             yield from difference_lines(what, own)
         if what == "calendar":
-            found = calendars.common(run, {finding.word for finding in own})
+            found = calendars.common(run, {finding.word for finding in own if finding.channel is None and not finding.note})
             if found:
                 yield "calendar: %d of %d are right %s" % found
         if what in EVENTS:

@@ -67,36 +67,26 @@ class Lost:
         of the dump."""
         seen = self.seen_on(channel)
         found = differences_of(packets, [Record(0, one.data) for one in seen], ends_at_front=True)
-        if not seen:
-            return
-        pairs = dict(found.differing)
-        pairs.update(self.equal_pairs(packets, seen, found))
-        first, last = min(pairs, default=None), max(pairs, default=None)
-        for number in range(len(packets)):
-            its = pairs.get(number)
-            one = None if its is None else seen[its]
-            if one is None and first is not None and first < number < last:
-                yield Finding("missing", channel=channel, packet=number, expected="%d bytes" % len(packets[number].data),
-                              last=(self.neighbour(pairs, seen, number)))
-            elif one is not None and (one.piece is None or one.piece.why) and one.last is not None:
-                yield self.missing_finding(channel, number, packets[number], one)
-            elif one is not None and one.piece and one.data != packets[number].data:
-                yield self.missing_finding(channel, number, packets[number], one, "it came as other bytes: " + byte_told(packets[number].data, one.data))
+        pairs = sorted(found.differing + equal_pairs(len(packets), len(seen), found))
+        for (number, its), after in zip(pairs, pairs[1:] + [None]):
+            finding = self.finding_of_pair(channel, number, packets[number], seen[its])
+            if finding:
+                yield finding
+            for between in range(number + 1, after[0] if after else 0):
+                yield Finding("missing", channel=channel, packet=between, expected="%d bytes" % len(packets[between].data), last=(seen[its].first, seen[after[1]].first))
         extra = [its for its in found.extra if seen[its].piece and not seen[its].piece.why]
         if extra:
             self.lines.append("channel %d: %d packets came that its capture does not have" % (channel, len(extra)))
 
-    def equal_pairs(self, packets, seen, found):
-        """The pairs of packets that are equal, which are those that no list of differences has."""
-        ours = [number for number in range(len(packets)) if number not in {n for n, _ in found.differing} | set(found.missing)]
-        theirs = [number for number in range(len(seen)) if number not in {n for _, n in found.differing} | set(found.extra)]
-        return zip(ours, theirs)
-
-    def neighbour(self, pairs, seen, number):
-        """The words between which a packet should stand that the words do not have."""
-        before = max((n for n in pairs if n < number))
-        after = min((n for n in pairs if n > number))
-        return seen[pairs[before]].first, seen[pairs[after]].first
+    def finding_of_pair(self, channel, number, packet, one):
+        """The finding of a packet of a capture that stands for one in the words, if that did not come or came as other bytes."""
+        if one.last is None:
+            return None  # the end of the dump cuts it
+        if one.piece is None or one.piece.why:
+            return self.missing_finding(channel, number, packet, one)
+        if one.data != packet.data:
+            return self.missing_finding(channel, number, packet, one, "it came as other bytes: " + byte_told(packet.data, one.data))
+        return None
 
     def missing_finding(self, channel, number, packet, one, note=None):
         finding = Finding("missing", channel=channel, packet=number, expected="%d bytes" % len(packet.data), note=note, last=one.last)
@@ -106,9 +96,18 @@ class Lost:
         return finding
 
     def seen_on(self, channel):
-        """The packets of a channel in the words, also those that are not right, in order of their SOP words."""
+        """The packets of a channel in the words, also those that are not right, in order of their SOP words. One that begins with the first
+        control word is cut by the beginning, since a receiver trusts none before another."""
         pieces = {piece.first: piece for piece in self.pieces if piece.channel == channel}
-        return [Seen(packet.first, packet.last, packet.data, pieces.get(packet.first)) for packet in self.run.stream.packets if packet.channel == channel]
+        first = next((word for word, kind in enumerate(self.run.stream.kinds) if kind in "bie"), None)
+        return [Seen(packet.first, packet.last, packet.data, pieces.get(packet.first)) for packet in self.run.stream.packets
+                if packet.channel == channel and packet.first != first]
+
+
+def equal_pairs(ours, theirs, found):
+    """The pairs of records that are equal, which are those that no list of differences has."""
+    not_ours, not_theirs = {number for number, _ in found.differing} | set(found.missing), {number for _, number in found.differing} | set(found.extra)
+    return list(zip((number for number in range(ours) if number not in not_ours), (number for number in range(theirs) if number not in not_theirs)))
 
 
 def no_lock_findings(run):
