@@ -108,16 +108,18 @@ def skews_of(run):
 
 def write_file(folder, name, text):
     """Writes a file beside its place, so that none stands there that is not whole."""
-    path = folder.path(name)
-    with tempfile.NamedTemporaryFile("w", dir=os.path.dirname(path) or ".", prefix=".judge.", delete=False, encoding="utf-8", errors="surrogateescape", newline="") as file:
-        try:
+    path, part = folder.path(name), None
+    try:
+        with tempfile.NamedTemporaryFile("w", dir=os.path.dirname(path) or ".", prefix=".judge.", delete=False, encoding="utf-8", errors="surrogateescape", newline="") as file:
+            part = file.name
             file.write(text)
-            file.close()
-            os.chmod(file.name, 0o666 & ~mask())
-            os.replace(file.name, path)
-        except BaseException:
-            os.unlink(file.name)
-            raise
+        os.chmod(part, 0o666 & ~mask())
+        os.replace(part, path)
+    except OSError as error:
+        raise Refused("%s: %s" % (shown_name(name), error.strerror))
+    finally:
+        if part and os.path.exists(part):
+            os.unlink(part)
 
 
 def mask():
