@@ -287,7 +287,7 @@ def check_device(results, folder):
         before = sums(folder)
         draw(results, folder, [name + ".plan", "--only", "stream"])
         results.expect(name + ", joined", counts_of(folder, name)["packets"], {"whole": 47, "broken": 39}[name])
-        expect_refused(results, folder, [name + ".plan"], "%s.lanes.svg is there; --overwrite writes over it" % name, [], ())
+        expect_refused(results, folder, [name + ".plan"], "%s.lanes.svg exists; --overwrite writes over it" % name, [], ())
         lane = content(prefix + ".lane.1")
         os.remove(prefix + ".lane.1")
         for words in ([], ["--program", PROGRAM]):

@@ -250,7 +250,7 @@ def check_tables(tally, folder):
     expect_refused(tally, folder, "a dump without a lane", ["whole.plan"], "whole.lane.1 is missing\n")
     write_files(folder, {"whole.lane.1": kept["lane.1"]})
     done = run([TOOL, "whole.plan"], folder)
-    tally.expect("waves that are there", (done.returncode, done.stdout, done.stderr), (2, "", "waves: whole.vcd is there; --overwrite writes over it\n"))
+    tally.expect("waves that are there", (done.returncode, done.stdout, done.stderr), (2, "", "waves: whole.vcd exists; --overwrite writes over it\n"))
 
 
 def check_losses(tally, folder):

@@ -170,12 +170,10 @@ def read_places(folder, plan):
 
 def lane_syncs(folder, plan, lane, pieces):
     """By epoch how many bits the Sync words of a lane stand behind those of lane 0."""
-    apart = {}
+    groups = {}
     for piece in pieces:
-        if piece.epoch not in apart:
-            groups = [other.group for other in pieces if other.epoch == piece.epoch and not other.is_break]
-            apart[piece.epoch] = lane_apart(folder, plan, lane, groups or [piece.group]) if lane else 0
-    return apart
+        groups.setdefault(piece.epoch, []).append(piece.group)
+    return {epoch: lane_apart(folder, plan, lane, found[:LOOKED_AT]) if lane else 0 for epoch, found in groups.items()}
 
 
 # The groups of an epoch of which the Sync words are looked for, and the metaframes before it, if there are none.
@@ -187,7 +185,7 @@ def lane_apart(folder, plan, lane, groups):
     before them tell, since a lock keeps its place."""
     reach, name, found = CODE * plan.deskew, lane_names(plan)[lane], Counter()
     for back in (0, LOOKED_BACK * plan.period):
-        for group in groups[:LOOKED_AT] if not back else groups[:1]:
+        for group in groups if not back else groups[:1]:
             first = max(0, group - back - reach)
             bits = bits_between(folder, name, first, group + reach + CODE)
             for at in sync_words(bits):
