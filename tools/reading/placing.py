@@ -162,7 +162,7 @@ def read_places(folder, plan):
     for number, (word, group, index, why) in enumerate(rows):
         count = rows[number + 1][0] - word if number + 1 < len(rows) else 0
         if count > (1 if why != "-" else plan.group):
-            raise Refused("%s: row %d: %d words stand between this and the next" % (name, number + 2, count))
+            raise Refused("%s:%d: %d words stand between this and the next" % (name, number + 2, count))
         pieces.append(Piece(word, count, group, index, why != "-", epoch))
         epoch += why != "-"
     return pieces, rows[-1][0] if rows else 0
