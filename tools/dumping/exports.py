@@ -5,7 +5,7 @@ import os
 from dumping.bits import Words, bits_of_bytes, bytes_of_bits
 from dumping.options import BITS, RAW, drop_of, lanes_of, places_of
 from dumping.progress import Progress
-from reading.bit_orders import COMPLEMENT
+from reading.bit_orders import COMPLEMENT, in_order
 from reading.files import Refused, shown_name
 from reading.outputs import Outputs, must_be_free
 
@@ -66,6 +66,8 @@ class LaneWords:
         self.settings, self.number, self.progress = settings, number, progress
         self.name, self.drop = settings.files[number], drop_of(settings, number)
         self.words = Words(places_of(settings, settings.width))
+        if settings.form == RAW and self.words.is_in_order and self.words.width % 8:
+            self.words = Words(in_order(8))  # bits in order are those of bytes, whatever words they make
         try:
             bits = 8 * os.path.getsize(self.name)
             self.bits = self.drop + bits - self.spare()
@@ -74,8 +76,8 @@ class LaneWords:
         self.count = -(-self.bits // self.words.width)
 
     def spare(self):
-        """How many zeros at the end `import` fills in by itself, where words of the form do not fill whole bytes."""
-        if 8 % self.words.width == 0 or self.words.width % 8 == 0:
+        """How many zeros at the end `import` fills in by itself, if words do not end where bytes of the lane do."""
+        if 8 % self.words.width == 0 and self.drop % self.words.width == 0:
             return 0
         with open(self.name, "rb") as file:
             if not file.seek(0, os.SEEK_END):
