@@ -5,7 +5,7 @@ import os
 from dumping.bits import Words, bits_of_bytes, bytes_of_bits
 from dumping.options import BITS, RAW, drop_of, lanes_of, places_of
 from dumping.progress import Progress
-from reading.bit_orders import COMPLEMENT, in_order
+from reading.bit_orders import COMPLEMENT
 from reading.files import Refused, shown_name
 from reading.outputs import Outputs, must_be_free
 
@@ -66,8 +66,6 @@ class LaneWords:
         self.settings, self.number, self.progress = settings, number, progress
         self.name, self.drop = settings.files[number], drop_of(settings, number)
         self.words = Words(places_of(settings, settings.width))
-        if settings.form == RAW and self.words.is_in_order and self.words.width % 8:
-            self.words = Words(in_order(8))  # bits in order are those of bytes, whatever words they make
         try:
             bits = 8 * os.path.getsize(self.name)
             self.bits = self.drop + bits - self.spare()

@@ -51,14 +51,14 @@ def bits_of_dump(settings, name, progress):
 
 
 def raw_bits(name, words, progress):
-    """The bits of bytes. Of a last word that is not whole the bits are left out if words are in another order."""
+    """The bits of bytes. A last word that is not whole is left out: its bits fill the last byte."""
     size = BLOCK - BLOCK % words.width
     with open(name, "rb") as file:
         data = file.read(size)
         while data:
             progress.add(len(data))
             bits = bits_of_bytes(data)
-            yield bits if words.is_in_order else words.lane_bits(bits[:len(bits) - len(bits) % words.width])
+            yield words.lane_bits(bits[:len(bits) - len(bits) % words.width])
             data = file.read(size)
 
 
