@@ -1,7 +1,6 @@
 """The command `judge`: its options, what it writes and prints, and its status."""
 
 import os
-import tempfile
 from collections import Counter
 
 from judging.calendars import is_local, last_calendar, local_change, states_text
@@ -19,6 +18,7 @@ from reading.files import Refused, shown_name
 from reading.intervals import listed
 from reading.kinds import read_plan
 from reading.tables import EVENTS, RULES
+from reading.writing import Outputs
 
 CLEAN, FOUND = 0, 1
 # The kinds in the order in which they are counted.
@@ -106,29 +106,6 @@ def skews_of(run):
     return [sync - min(syncs) for sync in syncs]
 
 
-def write_file(folder, name, text):
-    """Writes a file beside its place, so that none stands there that is not whole."""
-    path, part = folder.path(name), None
-    try:
-        with tempfile.NamedTemporaryFile("w", dir=os.path.dirname(path) or ".", prefix=".judge.", delete=False, encoding="utf-8", errors="surrogateescape", newline="") as file:
-            part = file.name
-            file.write(text)
-        os.chmod(part, 0o666 & ~mask())
-        os.replace(part, path)
-    except OSError as error:
-        raise Refused("%s: %s" % (shown_name(name), error.strerror))
-    finally:
-        if part and os.path.exists(part):
-            os.unlink(part)
-
-
-def mask():
-    """The bits that files of this user do not get."""
-    bits = os.umask(0)
-    os.umask(bits)
-    return bits
-
-
 def main(words):
     options = options_of(words)
     folder = Apart(options.program and os.path.abspath(options.program), os.getcwd())
@@ -139,8 +116,9 @@ def main(words):
     judged = Judgement(folder, plan)
     shown = judged.findings[:options.most]
     last = "%s rows=%d%s" % (table, len(shown), " of %d" % len(judged.findings) if len(shown) < len(judged.findings) else "")
-    write_file(folder, table, judged_table(shown))
-    if options.html:
-        write_file(folder, options.html, page_text(judged, options.plan, shown, options.most))
+    texts = {table: judged_table(shown), **({options.html: page_text(judged, options.plan, shown, options.most)} if options.html else {})}
+    with Outputs() as outputs:
+        for name, text in texts.items():
+            outputs.open(name).write(text.encode("utf-8", "surrogateescape"))
     print("\n".join(judged.lines + [last]))
     return FOUND if judged.findings else CLEAN
