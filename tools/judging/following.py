@@ -3,6 +3,8 @@
 from bisect import bisect_left, bisect_right
 
 from reading.control_words import is_control
+from reading.lane_bits import sync_words
+from reading.lane_words import bits_of
 from reading.metaframes import CONTROL, SYNC
 from reading.plans import CODE
 
@@ -48,7 +50,8 @@ class Following:
                 finding.cause = self.cause_of_loss(number, findings, finding)
             elif finding.what == "unframed" and not (self.run.locks[number].firsts and self.run.locks[number].firsts[0] < finding.bit):
                 finding.cause = next((other for other in findings if other.what == "balance"), None)
-        for lock, after in zip(self.run.locks[number].locks, self.run.locks[number].locks[1:]):
+        locks = self.run.locks[number].locks
+        for lock, after in zip(locks, locks[1:] + [None]):
             self.follow_slip(number, findings, lock, after)
 
     def first_of(self, finding, *whats):
@@ -72,26 +75,42 @@ class Following:
         return cause
 
     def follow_slip(self, number, findings, lock, after):
-        """Bits that were lost or added between two locks: the Sync words of the second come earlier or later than those of the first. All
-        events from the last right Sync word of the first lock on follow from the first of them."""
+        """Bits that were lost or added: the Sync words behind them come earlier or later than those of a lock. All events from the last
+        right Sync word of the lock on follow from the first of them."""
         lane, period = self.run.lanes[number], self.run.plan.period
-        new = after.first
-        while new - period > lock.first and is_sync(lane, new - period):
-            new -= period
-        old = lock.first + (min(lock.end, new) - lock.first) // period * period
-        while old > lock.first and not (old + CODE <= new and is_sync(lane, old)):
-            old -= period
+        new = self.first_sync_of(lane, after, lock) if after else self.sync_beside(number, findings, lock)
+        if new is None:
+            return
+        old = last_sync(lane, lock, new, period)
         shift = (new - old) % period
         shift -= period if 2 * shift > period else 0
-        if not shift:
-            return
-        struck = [finding for finding in findings if old <= finding.bit < after.first and finding.what != "balance"]
-        if struck:
+        struck = [finding for finding in findings if old <= finding.bit < (after.first if after else lane.count) and finding.what != "balance"]
+        if shift and struck:
             self.slips.append((number, old, new, slip_text(shift)))
             struck[0].add_note("between bits %d and %d %s" % self.slips[-1][1:])
             struck[0].cause = None
             for finding in struck[1:]:
                 finding.cause = finding.cause or struck[0]
+
+    def first_sync_of(self, lane, after, lock):
+        """The first of the Sync words that stand a metaframe apart before the one that declares a lock."""
+        new, period = after.first, self.run.plan.period
+        while new - period > lock.first and is_sync(lane, new - period):
+            new -= period
+        return new
+
+    def sync_beside(self, number, findings, lock):
+        """A Sync word near the first wrong one of a lock, none of whose places it has, and a metaframe after it another; or None."""
+        wrong = next((finding.bit for finding in findings if finding.what in ("sync", "lost-sync", "lost-headers") and finding.bit > lock.first), None)
+        if wrong is None:
+            return None
+        lane, period = self.run.lanes[number], self.run.plan.period
+        begin = max(0, wrong - period)
+        bits = bits_of(bytes(lane.data[begin // 8:(wrong + 2 * period) // 8 + 1]))
+        for at in (begin // 8 * 8 + place for place in sync_words(bits)):
+            if (at - lock.first) % period and (at + period + CODE > lane.count or is_sync(lane, at + period)):
+                return at
+        return None
 
     # ---- the faults of words
 
@@ -219,6 +238,14 @@ class Following:
 def is_sync(lane, bit):
     code = lane.code(bit)
     return code.header == CONTROL and code.payload == SYNC
+
+
+def last_sync(lane, lock, new, period):
+    """The last right Sync word of a lock before a bit."""
+    old = lock.first + (min(lock.end, new) - lock.first) // period * period
+    while old > lock.first and not (old + CODE <= new and is_sync(lane, old)):
+        old -= period
+    return old
 
 
 def slip_text(shift):
