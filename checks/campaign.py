@@ -13,6 +13,7 @@ import tempfile
 import time
 import xml.etree.ElementTree as xml
 
+from machine import copy_examples, patience
 from runs import content
 from tally import Tally
 
@@ -39,7 +40,7 @@ REFUSED = [
 
 
 def run(words, folder, program=PROGRAM, surroundings=None):
-    return subprocess.run(words, cwd=folder, stdin=subprocess.DEVNULL, capture_output=True, encoding="utf-8", timeout=SECONDS,
+    return subprocess.run(words, cwd=folder, stdin=subprocess.DEVNULL, capture_output=True, encoding="utf-8", timeout=patience(SECONDS),
                           env={**os.environ, "INTERLAKEN_PROGRAM": program, **(surroundings or {})})
 
 
@@ -325,7 +326,7 @@ def check_machines(tally, folder, by_hand):
 def main():
     tally = Tally("campaign")
     with tempfile.TemporaryDirectory(prefix="campaign.") as folder:
-        shutil.copytree(os.path.join(TOP, "examples"), folder, dirs_exist_ok=True)
+        copy_examples(TOP, folder)
         by_hand = check_generate(tally, folder)
         check_failing(tally, folder, by_hand)
         check_refused(tally, folder)
