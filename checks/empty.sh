@@ -44,12 +44,13 @@ try() { # SCRIPT WHAT-IS-WRONG
   # How many it counts does not matter.
   last=$(tail -n 1 "$folder/told" | sed -E 's/[0-9]+ (passed|failed)/N \1/g')
   if is_skipped "$check" "$status" "$last"; then
-    echo "$name: not tried, ${last#"$check: skipped, "}: $check"
+    skipped[${last#"$check: skipped, "}]+=" $check"
     return 1
   fi
   holds "$check, $2" "status $status, $last" "status 1, $check: N passed, N failed"
 }
 
+declare -A skipped # checks by what they lack
 make_copy
 [ $# -gt 0 ] || set -- $(cd "$top/checks" && basename -s .sh -- *.sh)
 for check; do
@@ -63,5 +64,8 @@ for check; do
   else
     try "$folder/copy/checks/$check.sh" 'without crates and edits'
   fi
+done
+for lacking in "${!skipped[@]}"; do
+  echo "$name: not tried, $lacking:${skipped[$lacking]}"
 done
 ends

@@ -273,7 +273,7 @@ check wanting "$begin" 'wants no-such-tool a-package'
 echo 'command no-such-tool a-package' >>"$tree/checks/packages.txt"
 run_checks 'a check that is skipped' '0 checks: 1 passed, 0 failed, 1 skipped'
 holds 'how many checks there are' "$(head -n 1 <<<"$text" | cut -d , -f 1)" '2 checks'
-holds 'why it is skipped' "$(grep -c '^wanting: skipped, no no-such-tool (Debian package a-package)$' <<<"$text")" 1
+holds 'why it is skipped' "$(grep -c '^skipped .* wanting: skipped, no no-such-tool (Debian package a-package)$' <<<"$text")" 1
 # All packages, whichever of them a check names first.
 packages=$(grep -v '^#' "$tree/checks/packages.txt" | cut -d ' ' -f 3 | paste -s -d ' ')
 holds 'all packages that a full run needs' "$(grep -c "^checks: a full run needs the Debian packages $packages; not here: apt-get install .*a-package$" <<<"$text")" 1
