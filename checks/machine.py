@@ -3,9 +3,11 @@
     copy_examples(top, folder)    puts the repository's own files of examples/ into a folder
     patience(seconds)             how long to wait by the clock for what takes an idle machine so many seconds
     has_tool(name)                whether a command can be run that a check needs
+    each(work, cases, jobs)       what the work gives of each case, by so many processes
 """
 
 import fnmatch
+import multiprocessing
 import os
 import re
 import shutil
@@ -65,3 +67,21 @@ def patience(seconds):
     except OSError:
         load = 0
     return 2 * seconds * (1 + load / (os.cpu_count() or 1))
+
+
+def pool_of(jobs):
+    """Processes that share the work; none where one is enough, or the machine has no shared memory, as in a bare container."""
+    try:
+        return multiprocessing.Pool(jobs) if jobs > 1 else None
+    except OSError:
+        return None
+
+
+def each(work, cases, jobs=1, at_once=1):
+    """What the work gives of each case, in their order, by so many processes where the machine has them."""
+    pool = pool_of(jobs)
+    if pool is None:
+        yield from map(work, cases)
+        return
+    with pool:
+        yield from pool.imap(work, cases, chunksize=at_once)
