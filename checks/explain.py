@@ -13,6 +13,7 @@ import sys
 import tempfile
 from collections import Counter
 
+from runs import copy_files
 from tally import Tally
 
 PROGRAM, TOP = os.path.abspath(sys.argv[1]), os.path.abspath(sys.argv[2])
@@ -290,7 +291,7 @@ def check_mistakes(tally, folder):
 def main():
     tally = Tally("explain")
     with tempfile.TemporaryDirectory() as path:
-        shutil.copytree(os.path.join(TOP, "examples"), path, dirs_exist_ok=True)
+        copy_files(os.path.join(TOP, "examples"), path)
         folder = Folder(PROGRAM, path)
         for name, text in FILES.items():
             with open(folder.path(name), "w", encoding="utf-8") as file:

@@ -18,7 +18,7 @@ import tempfile
 from collections import Counter
 
 from captures import capture
-from runs import content, write_files
+from runs import content, copy_files, write_files
 from tally import Tally
 
 PROGRAM, TOP = os.path.abspath(sys.argv[1]), os.path.abspath(sys.argv[2])
@@ -33,8 +33,8 @@ EXAMPLES, LINKS = ("damaged", "two", "wide", "again", "status"), 40
 CONTROL, CONTROL_TAG = "10", 2
 PLACES = ["%s_%s" % (end, column) for end in ("first", "last") for column in ("slot", "lane", "metaframe", "bit")]
 
-ANEW = "these files are not of one run: `interlaken link damaged.plan` and then `interlaken burst damaged.plan` make them anew"
-CHANGED = "the schedule was changed after the run; `interlaken link damaged.plan` makes the lanes anew"
+ANEW = "these files are not of one run: `interlaken link` and then `interlaken burst` of this plan with another `out` make new files"
+CHANGED = "the schedule was changed after the run; `interlaken link` of this plan with another `out` makes new lanes"
 MISSING = ["--missing", "--text", "printed"]
 # After a run of examples/damaged.plan: the file that is changed, what in it (None: the file goes), the words, and what the tool says.
 REFUSED = [
@@ -46,9 +46,9 @@ REFUSED = [
     ("damaged.plan", (b"metaframe,32", b"metaframe,64"), [], "damaged.lane.0: 1878 bytes, and 3 metaframes of the plan after a skew of 11 bits fill 1610: " + ANEW),
     ("damaged.plan", (b"metaframe,32", b"metaframe,64"), MISSING, "damaged.plan: 392 slots were printed, and a metaframe of the plan has 120: " + ANEW),
     ("damaged.plan", (b"metaframe,32", b"metaframe,32\nskips,2"), [], "damaged.spans.csv: word 55 of group 12875, and the groups of the plan have 54: " + ANEW),
-    ("damaged.plan", (b"lanes,2", b"lanes,3"), [], "damaged.lane.2 is missing: `interlaken link damaged.plan` makes it"),
+    ("damaged.plan", (b"lanes,2", b"lanes,3"), [], "damaged.lane.2 is missing: `interlaken link` of this plan with another `out` makes new files"),
     ("damaged.plan", (b"lanes,2", b"lanes,3"), MISSING, "damaged.plan: 3 lanes, and the run printed 2: " + ANEW),
-    ("damaged.lane.1", None, [], "damaged.lane.1 is missing: `interlaken link damaged.plan` makes it"),
+    ("damaged.lane.1", None, [], "damaged.lane.1 is missing: `interlaken link` of this plan with another `out` makes new files"),
     ("damaged.words", None, ["--packets"], "damaged.words is missing: `interlaken burst damaged.plan` makes it"),
     ("printed", (b"spans 3", b"spans 4"), MISSING, "damaged.spans.csv: 3 spans, and the run printed 4: " + ANEW),
     ("printed", (b"slots 392", b"slots 448"), MISSING, "damaged.lane.0: 1878 bytes, and 8 metaframes of the plan after a skew of 11 bits fill 2146: " + ANEW),
@@ -189,21 +189,21 @@ def check_refused(tally, folder):
         if change:
             tally.expect("%s has %s" % (name, change[0]), data.count(change[0]), 1)
             write_files(folder.folder, {name: data.replace(*change)})
-        tally.expect("%s changed by %s, %s" % (name, change, words), told("damaged.plan", words), (1, "", "slots: %s\n" % wanted))
+        tally.expect("%s changed by %s, %s" % (name, change, words), told("damaged.plan", words), (2, "", "slots: %s\n" % wanted))
         write_files(folder.folder, {name: data})
     for name, kind in OTHERS.items():
-        tally.expect("%s in place of a plan" % name, told(name, []), (1, "", "slots: %s is %s, and a plan is wanted here\n" % (name, kind)))
+        tally.expect("%s in place of a plan" % name, told(name, []), (2, "", "slots: %s is %s, and a plan is wanted here\n" % (name, kind)))
     folder.run("join", "damaged.plan")
     joined = "slots: damaged.spans.csv: its spans are of a words file, as `join` writes them, and the text is of lanes: %s\n" % ANEW
     write_files(folder.folder, {"printed": content(folder.path("printed")).replace(b"spans 3", b"spans 2")})
-    tally.expect("a table of join and a text of link", told("damaged.plan", MISSING), (1, "", joined))
+    tally.expect("a table of join and a text of link", told("damaged.plan", MISSING), (2, "", joined))
     tally.expect("a table of join", told("damaged.plan", [])[::2], (0, ""))
 
 
 def main():
     tally, lost, struck = Tally("slots"), 0, 0
     with tempfile.TemporaryDirectory() as path:
-        shutil.copytree(os.path.join(TOP, "examples"), path, dirs_exist_ok=True)
+        copy_files(os.path.join(TOP, "examples"), path)
         folder = Folder(PROGRAM, path)
         for number in range(LINKS):
             for name, data in random_link(random.Random(number), "random%d" % number).items():

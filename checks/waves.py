@@ -11,7 +11,7 @@ import tempfile
 from bisect import bisect_right
 from collections import Counter, namedtuple
 
-from runs import content, write_files
+from runs import content, copy_files, write_files
 from tally import Tally
 
 PROGRAM, TOP = os.path.abspath(sys.argv[1]), os.path.abspath(sys.argv[2])
@@ -220,7 +220,7 @@ def check_tables(tally, folder):
             ("faults", b"word,rule\n", "damaged.faults.csv: no table with the heading word,rule,channel")):
         kept = {"events": EVENTS, "faults": FAULTS}[name]
         write_files(folder, {"damaged.%s.csv" % name: data})
-        expect_refused(tally, folder, told, ["damaged.plan"], 1, told)
+        expect_refused(tally, folder, told, ["damaged.plan"], told)
         write_files(folder, {"damaged.%s.csv" % name: kept})
     for name in ("events", "faults"):
         os.remove(os.path.join(folder, "damaged.%s.csv" % name))
@@ -253,7 +253,7 @@ def ends_of(waves, shape):
 
 def made(tally, folder, name, what):
     """The waves that the tool writes, which another reader has to read alike."""
-    done = run([TOOL, name + ".plan"], folder)
+    done = run([TOOL, "--overwrite", name + ".plan"], folder)
     if done.returncode != 0:
         tally.give_up(what, "status %d: %s" % (done.returncode, done.stderr))
     path = os.path.join(folder, name + ".vcd")
@@ -286,43 +286,43 @@ def write_plan(folder, shape, schedule):
             file.write("\n".join(lines) + "\n")
 
 
-NOT_OF_ONE_RUN = "these files are not of one run: `interlaken link damaged.plan` and then `interlaken burst damaged.plan` make them anew\n"
+NOT_OF_ONE_RUN = "these files are not of one run: `interlaken link` and then `interlaken burst` of this plan with another `out` make new files\n"
 
 
 def check_refused(tally, folder):
     """Calls and files that the tool does not take."""
     printed(tally, folder, "link", "damaged")
-    expect_refused(tally, folder, "a words file as the plan", ["damaged.words"], 1, "damaged.words is a words file, and a plan is wanted here")
+    expect_refused(tally, folder, "a words file as the plan", ["damaged.words"], "damaged.words is a words file, and a plan is wanted here")
     schedule = content(os.path.join(folder, "damaged.schedule"))
     write_files(folder, {"damaged.schedule": schedule.replace(b"skew,0,11", b"skew,0,12")})
-    expect_refused(tally, folder, "another skew", ["damaged.plan"], 1, "damaged.lane.0: a Sync word at bit 11, and none begins there after a skew of 12 bits: " + NOT_OF_ONE_RUN)
+    expect_refused(tally, folder, "another skew", ["damaged.plan"], "damaged.lane.0: a Sync word at bit 11, and none begins there after a skew of 12 bits: " + NOT_OF_ONE_RUN)
     write_files(folder, {"damaged.schedule": schedule})
     words = os.path.join(folder, "damaged.words")
     data = bytearray(content(words))
     data[9 * 301 - 1] ^= 1
     write_files(folder, {"damaged.words": bytes(data)})
-    expect_refused(tally, folder, "words with another word", ["damaged.plan"], 1, "damaged.words: slot 300 is another word than lane 0 has, whose Diagnostic word after it is right: " + NOT_OF_ONE_RUN)
+    expect_refused(tally, folder, "words with another word", ["damaged.plan"], "damaged.words: slot 300 is another word than lane 0 has, whose Diagnostic word after it is right: " + NOT_OF_ONE_RUN)
     shutil.copy(os.path.join(folder, "two.words"), words)
-    expect_refused(tally, folder, "words of another plan", ["damaged.plan"], 1, "damaged.words: its 252 slots fill 8576 bits of a lane, and damaged.lane.0 has 1878 bytes: " + NOT_OF_ONE_RUN)
+    expect_refused(tally, folder, "words of another plan", ["damaged.plan"], "damaged.words: its 252 slots fill 8576 bits of a lane, and damaged.lane.0 has 1878 bytes: " + NOT_OF_ONE_RUN)
     os.remove(os.path.join(folder, "damaged.lane.1"))
-    expect_refused(tally, folder, "a lane that is missing", ["damaged.plan"], 1, "damaged.lane.1 is missing: `interlaken link damaged.plan` makes it")
-    expect_refused(tally, folder, "no plan", ["absent.plan"], 1, "absent.plan: No such file")
-    expect_refused(tally, folder, "a folder that is not there", ["two.plan", "--to", "no/two.vcd"], 1, "no/two.vcd: No such file")
-    expect_refused(tally, folder, "no words", [], 2, "")
-    expect_refused(tally, folder, "an unknown option", ["damaged.plan", "--from", "7"], 2, "")
+    expect_refused(tally, folder, "a lane that is missing", ["damaged.plan"], "damaged.lane.1 is missing: `interlaken link` of this plan with another `out` makes new files")
+    expect_refused(tally, folder, "no plan", ["absent.plan"], "absent.plan: No such file")
+    expect_refused(tally, folder, "a folder that is not there", ["two.plan", "--to", "no/two.vcd"], "no/two.vcd: No such file")
+    expect_refused(tally, folder, "no words", [], "the following arguments are required: plan; `waves --help` shows the words\n")
+    expect_refused(tally, folder, "an unknown option", ["damaged.plan", "--from", "7"], "unrecognized arguments: --from 7; `waves --help` shows the words\n")
 
 
-def expect_refused(tally, folder, what, words, status, told):
-    done = run([TOOL] + words, folder)
-    beginning = "waves: " + told if status == 1 else "usage: waves"
-    tally.expect(what, (done.returncode, done.stdout, done.stderr[:len(beginning)]), (status, "", beginning))
+def expect_refused(tally, folder, what, words, told):
+    done = run([TOOL, "--overwrite"] + words, folder)
+    beginning = "waves: " + told
+    tally.expect(what, (done.returncode, done.stdout, done.stderr[:len(beginning)], done.stderr.count("\n")), (2, "", beginning, 1))
     tally.expect(what + ", no file", [name for name in os.listdir(folder) if name.endswith(".part")], [])
 
 
 def main():
     tally = Tally("waves")
     with tempfile.TemporaryDirectory() as folder:
-        shutil.copytree(os.path.join(TOP, "examples"), folder, dirs_exist_ok=True)
+        copy_files(os.path.join(TOP, "examples"), folder)
         for shape in EXAMPLES:
             check_sent(tally, folder, shape)
         check_damaged(tally, folder)

@@ -1,6 +1,5 @@
 """The command `explain`: runs the program, passes its text and status on, and says on the error output what they mean."""
 
-import errno
 import os
 import shutil
 import subprocess
@@ -8,6 +7,7 @@ import sys
 
 from explaining import causes, stores, usage, warnings
 from explaining.inputs import Inputs
+from reading.ending import discard
 from reading.files import Folder, is_text, own_program
 
 DONE, STORE_FAULT, USAGE, HELD, PLAN_REFUSED, INPUT_REFUSED, OUT_OF_MEMORY, SINK_FAULT, NO_WORDS, NOT_BUILT = 0, 1, 2, 3, 4, 5, 6, 7, 8, 70
@@ -43,16 +43,17 @@ def run(program, words):
 
 
 def pass_on(text):
-    """Whether the text could be written."""
+    """Whether the text could be written, or nobody reads it."""
     try:
-        if sys.stdout is None:
-            raise OSError(errno.EBADF, "it is closed")
         sys.stdout.buffer.write(text)
         sys.stdout.buffer.flush()
         return True
+    except BrokenPipeError:
+        discard()
+        return True
     except OSError as error:
         tell(["explain: standard output: %s" % error.strerror])
-        sys.stdout = None
+        discard()
         return False
 
 
@@ -86,6 +87,9 @@ def meaning(folder, words, status, text):
 
 
 def main(words):
+    if words in (["-h"], ["--help"]):
+        print("\n".join(usage.help_lines()))
+        return DONE
     program, words = program_of(words)
     folder, inputs = Folder(program, os.getcwd()), None
     if len(words) == 2 and usage.fault_of(words) is None and folder.has(words[1]):

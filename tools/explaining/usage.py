@@ -8,11 +8,24 @@ from reading.files import shown_name
 FILE_NAME, PREFIX, NUMBER_DIGITS = 255, 180, 20
 
 
+HELP = ["usage: explain [--program PROGRAM] COMMAND FILE", "       explain [--program PROGRAM] generate NUMBER PREFIX", "",
+        "Runs the program with these words, passes its text and its status on, and says on the error output what a refusal or a warning", "means. The commands:", ""]
+
+
+def help_lines():
+    """What `explain --help` prints."""
+    return HELP + table()
+
+
 def lines_of(words):
     """The first fault of the words, and the table of commands."""
+    return ["explain: " + (fault_of(words) or "these words are not accepted")] + table()
+
+
+def table():
+    """A line for each command."""
     width = max(len(name) + len(command.words) for name, command in COMMANDS.items()) + 1
-    table = ["  %-*s  %s" % (width, "%s %s" % (name, command.words), command.takes) for name, command in COMMANDS.items()]
-    return ["explain: " + (fault_of(words) or "these words are not accepted")] + table
+    return ["  %-*s  %s" % (width, "%s %s" % (name, command.words), command.takes) for name, command in COMMANDS.items()]
 
 
 def fault_of(words):

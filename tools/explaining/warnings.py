@@ -5,9 +5,10 @@ from collections import Counter
 
 from reading.files import shown_name
 from reading.lane_bits import FIRST_STATE, bits_of, first_state
+from reading.placing import SentPlaces
 from reading.plans import CODE, MOST_SKEW
 from reading.strikes import spans_struck, strikes_of
-from reading.words import meets, missing_of, read_spans, slots_of
+from reading.words import meets, missing_of, slots_of, span_rows, spans_at
 
 # Rows of one kind that have lines of their own; the others are counted.
 SHOWN = 5
@@ -112,7 +113,7 @@ def vain_strikes(inputs, slots, text):
     plan, schedule, name = inputs.plan, inputs.schedule, inputs.plan.out + ".spans.csv"
     if not schedule.rows or not re.search("^accidents locks=0 groups=0 stretches=0$", text, re.MULTILINE):
         return []
-    spans = read_spans(inputs.folder, name, plan, schedule.skew[0], slots)
+    spans = spans_at(span_rows(inputs.folder, name), SentPlaces(plan, schedule.skew), slots)
     missing, lines = [packet for packet, _ in missing_of(text)], []
     for strike in strikes_of(plan, schedule, plan.sent_bits(slots)):
         struck = [spans[number] for number in spans_struck(strike, spans)]
