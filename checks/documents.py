@@ -21,7 +21,8 @@ from tally import Tally
 
 PROGRAM, TOP = os.path.abspath(sys.argv[1]), os.path.abspath(sys.argv[2])
 # The pages, with the folder of the first command of each.
-PAGES = {"README.md": "", "docs/TOUR.md": "examples", "tools/README.md": "", "examples/testbench/README.md": "examples/testbench"}
+PAGES = {"README.md": "", "docs/TOUR.md": "examples", "tools/README.md": "", "examples/testbench/README.md": "examples/testbench",
+         "docs/DEVICE.md": "examples/device"}
 # What the pages call that a machine may lack: the tools and their Debian packages, by the command that needs them.
 TOOLS = {
     "iverilog": [("iverilog", "iverilog")], "vvp": [("vvp", "iverilog")], "../tools/campaign": [("parallel", "parallel")],
