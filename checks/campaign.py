@@ -13,8 +13,9 @@ import tempfile
 import time
 import xml.etree.ElementTree as xml
 
+from devices import changed, sums
 from machine import copy_examples, patience
-from runs import content
+from runs import content, write_files
 from tally import Tally
 
 PROGRAM, TOP = os.path.abspath(sys.argv[1]), os.path.abspath(sys.argv[2])
@@ -30,7 +31,7 @@ CODE, PERIOD, GROUP = 67, 67 * 32, 56
 # Words that are refused, and a part of what is said of them.
 REFUSED = [
     (["a", "b", "c"], "'a' is no number"), (["1", "x", "runs"], "'x' is no number"), (["5", "4", "runs"], "LAST, 4, is below FIRST, 5"),
-    (["1", "2"], "required: FOLDER"), (["-1", "2", "runs"], "usage: "), (["1", "18446744073709551616", "runs"], "is no number of 0 to"),
+    (["1", "2"], "required: FOLDER"), (["-1", "2", "runs"], "`campaign --help` shows the words"), (["1", "18446744073709551616", "runs"], "is no number of 0 to"),
     (["1", "2", "runs", "--speed", "3"], "unrecognized arguments: --speed"), (["1", "2", "runs", "--jobs", "many"], "'many' is no number of jobs"),
     (["1", "2", "runs", "--dark", "1"], "--plan needs a rate"), (["1", "2", "runs", "--plan", "damaged.plan"], "--plan needs a rate"),
     (["1", "2", "runs", "--plan", "damaged.plan", "--flips-per-million", "-4"], "'-4' is no number from 0"),
@@ -183,6 +184,13 @@ def check_refused(tally, folder):
                         ([1, 6, "runs"], "campaign: runs/1-6.results is of another campaign")):
         status, lines = campaign(folder, *words)
         tally.expect("campaign " + " ".join(map(str, words)), (status, len(lines), lines[0][:len(told)]), (2, 1, told))
+    write_files(folder, {"mine.xml": b"<mine/>", "1-2.csv": b"mine"})
+    os.makedirs(os.path.join(folder, "mine", "2"))
+    for words, told in (([1, 2, "new", "--junit", "mine.xml"], "mine.xml"), ([1, 2, "."], "./1-2.csv"), ([1, 2, "mine", "--keep"], "mine/2")):
+        before = sums(folder)
+        status, lines = campaign(folder, *words)
+        tally.expect("campaign %s over %s" % (words, told), (status, lines), (2, ["campaign: %s exists, and no campaign made it; --overwrite writes over it" % told]))
+        tally.expect("campaign %s, changed" % words, changed(before, sums(folder)), [])
     bare = os.path.join(folder, "bare")
     os.mkdir(bare)
     os.symlink(sys.executable, os.path.join(bare, "python3"))

@@ -84,6 +84,15 @@ class Device:
         return lane, bit + late - self.cut[lane]
 
 
+    def row_bit(self, slot):
+        """The bit of lane 0 at which the words of a sent word's row begin."""
+        return self.place(slot - slot % LANES)[1]
+
+    def broken_slots(self):
+        """The sent words of which bits come as zeros."""
+        return {slot for slot in range(len(self.words)) for lane, first, end, _ in self.breaks
+                if slot % LANES == lane and first - CODE < self.place(slot)[1] + self.cut[lane] < end}
+
     def number_of(self, slot):
         """The number of a sent word among those that `gather` writes; None where its metaframe comes not, or not whole."""
         frame = slot // GROUP

@@ -14,7 +14,8 @@ sys.path.insert(0, os.path.join(TOP, "tools"))
 
 from drawing.svg import length_of
 from devices import BREAKS, SPOILED_SLOTS, Device, changed, spoiled, sums
-from runs import content, copy_files, write_files
+from machine import copy_examples
+from runs import content, write_files
 from tally import Tally
 
 TOOL = os.path.join(TOP, "tools", "picture")
@@ -37,8 +38,8 @@ SPOILED = [
     ("damaged.schedule", None, "damaged.plan", "damaged.schedule: No such file or directory"),
     ("damaged.words", lambda data: data[:100], "damaged.plan", "damaged.words: short at 99"),
     ("damaged.words", lambda data: data[:18] + b"\7" + data[19:], "damaged.plan", "damaged.words: tag at 18"),
-    ("damaged.words", lambda data: data[:900], "damaged.plan", "damaged.spans.csv: row 2: slot 169, and the words file has 100"),
-    ("damaged.spans.csv", lambda data: b"after\n", "damaged.plan", "damaged.spans.csv: no table of fault spans"),
+    ("damaged.words", lambda data: data[:900], "damaged.plan", "damaged.spans.csv:2: slot 169, and the words file has 100"),
+    ("damaged.spans.csv", lambda data: b"after\n", "damaged.plan", "damaged.spans.csv: no table with the heading after_group,after_index,before_group,before_index,why"),
     ("damaged.1.pcap", lambda data: data[:50], "damaged.plan", "damaged.1.pcap: short at 24: record 0 is not whole: the file ends at byte 50"),
     ("damaged.schedule", lambda data: b"flip,2,1\n", "damaged.plan", "damaged.schedule:1: flip: lane: 2 is not in 0 to 1"),
     ("damaged.plan", lambda data: data + b"lane,1\n", "damaged.plan", "damaged.plan:8: unknown key 'lane': `lanes`?"),
@@ -57,7 +58,7 @@ STALE = [
     ("first.plan", {"stale.words": "longer.plan"}, [], "stale.words: "),
     ("first.plan", {"stale.words": "turned.plan"}, [], "stale.words: no span meets 1 packets of channel 1, and stale.1.pcap has others: these files are not of one run: `interlaken link` and then `interlaken burst` of this plan with another `out` make new files"),
     ("first.plan", {"stale.words": "turned.plan"}, ["--text", "printed"], "stale.words: no span meets 1 packets of channel 1, and stale.1.pcap has others"),
-    ("longer.plan", {"stale.words": "first.plan"}, ["--only", "stream"], "stale.spans.csv: row 4: slot "),
+    ("longer.plan", {"stale.words": "first.plan"}, ["--only", "stream"], "stale.spans.csv:4: slot "),
     ("longer.plan", {"stale.spans.csv": "first.plan"}, [], "stale.words: "),
     ("longer.plan", {"printed": "first.plan"}, ["--text", "printed"], "stale.words: 504 slots, and the run printed 392"),
     ("first.plan", {"stale.words": "apart.plan"}, [], "stale.words: slot 300 is a control word, and in stale.lane.0 it is none: these files are not of one run: `interlaken link` and then `interlaken burst` of this plan with another `out` make new files"),
@@ -287,7 +288,7 @@ def check_device(results, folder):
         before = sums(folder)
         draw(results, folder, [name + ".plan", "--only", "stream"])
         results.expect(name + ", joined", counts_of(folder, name)["packets"], {"whole": 47, "broken": 39}[name])
-        expect_refused(results, folder, [name + ".plan"], "%s.lanes.svg is there; --overwrite writes over it" % name, [], ())
+        expect_refused(results, folder, [name + ".plan"], "%s.lanes.svg exists; --overwrite writes over it" % name, [], ())
         lane = content(prefix + ".lane.1")
         os.remove(prefix + ".lane.1")
         for words in ([], ["--program", PROGRAM]):
@@ -335,7 +336,7 @@ def check_joined(results, folder):
 def main():
     results = Tally("pictures")
     with tempfile.TemporaryDirectory() as folder:
-        copy_files(os.path.join(TOP, "examples"), folder)
+        copy_examples(TOP, folder)
         steps = [check_examples, check_spoiled, check_stale, check_changed, check_tables, check_joined, check_device] + [partial(check_case, number=number) for number in CASES] + [check_wide_link, check_pictures, check_tour]
         for step in steps:
             try:

@@ -2,7 +2,6 @@
 
 import collections
 import os
-import shutil
 import subprocess
 import tempfile
 
@@ -28,15 +27,6 @@ def write_files(folder, files):
     for name, data in files.items():
         with open(os.path.join(folder, name), "wb") as file:
             file.write(data)
-
-
-def copy_files(source, target):
-    """Copies the files of a folder and those below it into one that is there, which may be written even if the source may not."""
-    for folder, _, names in os.walk(source):
-        there = os.path.join(target, os.path.relpath(folder, source))
-        os.makedirs(there, exist_ok=True)
-        for name in names:
-            shutil.copyfile(os.path.join(folder, name), os.path.join(there, name))
 
 
 def left_by(program, words, before, seconds=SECONDS, environment=None):

@@ -11,7 +11,7 @@ from decimal import Decimal
 from campaigns import reports
 from campaigns.one_number import copy_plan, printed, slots_of, words_counts
 from campaigns.parallel import RUN, run_all, run_job
-from campaigns.records import Records, digest
+from campaigns.records import Records, digest, has_begun
 from reading.apart import found_program
 from reading.ending import INTERRUPTED, Options
 from reading.files import Folder, Refused, own_program
@@ -58,6 +58,7 @@ def options_of(words):
     parser.add_argument("--skew", metavar="BITS", type=whole(0, MOST_SKEW), default=0, help="the greatest skew of a lane, with --plan")
     parser.add_argument("--coverage", action="store_true", help="counts the words of the stream too: bursts, ends of packets, channels that go off")
     parser.add_argument("--junit", metavar="FILE", help="writes a JUnit report with a test case for each number")
+    parser.add_argument("--overwrite", action="store_true", help="writes over files that are there and that no campaign made")
     parser.add_argument("--keep", action="store_true", help="keeps the files of each run in FOLDER/NUMBER")
     parser.add_argument("--timeout", metavar="SECONDS", type=whole(1, 1000000), help="how long a run may take")
     parser.add_argument("--program", help="the program; INTERLAKEN_PROGRAM, or the repository's own, where it is not named")
@@ -109,11 +110,27 @@ def campaign_of(options):
     return {"campaign": "plan", **each, "coverage": options.coverage, "files": digest(folder.content(name) for name in names), "rates": {rate: getattr(options, rate) for rate in RATES}}
 
 
+def must_be_new(options):
+    """An error where a file or a folder is there that the campaign would write, and that is not of a call of it that was cut off."""
+    names, base = [], os.path.join(options.folder, "%d-%d" % (options.first, options.last))
+    if not has_begun(options.folder, options.first, options.last):
+        names += [base + ".csv", base + ".coverage.csv"]
+        kept = os.listdir(options.folder) if options.keep and os.path.isdir(options.folder) else []
+        names += [os.path.join(options.folder, name) for name in sorted(kept) if name.isdigit() and options.first <= int(name) <= options.last]
+    if options.junit and os.path.exists(options.junit) and not reports.is_junit(options.junit):
+        names.append(options.junit)
+    there = next(filter(os.path.lexists, names), None)
+    if there:
+        raise Refused("%s exists, and no campaign made it; --overwrite writes over it" % there)
+
+
 def run_campaign(tool, options):
     """Runs what is not done, and reports all numbers; returns whether all are done and had no accident."""
     must_have("parallel", "parallel")
     if options.sshlogin:
         must_have("ssh", "openssh-client")
+    if not options.overwrite:
+        must_be_new(options)
     records = Records(options.folder, options.first, options.last, campaign_of(options))
     numbers = records.left()
     if numbers:

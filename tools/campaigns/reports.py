@@ -64,6 +64,12 @@ def write_junit(path, name, records):
     xml.ElementTree(suite).write(path, encoding="utf-8", xml_declaration=True)
 
 
+def is_junit(path):
+    """Whether a file is the report of a campaign."""
+    with open(path, "rb") as file:
+        return b'<testsuite name="campaign"' in file.read(200)
+
+
 def allowed(text):
     """A text without characters that XML cannot have."""
     return re.sub("[^\t\n\r\x20-\ud7ff\ue000-\ufffd\U00010000-\U0010ffff]", "?", text)

@@ -194,18 +194,17 @@ def draw_plan_stream(work, plan, schedule, lanes):
     folder, name, spans_name = work.folder, plan.out + WORDS, plan.out + SPANS
     stream, rows = Stream(folder, name, plan), span_rows(folder, spans_name)
     places = places_of(folder, plan, schedule, lanes, rows)
-    is_device = is_of_device(folder, plan) and not places.is_gathered
-    if lanes and is_device:
-        must_be_of_lanes(work, plan, stream, places)
+    if lanes and is_of_device(folder, plan) and not places.is_gathered:
+        must_be_sent(folder, plan, stream, places)
     if places.is_gathered:
         folder.must_be_made_by(plan, spans_name, "receive", "join")
     spans = spans_at(rows, places, stream.count)
     came = {channel: folder.packets("%s.%d.pcap" % (plan.out, channel)) for channel in plan.channels}
     must_be_of_run(stream, name, plan, spans, came, work.text, places.is_gathered)
     if lanes and not places.is_gathered and (work.wants("lanes") or not are_joined(spans)):
-        if not is_device:
-            must_be_of_lanes(work, plan, stream, places)
+        must_fill_lanes(stream.count, name, plan, [folder.size(lane) for lane in lane_names(plan)], places.skew)
         must_be_in_lanes(stream, name, plan, lanes, spans)
+        must_carry(folder, plan, stream, name, places)
     damaged = damage_of({lane.number: lane.damaged_slots(places) for lane in lanes}) if lanes else damage_by_schedule(schedule, places)
     # What came of a words file came of no lanes, but for one that was gathered of these.
     damaged = {slot: found for slot, found in damaged.items() if slot < stream.count and (places.is_gathered or not are_joined(spans))}
@@ -213,16 +212,14 @@ def draw_plan_stream(work, plan, schedule, lanes):
     work.save(lambda path: draw_stream(stream, plan, spans, damaged, came, faults, path), plan.out, "stream")
 
 
-def must_be_of_lanes(work, plan, stream, places):
-    """An error where lanes do not carry the words of a stream."""
+def must_be_sent(folder, plan, stream, places):
+    """An error where words that nobody gathered are not those that the lanes of a device carry."""
     name = plan.out + WORDS
     try:
-        must_fill_lanes(stream.count, name, plan, [work.folder.size(lane) for lane in lane_names(plan)], places.skew)
-        must_carry(work.folder, plan, stream, name, places)
+        must_fill_lanes(stream.count, name, plan, [folder.size(lane) for lane in lane_names(plan)], places.skew)
+        must_carry(folder, plan, stream, name, places)
     except Refused as refused:
-        if names_captures(plan):
-            raise
-        raise Refused("%s: %s" % (refused, gathered_anew(work.folder, plan))) from None
+        raise Refused("%s: %s" % (refused, gathered_anew(folder, plan))) from None
 
 
 def main(words):

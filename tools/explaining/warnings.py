@@ -101,7 +101,7 @@ def beyond_lanes(schedule, lanes):
         if key == "skew" or end <= bits:
             continue
         what = "bits %d to %d go beyond" % (first, end - 1) if key == "dark" else "bit %d is after" % first
-        struck = "it strikes nothing" if first >= bits else "it strikes %d bits of %d" % (bits - first, end - first)
+        struck = "it has no effect" if first >= bits else "it strikes %d bits of %d" % (bits - first, end - first)
         has = "bits 0 to %d" % (bits - 1) if bits else "no bits"
         lines.append(warning(schedule.name, row, "%s: %s the end of lane %d, which has %s: %s" % (key, what, lane, has, struck)))
     return some(lines, "rows are beyond the ends of lanes")
@@ -183,7 +183,7 @@ def exchanged(inputs):
         state = first_state(bits_of(inputs.folder.beginning(name, seen))) if inputs.folder.has(name) else None
         other = lane if state is None else FIRST_STATE - state
         if other != lane and other < plan.lanes:
-            lines.append("%s: warning: it begins with the scrambler state of lane %d: are the files of lanes exchanged?" % (name, other))
+            lines.append("%s: warning: it begins with the scrambler state of lane %d: are the lane files swapped?" % (name, other))
     return some(lines, "lanes begin with the state of another")
 
 

@@ -80,7 +80,7 @@ def tell(tool, what):
 def must_be_new(path, name, overwrite):
     """An error where a file is there that would be written over; `--overwrite` allows it."""
     if os.path.lexists(path) and not overwrite:
-        raise Refused("%s is there; --overwrite writes over it" % shown_name(name))
+        raise Refused("%s exists; --overwrite writes over it" % shown_name(name))
 
 
 def note(text):

@@ -163,7 +163,7 @@ def read_places(folder, plan):
     for number, (word, group, index, why) in enumerate(rows):
         count = rows[number + 1][0] - word if number + 1 < len(rows) else 0
         if count > (1 if why != "-" else plan.group):
-            raise Refused("%s: row %d: %d words stand between this and the next" % (name, number + 2, count))
+            raise Refused("%s:%d: %d words stand between this and the next" % (name, number + 2, count))
         pieces.append(Piece(word, count, group, index, why != "-", epoch, why))
         epoch += why != "-"
     return pieces, rows[-1][0] if rows else 0
@@ -171,12 +171,10 @@ def read_places(folder, plan):
 
 def lane_syncs(folder, plan, lane, pieces):
     """By epoch how many bits the Sync words of a lane stand behind those of lane 0."""
-    apart = {}
+    groups = {}
     for piece in pieces:
-        if piece.epoch not in apart:
-            groups = [other.group for other in pieces if other.epoch == piece.epoch and not other.is_break]
-            apart[piece.epoch] = lane_apart(folder, plan, lane, groups or [piece.group]) if lane else 0
-    return apart
+        groups.setdefault(piece.epoch, []).append(piece.group)
+    return {epoch: lane_apart(folder, plan, lane, found[:LOOKED_AT]) if lane else 0 for epoch, found in groups.items()}
 
 
 # The groups of an epoch of which the Sync words are looked for, and the metaframes before it, if there are none.
@@ -188,7 +186,7 @@ def lane_apart(folder, plan, lane, groups):
     before them tell, since a lock keeps its place."""
     reach, name, found = CODE * plan.deskew, lane_names(plan)[lane], Counter()
     for back in (0, LOOKED_BACK * plan.period):
-        for group in groups[:LOOKED_AT] if not back else groups[:1]:
+        for group in groups if not back else groups[:1]:
             first = max(0, group - back - reach)
             bits = bits_between(folder, name, first, group + reach + CODE)
             for at in sync_words(bits):

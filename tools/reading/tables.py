@@ -1,7 +1,7 @@
 """The tables of `inspect` and `check`: the events of lanes, and the faults of words."""
 
 from reading.ending import note
-from reading.files import Refused
+from reading.files import Refused, rows_of
 from reading.outputs import EVENTS as EVENTS_END, FAULTS as FAULTS_END
 
 EVENTS = ("bad", "sync", "state", "skip", "diag", "health", "balance", "lock", "lost-headers", "lost-sync", "lost-state", "unframed")
@@ -61,14 +61,14 @@ def faults_in(folder, name):
 
 def table_of(folder, name, heading):
     """The rows of a table after its heading, each with its place before its fields."""
-    rows = folder.rows(name)
-    if not rows or rows[0] != heading:
+    rows = list(rows_of(folder.content(name)))
+    if not rows or rows[0].fields != heading:
         raise Refused("%s: no table with the heading %s" % (name, ",".join(heading)))
-    for number, row in enumerate(rows[1:], 2):
-        where = "%s: row %d" % (name, number)
-        if len(row) != len(heading):
-            raise Refused("%s: %d fields" % (where, len(row)))
-        yield (where, *row)
+    for row in rows[1:]:
+        where = "%s:%d" % (name, row.line)
+        if len(row.fields) != len(heading):
+            raise Refused("%s: %d fields" % (where, len(row.fields)))
+        yield (where, *row.fields)
 
 
 def number_of(where, field):

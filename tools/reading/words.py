@@ -5,6 +5,7 @@ from bisect import bisect_right
 from collections import namedtuple
 
 from reading.files import Refused
+from reading.tables import table_of
 
 
 class Packet(namedtuple("Packet", "channel number first last data end")):
@@ -92,17 +93,11 @@ SPAN_HEADING = "after_group,after_index,before_group,before_index,why".split(","
 def span_rows(folder, name):
     """The rows of a table of fault spans: where each stands, its two places, and why. A group is named by the bit at which lane 0's Sync
     word begins; all words of a words file are group 0."""
-    rows = folder.rows(name)
-    if not rows or rows[0] != SPAN_HEADING:
-        raise Refused("%s: no table of fault spans" % name)
     found = []
-    for number, row in enumerate(rows[1:], 2):
-        where = "%s: row %d" % (name, number)
-        if len(row) != 5:
-            raise Refused("%s: %d fields" % (where, len(row)))
-        if row[4] not in REASONS:
-            raise Refused("%s: %r is no reason of a span" % (where, row[4][:20]))
-        found.append((where, [place_of(where, part) for part in (row[:2], row[2:4])], row[4]))
+    for where, *places, why in table_of(folder, name, SPAN_HEADING):
+        if why not in REASONS:
+            raise Refused("%s: %r is no reason of a span" % (where, why[:20]))
+        found.append((where, [place_of(where, part) for part in (places[:2], places[2:])], why))
     return found
 
 
