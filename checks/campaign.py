@@ -15,6 +15,7 @@ import xml.etree.ElementTree as xml
 
 from captures import capture
 from devices import changed, sums
+from machine import copy_examples, patience
 from runs import content, write_files
 from tally import Tally
 
@@ -42,7 +43,7 @@ REFUSED = [
 
 
 def run(words, folder, program=PROGRAM, surroundings=None):
-    return subprocess.run(words, cwd=folder, stdin=subprocess.DEVNULL, capture_output=True, encoding="utf-8", timeout=SECONDS,
+    return subprocess.run(words, cwd=folder, stdin=subprocess.DEVNULL, capture_output=True, encoding="utf-8", timeout=patience(SECONDS),
                           env={**os.environ, "INTERLAKEN_PROGRAM": program, **(surroundings or {})})
 
 
@@ -394,7 +395,7 @@ def check_machines(tally, folder, by_hand):
 def main():
     tally = Tally("campaign")
     with tempfile.TemporaryDirectory(prefix="campaign.") as folder:
-        shutil.copytree(os.path.join(TOP, "examples"), folder, dirs_exist_ok=True)
+        copy_examples(TOP, folder)
         by_hand = check_generate(tally, folder)
         check_failing(tally, folder, by_hand)
         check_refused(tally, folder)

@@ -13,7 +13,8 @@ import tempfile
 from collections import Counter
 
 from devices import changed, sums
-from runs import copy_files, write_files
+from machine import copy_examples
+from runs import write_files
 from tally import Tally
 
 PROGRAM, TOP = os.path.abspath(sys.argv[1]), os.path.abspath(sys.argv[2])
@@ -351,7 +352,7 @@ def check_ends(tally, folder):
 def main():
     tally = Tally("explain")
     with tempfile.TemporaryDirectory() as path:
-        copy_files(os.path.join(TOP, "examples"), path)
+        copy_examples(TOP, path)
         folder = Folder(PROGRAM, path)
         for name, text in FILES.items():
             with open(folder.path(name), "w", encoding="utf-8") as file:

@@ -14,7 +14,8 @@ sys.path.insert(0, os.path.join(TOP, "tools"))
 
 from drawing.svg import length_of
 from devices import BREAKS, SPOILED_SLOTS, Device, changed, spoiled, sums
-from runs import content, copy_files, write_files
+from machine import copy_examples
+from runs import content, write_files
 from tally import Tally
 
 TOOL = os.path.join(TOP, "tools", "picture")
@@ -335,7 +336,7 @@ def check_joined(results, folder):
 def main():
     results = Tally("pictures")
     with tempfile.TemporaryDirectory() as folder:
-        copy_files(os.path.join(TOP, "examples"), folder)
+        copy_examples(TOP, folder)
         steps = [check_examples, check_spoiled, check_stale, check_changed, check_tables, check_joined, check_device] + [partial(check_case, number=number) for number in CASES] + [check_wide_link, check_pictures, check_tour]
         for step in steps:
             try:

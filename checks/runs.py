@@ -3,13 +3,14 @@
 import collections
 import importlib
 import os
-import shutil
 import subprocess
 import sys
 import tempfile
 import traceback
 
-# A run has to end by then.
+from machine import patience
+
+# A run has to end by then on an idle machine.
 SECONDS = 120
 
 # The status, the text, what came on standard error, and the files that stand after the run.
@@ -31,15 +32,6 @@ def write_files(folder, files):
             file.write(data)
 
 
-def copy_files(source, target):
-    """Copies the files of a folder and those below it into one that is there, which may be written even if the source may not."""
-    for folder, _, names in os.walk(source):
-        there = os.path.join(target, os.path.relpath(folder, source))
-        os.makedirs(there, exist_ok=True)
-        for name in names:
-            shutil.copyfile(os.path.join(folder, name), os.path.join(there, name))
-
-
 def left_by(program, words, before, seconds=SECONDS, environment=None):
     """The run of the program with these words in a folder with these files. One that does not end in time is stopped; its status is
     a text that says so, and it left nothing."""
@@ -47,9 +39,9 @@ def left_by(program, words, before, seconds=SECONDS, environment=None):
         write_files(folder, before)
         how = {"cwd": folder, "stdin": subprocess.DEVNULL, "capture_output": True, "env": {**os.environ, **(environment or {})}}
         try:
-            done = subprocess.run([program] + words, timeout=seconds, **how)
+            done = subprocess.run([program] + words, timeout=patience(seconds), **how)
         except subprocess.TimeoutExpired:
-            return Run("none after %d seconds" % seconds, b"", b"", {})
+            return Run("none after %d seconds" % patience(seconds), b"", b"", {})
         return Run(done.returncode, done.stdout, done.stderr, files_in(folder))
 
 

@@ -18,7 +18,8 @@ from collections import Counter
 
 from captures import capture
 from devices import BREAKS, CUT, GROUP, LANES, METAFRAME, PACKETS, PERIOD, SPOILED_SLOTS, Device, changed, spoiled, sums
-from runs import content, copy_files, write_files
+from machine import copy_examples
+from runs import content, write_files
 from tally import Tally
 
 PROGRAM, TOP = os.path.abspath(sys.argv[1]), os.path.abspath(sys.argv[2])
@@ -340,7 +341,7 @@ def check_dumps(tally, folder):
 def main():
     tally, lost, struck = Tally("slots"), 0, 0
     with tempfile.TemporaryDirectory() as path:
-        copy_files(os.path.join(TOP, "examples"), path)
+        copy_examples(TOP, path)
         folder = Folder(PROGRAM, path)
         for number in range(LINKS):
             for name, data in random_link(random.Random(number), "random%d" % number).items():

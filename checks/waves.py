@@ -12,7 +12,8 @@ from bisect import bisect_right
 from collections import Counter, namedtuple
 
 from devices import BREAKS, CUT, LANES, METAFRAME, PACKETS, SKIPS, SPOILED_SLOTS, Device, changed, spoiled, sums
-from runs import content, copy_files, write_files
+from machine import copy_examples, patience
+from runs import content, write_files
 from tally import Tally
 
 PROGRAM, TOP = os.path.abspath(sys.argv[1]), os.path.abspath(sys.argv[2])
@@ -35,7 +36,7 @@ DRAWN = 8
 
 
 def run(words, folder):
-    return subprocess.run(words, cwd=folder, capture_output=True, encoding="utf-8", timeout=120)
+    return subprocess.run(words, cwd=folder, capture_output=True, encoding="utf-8", timeout=patience(120))
 
 
 def printed(tally, folder, command, name):
@@ -350,7 +351,7 @@ def expect_refused(tally, folder, what, words, told):
 def main():
     tally = Tally("waves")
     with tempfile.TemporaryDirectory() as folder:
-        copy_files(os.path.join(TOP, "examples"), folder)
+        copy_examples(TOP, folder)
         for shape in EXAMPLES:
             check_sent(tally, folder, shape)
         check_damaged(tally, folder)

@@ -57,7 +57,7 @@ def unknown_command(words):
         rest = [word for word in words if word != found]
         return "the command comes first: `interlaken %s`" % " ".join([found] + rest)
     if name.lstrip("-") in ("help", "h", "version", "V"):
-        return "the program prints no help and no version; these are the commands"
+        return "these are the commands; `./interlaken --help` says what each does, and `./interlaken --version` what is run"
     near = difflib.get_close_matches(name.lower(), COMMANDS, 1)
     return "unknown command %s%s" % (shown_name(name), ": `%s`?" % near[0] if near else "")
 
