@@ -5,7 +5,7 @@
 # gate or `rt lib` has built, or that of release/. CASES=1000 compares as many generated cases, SEQUENCES=100000 tries as many sequences.
 set -u
 . "$(dirname "$0")/program.bash"
-wants cc gcc
+wants_cc
 crate=$top/crates/interlaken_c
 . "$top/tools/archive.bash"
 if ! archive=$(find_archive "$top"); then

@@ -11,23 +11,28 @@ No page of the repository has a place that is still to be filled, as a measured 
 import glob
 import os
 import re
-import shutil
 import signal
 import subprocess
 import sys
 import tempfile
 
+from machine import copy_examples, has_tool, patience
 from tally import Tally
 
 PROGRAM, TOP = os.path.abspath(sys.argv[1]), os.path.abspath(sys.argv[2])
 # The pages, with the folder of the first command of each.
-PAGES = {"README.md": "", "docs/TOUR.md": "examples", "tools/README.md": "", "examples/testbench/README.md": "examples/testbench"}
-# What the pages call that a machine may lack: the tool and its Debian package, by the command that needs it.
-TOOLS = {"iverilog": ("iverilog", "iverilog"), "vvp": ("vvp", "iverilog"), "verilator": ("verilator", "verilator"), "../tools/campaign": ("parallel", "parallel")}
+PAGES = {"README.md": "", "docs/TOUR.md": "examples", "tools/README.md": "", "examples/testbench/README.md": "examples/testbench",
+         "docs/DEVICE.md": "examples/device"}
+# What the pages call that a machine may lack: the tools and their Debian packages, by the command that needs them.
+TOOLS = {
+    "iverilog": [("iverilog", "iverilog")], "vvp": [("vvp", "iverilog")], "../tools/campaign": [("parallel", "parallel")],
+    # It calls the others where it builds a program.
+    "verilator": [("verilator", "verilator"), ("make", "make"), ("c++", "g++")],
+}
 UNFILLED = re.compile("@[A-Z_]+@")
 TELLS_STATUS = "echo $?"
-# A command has to end by then.
-SECONDS = 60
+# A command has to end by then on an idle machine: a build by verilator takes longest.
+SECONDS = 90
 # The commands of a page stand one on another, so its rest is not tried after this many failures.
 FAILURES = 2
 
@@ -51,14 +56,14 @@ def commands(number, lines):
 
 def missing_tool(lines):
     """The first tool that the commands of a block need and that is not there, with its package; or nothing."""
-    called = (line[2:].split()[0] for line in lines if line.startswith("$ "))
-    needed = (TOOLS[command] for command in called if command in TOOLS)
-    return next((needs for needs in needed if not shutil.which(needs[0])), None)
+    called = [line[2:].split()[0] for line in lines if line.startswith("$ ")]
+    needed = [tool for command in called for tool in TOOLS.get(command, [])]
+    return next((needs for needs in needed if not has_tool(needs[0])), None)
 
 
 def make_folder(top, page):
     """Puts the examples, the program and the tools into a folder, as the page has them; the folder of its first command."""
-    shutil.copytree(os.path.join(TOP, "examples"), os.path.join(top, "examples"))
+    copy_examples(TOP, os.path.join(top, "examples"))
     os.symlink(PROGRAM, os.path.join(top, "interlaken"))
     os.symlink(os.path.join(TOP, "tools"), os.path.join(top, "tools"))
     return os.path.join(top, PAGES[page])
@@ -76,7 +81,7 @@ class Shell:
         how = {"stdin": subprocess.DEVNULL, "stdout": subprocess.PIPE, "stderr": subprocess.STDOUT, "encoding": "utf-8", "errors": "replace"}
         shell = subprocess.Popen(["bash", "-c", script], cwd=self.folder, start_new_session=True, **how)
         try:
-            printed = shell.communicate(timeout=self.seconds)[0]
+            printed = shell.communicate(timeout=patience(self.seconds))[0]
         except subprocess.TimeoutExpired:
             os.killpg(shell.pid, signal.SIGKILL)
             shell.communicate()

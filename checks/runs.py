@@ -8,7 +8,9 @@ import sys
 import tempfile
 import traceback
 
-# A run has to end by then.
+from machine import patience
+
+# A run has to end by then on an idle machine.
 SECONDS = 120
 
 # The status, the text, what came on standard error, and the files that stand after the run.
@@ -37,9 +39,9 @@ def left_by(program, words, before, seconds=SECONDS, environment=None):
         write_files(folder, before)
         how = {"cwd": folder, "stdin": subprocess.DEVNULL, "capture_output": True, "env": {**os.environ, **(environment or {})}}
         try:
-            done = subprocess.run([program] + words, timeout=seconds, **how)
+            done = subprocess.run([program] + words, timeout=patience(seconds), **how)
         except subprocess.TimeoutExpired:
-            return Run("none after %d seconds" % seconds, b"", b"", {})
+            return Run("none after %d seconds" % patience(seconds), b"", b"", {})
         return Run(done.returncode, done.stdout, done.stderr, files_in(folder))
 
 

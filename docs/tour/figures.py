@@ -25,10 +25,17 @@ from reading.files import Folder
 PAGES = [("burst", "damaged.plan", []), ("link", "damaged.plan", [("lanes", "lanes"), ("stream", "stream")]), ("duplex", "two_ends.duplex", [("queues", "two_ends")])]
 
 
+def copy_examples(source, target):
+    """Copies the files of a folder without its mode, which may be that of one that nobody writes."""
+    for name in os.listdir(source):
+        if os.path.isfile(os.path.join(source, name)):
+            shutil.copyfile(os.path.join(source, name), os.path.join(target, name))
+
+
 def main():
     program, target = os.path.abspath(sys.argv[1]), os.path.abspath(sys.argv[2]) if len(sys.argv) > 2 else HERE
     with tempfile.TemporaryDirectory() as work:
-        shutil.copytree(os.path.join(HERE, "..", "..", "examples"), work, dirs_exist_ok=True)
+        copy_examples(os.path.join(HERE, "..", "..", "examples"), work)
         os.chdir(work)
         folder = Folder(program, work)
         for name, plan, pictures in PAGES:

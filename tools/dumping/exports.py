@@ -7,7 +7,7 @@ from dumping.options import BITS, RAW, drop_of, lanes_of, places_of
 from dumping.progress import Progress
 from reading.bit_orders import COMPLEMENT
 from reading.files import Refused, shown_name
-from reading.outputs import Outputs, must_be_free
+from reading.writing import Outputs, must_be_free
 
 BLOCK = 1 << 20  # bits of a lane that are written at once, about
 LINE = 64  # bits of a line in the form `bits`

@@ -6,7 +6,7 @@ from dumping.progress import Progress
 from dumping.texts import BLOCK, Text
 from dumping.vcd import Dump
 from reading.files import Refused, shown_name
-from reading.outputs import Outputs, must_have_no_lanes
+from reading.writing import Outputs, must_have_no_lanes
 
 SAMPLES = 1 << 12  # words of a lane that are put in order at once
 

@@ -77,6 +77,18 @@ def tell(tool, what):
     return FAILED
 
 
+def must_be_new(path, name, overwrite):
+    """An error where a file is there that would be written over; `--overwrite` allows it."""
+    if os.path.lexists(path) and not overwrite:
+        raise Refused("%s exists; --overwrite writes over it" % shown_name(name))
+
+
+def note(text):
+    """Tells a person at a terminal what a tool leaves out; a script reads none."""
+    if sys.stderr is not None and sys.stderr.isatty():
+        print("%s: note: %s" % (os.path.basename(sys.argv[0]), one_line(text)), file=sys.stderr)
+
+
 def one_line(text):
     return " ".join(str(text).splitlines())
 
