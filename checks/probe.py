@@ -11,14 +11,15 @@ import time
 from collections import namedtuple
 
 from captures import capture
-from lane_maker import DATA, Sender, make_lanes, with_crc24
+from lane_maker import CONTROL, DATA, Sender, make_lanes, with_crc24
 from runs import PythonTool, content, left_by
 from tally import Tally
 
 PROGRAM, TOP = os.path.abspath(sys.argv[1]), os.path.abspath(sys.argv[2])
 PROBE = PythonTool(os.path.join(TOP, "tools", "probe"), "probing.command").run
 LANES = PythonTool(os.path.join(TOP, "tools", "lanes"), "dumping.command").run
-CODE = 67
+JUDGE = PythonTool(os.path.join(TOP, "tools", "judge"), "judging.command").run
+CODE, IDLE = 67, 0x81FFFF0000188177
 
 # A link: its lanes, metaframe and Skip words, and further rows of its plan.
 Shape = namedtuple("Shape", "name lanes metaframe skips rows")
@@ -176,6 +177,7 @@ def check_received(check, what, files):
     words = gathered.files.get("y.words", b"")
     lanes = re.findall(rb"^lane \d+ locks=1 first=\d+ lost=0 unframed=0 bad=0 sync=0 state=0 diag=0$", gathered.text, re.MULTILINE)
     check.tally.expect(what + ", gathered", (gathered.status, len(lanes), len(words) > 900), (0, sum(".lane." in name for name in files), True))
+    check.tally.expect(what + ", judged", JUDGE(["y.plan"], files).status, 0)
     judged = left_by(PROGRAM, ["check", "y.plan"], {**files, "y.words": b"\3" + bytes(8) + words})
     check.tally.expect(what + ", checked", (judged.status, judged.text.split(b"\n")[1:3]), (0, [b"faults 1", b"rule bad=1"]))
 
@@ -248,6 +250,7 @@ def check_plans(check, link):
     """What is said of a plan, and where the plan is written."""
     files, name = files_of(link.bits, link.shape.name), link.shape.name + ".plan"
     for row, other, told in ((None, None, None), ("metaframe,40", "metaframe,48", "metaframe 40 fits, and three.plan has 48"), ("skips,2", "skips,1", "skips 2 fits, and three.plan has 1"),
+                             ("metaframe,40", "metaframe,80", "metaframe 40 fits, and three.plan has 80"),
                              ("burst_max,128", "burst_max,64", "a burst has 128 bytes, and burst_max of three.plan is 64"),
                              ("burst_short,32", "burst_short,128", "burst words are %d bytes apart, and burst_short of three.plan is 128" % link.bursts()[1]),
                              ("channel,7,b.pcap", "channel,8", "three.plan does not list channel 7"), ("lanes,3", "lanes,4", "lanes 3 fits, and three.plan has 4")):
@@ -285,6 +288,17 @@ def check_faults(check, link):
     check.tally.expect("single faults", (run.status, b"nothing has to be changed" in run.text), (0, True))
 
 
+def check_quiet(check, link):
+    """Lanes without a burst: their order does not show."""
+    idles = [(CONTROL, IDLE)] * (10 * link.group)
+    bits = [some[500:] for some in make_lanes(idles, link.shape.lanes, link.shape.metaframe, link.shape.skips)]
+    run = probe(files_of(bits, "y"))
+    check.tally.expect("lanes without bursts", (run.status, b"order of the lanes: no data words" in run.text, b"channel,0\n" in plan_in(run.text)), (0, True, True))
+    check.tally.expect("lanes without bursts, judged", JUDGE(["y.plan"], {**files_of(bits, "y"), "y.plan": plan_in(run.text)}).status, 0)
+    run = probe(files_of([some[:link.period // 2 + 100] for some in link.bits]))
+    check.tally.expect("half a metaframe", (run.status, run.error), (1, b""))
+
+
 def check_seconds(tally):
     """24 lanes of random traffic, and 24 lanes without any, in the processor's seconds of one process."""
     with tempfile.TemporaryDirectory() as folder:
@@ -319,6 +333,7 @@ def main():
     check_plans(check, three)
     check_refused(check)
     check_faults(check, three)
+    check_quiet(check, three)
     check_seconds(tally)
     return tally.end()
 
