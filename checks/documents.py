@@ -34,8 +34,8 @@ PAGES = {"README.md": "", "docs/TOUR.md": "examples", "tools/README.md": "", "ex
 TOOLS = {"iverilog": ("iverilog", "iverilog"), "vvp": ("vvp", "iverilog"), "verilator": ("verilator", "verilator"), "../tools/campaign": ("parallel", "parallel")}
 UNFILLED = re.compile("@[A-Z_]+@")
 TELLS_STATUS = "echo $?"
-# A command has to end by then.
-SECONDS = 60
+# A command has to end by then. verilator builds for more than a minute if other programs are running.
+SECONDS = 300
 # The commands of a page stand one on another, so its rest is not tried after this many failures.
 FAILURES = 2
 
