@@ -38,12 +38,12 @@ class Sources:
     def all_words(self, crates):
         return self.rows.union(*(self.words(crate) for crate in crates))
 
-    def lacks(self, name, crates):
-        """Whether a name, with the crate before it or not, is in none of these crates' sources."""
+    def lacks(self, name, pool):
+        """Whether a name is not among these words, or, if a crate is before it, not in the sources of that one."""
         first, *rest = name.split("::")
         if first in self.below:
             return not set(rest) <= self.words(first)
-        return not {first, *rest} <= self.all_words(crates)
+        return not {first, *rest} <= pool
 
 
 def text_of(top, page):
@@ -54,16 +54,16 @@ def text_of(top, page):
 def faults_of_crates(sources, page):
     for crates, body in ENTRY.findall(text_of(sources.top, page)):
         names = re.findall(r"\w+", crates)
-        pool = {*names, "command_words", *(below for name in names for below in sources.below.get(name, []))}
+        pool = sources.all_words({*names, "command_words", *(below for name in names for below in sources.below.get(name, []))})
         for name in NAME.findall(body):
             if sources.lacks(name, pool):
                 yield "%s: %s is not in its sources" % (", ".join(names), name)
 
 
 def faults_of_page(sources, page):
-    text = text_of(sources.top, page)
+    text, pool = text_of(sources.top, page), sources.all_words(sources.below)
     for name in sorted(set(NAME.findall(text))):
-        if sources.lacks(name, sources.below):
+        if sources.lacks(name, pool):
             yield "%s is in no crate's sources" % name
     for crate, files in OF_CRATE.findall(text):
         for name in re.findall(r"\w+", files):
