@@ -13,7 +13,10 @@ import tempfile
 import time
 import xml.etree.ElementTree as xml
 
-from runs import content
+from captures import capture
+from devices import changed, sums
+from machine import copy_examples, patience
+from runs import content, write_files
 from tally import Tally
 
 PROGRAM, TOP = os.path.abspath(sys.argv[1]), os.path.abspath(sys.argv[2])
@@ -29,17 +32,18 @@ CODE, PERIOD, GROUP = 67, 67 * 32, 56
 # Words that are refused, and a part of what is said of them.
 REFUSED = [
     (["a", "b", "c"], "'a' is no number"), (["1", "x", "runs"], "'x' is no number"), (["5", "4", "runs"], "LAST, 4, is below FIRST, 5"),
-    (["1", "2"], "required: FOLDER"), (["-1", "2", "runs"], "usage: "), (["1", "18446744073709551616", "runs"], "is no number of 0 to"),
+    (["1", "2"], "required: FOLDER"), (["-1", "2", "runs"], "`campaign --help` shows the words"), (["1", "18446744073709551616", "runs"], "is no number of 0 to"),
     (["1", "2", "runs", "--speed", "3"], "unrecognized arguments: --speed"), (["1", "2", "runs", "--jobs", "many"], "'many' is no number of jobs"),
     (["1", "2", "runs", "--dark", "1"], "--plan needs a rate"), (["1", "2", "runs", "--plan", "damaged.plan"], "--plan needs a rate"),
     (["1", "2", "runs", "--plan", "damaged.plan", "--flips-per-million", "-4"], "'-4' is no number from 0"),
     (["1", "2", "runs", "--plan", "damaged.plan", "--flips-per-million", "1000000"], "is no number from 0"),
     (["1", "2", "runs", "--plan", "damaged.plan", "--skew", "65536"], "is no number of 0 to 65535"),
+    (["1", "2", "runs", "--each", "true"], "--each needs --plan"),
 ]
 
 
 def run(words, folder, program=PROGRAM, surroundings=None):
-    return subprocess.run(words, cwd=folder, stdin=subprocess.DEVNULL, capture_output=True, encoding="utf-8", timeout=SECONDS,
+    return subprocess.run(words, cwd=folder, stdin=subprocess.DEVNULL, capture_output=True, encoding="utf-8", timeout=patience(SECONDS),
                           env={**os.environ, "INTERLAKEN_PROGRAM": program, **(surroundings or {})})
 
 
@@ -176,17 +180,24 @@ def check_refused(tally, folder):
     """Words that are refused, folders and files that are not there, and results of another campaign."""
     for words, told in REFUSED:
         done = run([TOOL] + words, folder)
-        tally.expect("campaign " + " ".join(words), (done.returncode, done.stdout, "usage: campaign" in done.stderr, told in done.stderr), (2, "", True, True))
+        tally.expect("campaign " + " ".join(words), (done.returncode, done.stdout, done.stderr.count("\n"), told in done.stderr), (2, "", 1, True))
     for words, told in (([1, 2, "one.pcap"], "campaign: one.pcap is a file, and a folder is wanted"), ([1, 2, "no/program", "--program", "./absent"], "campaign: there is no program ./absent"),
                         ([1, 2, "none", "--plan", "absent.plan", "--dark", 1], "campaign: absent.plan: No such file"),
                         ([1, 6, "runs"], "campaign: runs/1-6.results is of another campaign")):
         status, lines = campaign(folder, *words)
-        tally.expect("campaign " + " ".join(map(str, words)), (status, len(lines), lines[0][:len(told)]), (1, 1, told))
+        tally.expect("campaign " + " ".join(map(str, words)), (status, len(lines), lines[0][:len(told)]), (2, 1, told))
+    write_files(folder, {"mine.xml": b"<mine/>", "1-2.csv": b"mine"})
+    os.makedirs(os.path.join(folder, "mine", "2"))
+    for words, told in (([1, 2, "new", "--junit", "mine.xml"], "mine.xml"), ([1, 2, "."], "./1-2.csv"), ([1, 2, "mine", "--keep"], "mine/2")):
+        before = sums(folder)
+        status, lines = campaign(folder, *words)
+        tally.expect("campaign %s over %s" % (words, told), (status, lines), (2, ["campaign: %s exists, and no campaign made it; --overwrite writes over it" % told]))
+        tally.expect("campaign %s, changed" % words, changed(before, sums(folder)), [])
     bare = os.path.join(folder, "bare")
     os.mkdir(bare)
     os.symlink(sys.executable, os.path.join(bare, "python3"))
     status, lines = campaign(folder, 1, 2, "bare_runs", surroundings={"PATH": bare})
-    tally.expect("without parallel", (status, lines), (1, ["campaign: parallel is not there (Debian package parallel)"]))
+    tally.expect("without parallel", (status, lines), (2, ["campaign: parallel is not there (Debian package parallel)"]))
 
 
 def schedule_of(folder, number):
@@ -257,6 +268,65 @@ def check_held(tally, folder):
     tally.expect("held", (status, [row["status"] for row in table(folder, "held/1-2.csv")], found["run held"], found["channel off in mid-packet"]), (0, ["3", "3"], 2, 2))
 
 
+# A command that takes the lanes as they come, and one that leaves those of another plan.
+TAKES = 'env | grep ^INTERLAKEN_ | sort > seen; for lane in 0 1; do cp "$INTERLAKEN_LANES_IN.lane.$lane" "$INTERLAKEN_LANES_OUT.lane.$lane"; done'
+OTHERS = 'for lane in 0 1; do cp %s.lane.$lane "$INTERLAKEN_LANES_OUT.lane.$lane"; done'
+
+
+def judged_rows(folder, plan):
+    """The rows that tools/judge finds by a plan in a folder."""
+    run([os.path.join(TOP, "tools", "judge"), plan], folder)
+    return content(os.path.join(folder, plan.replace("received.plan", "left.judged.csv"))).decode().splitlines()[1:]
+
+
+def check_each(tally, folder):
+    """A command that is run for each number: what it finds, what it leaves, and how it fails."""
+    words = ["--plan", "damaged.plan", "--flips-per-million", 100, "--keep", "--each"]
+    status, lines = campaign(folder, 1, 3, "each", *words, TAKES, "--coverage")
+    rows, kept = table(folder, "each/1-3.csv"), [os.path.join(folder, "each", "%d" % number) for number in (1, 2, 3)]
+    tally.expect("each, status and columns", (status, list(rows[0])), (0, ["number", "status", "spans", "missing", "findings", "struck"]))
+    tally.expect("each, findings", [int(row["findings"]) for row in rows], [len(judged_rows(path, "case.received.plan")) for path in kept])
+    tally.expect("each, some findings", any(row["findings"] != "0" for row in rows), True)
+    seen = [dict(line.split("=", 1) for line in content(os.path.join(path, "seen")).decode().splitlines()) for path in kept]
+    real = [os.path.realpath(path) for path in kept]
+    tally.expect("each, environment", [[one["INTERLAKEN_" + name] for name in ("NUMBER", "PLAN", "LANES_IN", "LANES_OUT")] for one in seen],
+                 [["%d" % number, path + "/case.plan", path + "/case.out.damaged", path + "/case.left"] for number, path in enumerate(real, 1)])
+    summary = "numbers=3 not_done=0 with_missing=%d missing=%d struck=%d with_findings=%d findings=%d" % (
+        sum(row["missing"] != "0" for row in rows), sum(int(row["missing"]) for row in rows), sum(int(row["struck"]) for row in rows),
+        sum(row["findings"] != "0" for row in rows), sum(int(row["findings"]) for row in rows))
+    tally.expect("each, summary", lines[-2], summary)
+    nothing = campaign(folder, 1, 3, "nothing", *words, "true")
+    tally.expect("a command that leaves nothing", (nothing[0], table(folder, "nothing/1-3.csv")), (0, rows))
+    check_each_others(tally, folder)
+    fails = 'echo one; [ "$INTERLAKEN_NUMBER" != 2 ] || { echo it went wrong; exit 7; }'
+    status, lines = campaign(folder, 1, 3, "fails", "--plan", "damaged.plan", "--each", fails, "--junit", "fails.xml")
+    tally.expect("a command that fails", (status, lines[0], lines[1].split()[:2]), (1, "number 2: status 7: it went wrong", ["numbers=3", "not_done=1"]))
+    failures = [(case.get("name"), part.text) for case in xml.parse(os.path.join(folder, "fails.xml")).getroot() for part in case]
+    tally.expect("a command that fails, JUnit", failures, [("number 2", "it went wrong")])
+    for name, command, told in (("half", 'cp "$INTERLAKEN_LANES_IN.lane.0" "$INTERLAKEN_LANES_OUT.lane.0"', "number 1: no run: it left case.left.lane.0, and not all 2 lanes"),
+                                ("late", "sleep 60", "number 1: status 124: no end after 1 seconds")):
+        status, lines = campaign(folder, 1, 1, name, "--plan", "damaged.plan", "--each", command, "--timeout", 1)
+        tally.expect("a command that is %s" % name, (status, lines[0]), (1, told))
+    other = campaign(folder, 1, 1, "half", "--plan", "damaged.plan", "--each", "true")
+    tally.expect("another command", (other[0], other[1][0][:len("campaign: half/1-1.results is of another")]), (2, "campaign: half/1-1.results is of another"))
+
+
+def check_each_others(tally, folder):
+    """The words of the lanes that a command leaves are counted, and not those that were sent."""
+    with open(os.path.join(folder, "odd.in"), "wb") as file:
+        file.write(capture(["5x11"]))
+    plan = content(os.path.join(folder, "damaged.plan")).decode()
+    for old, new in (("one.pcap", "odd.in"), ("two.pcap", "odd.in"), ("schedule,damaged.schedule\n", ""), ("out,damaged", "out,odd")):
+        plan = plan.replace(old, new)
+    with open(os.path.join(folder, "odd.plan"), "w", encoding="ascii") as file:
+        file.write(plan)
+    run([PROGRAM, "send", "odd.plan"], folder)
+    status, _ = campaign(folder, 1, 2, "others", "--plan", "damaged.plan", "--coverage", "--each", OTHERS % shlex.quote(os.path.join(folder, "odd")))
+    found = counts(folder, "others/1-2.coverage.csv")
+    tally.expect("lanes that a command leaves", (status, {item: count for item, count in found.items() if item.startswith("eop ") and count}), (0, {"eop 3": 20}))
+    tally.expect("what is not known of them", [item for item in found if item.startswith("accident ") or item in ("run held", "channel off in mid-packet")], [])
+
+
 def free_port():
     with socket.socket() as one:
         one.bind(("127.0.0.1", 0))
@@ -325,12 +395,13 @@ def check_machines(tally, folder, by_hand):
 def main():
     tally = Tally("campaign")
     with tempfile.TemporaryDirectory(prefix="campaign.") as folder:
-        shutil.copytree(os.path.join(TOP, "examples"), folder, dirs_exist_ok=True)
+        copy_examples(TOP, folder)
         by_hand = check_generate(tally, folder)
         check_failing(tally, folder, by_hand)
         check_refused(tally, folder)
         check_plan(tally, folder)
         check_held(tally, folder)
+        check_each(tally, folder)
         check_machines(tally, folder, by_hand)
     return tally.end()
 

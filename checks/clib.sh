@@ -5,7 +5,7 @@
 # gate or `rt lib` has built, or that of release/. CASES=1000 compares as many generated cases, SEQUENCES=100000 tries as many sequences.
 set -u
 . "$(dirname "$0")/program.bash"
-wants cc gcc
+wants_cc
 crate=$top/crates/interlaken_c
 . "$top/tools/archive.bash"
 if ! archive=$(find_archive "$top"); then
@@ -23,6 +23,10 @@ holds 'calls of the header and of the archive' "$(grep -o '^uint32_t interlaken_
   "$(nm -g --defined-only "$archive" 2>/dev/null | grep -oE '\binterlaken_(receiver|transmitter|damage)_[a-z_]*$' | sort -u)"
 holds 'calls of the shared library' "$(nm -D --defined-only library/lib/libinterlaken.so | awk '$2 == "T" { sub(/@.*/, "", $3); print $3 }' | sort)" \
   "$(nm -g --defined-only "$archive" 2>/dev/null | grep -oE '\binterlaken_(receiver|transmitter|damage)_[a-z_]*$' | sort -u)"
+
+# One number counts for the program, the library and the formats.
+holds 'the version of the header and of the release' "$(sed -n 's/^#define INTERLAKEN_VERSION "\(.*\)"$/\1/p' "$include/interlaken.h")" \
+  "$(cat "$top/release/VERSION" 2>&1)"
 
 # The keys after `out` are of other files, and no plan of lanes lacks one.
 numbers=$(grep -oE '\bINTERLAKEN_[A-Z_]+ = [0-9]+' "$include/interlaken.h" | sed 's/^INTERLAKEN_//; s/ = / /' | LC_ALL=C sort)
@@ -71,10 +75,26 @@ same_as_receive() { # WHAT PLAN PREFIX SEED..
   done
 }
 
+# The example in the header's first comment, as the body of a function that main calls with a plan and a lane of one lane.
+header_example() {
+  printf '%s\n' '#include "interlaken.h"' '#include <stdio.h>' 'static uint8_t plan[65536], lane[65536];' \
+    'static size_t load(const char *name, uint8_t *bytes) {' '  FILE *file = fopen(name, "rb");' \
+    '  return file == NULL ? 0 : fread(bytes, 1, 65536, file);' '}' 'int main(int count, char **words) {' \
+    '  size_t plan_size = load(words[1], plan), size = load(words[count - 1], lane);'
+  sed -n '/interlaken_receiver r = /,/interlaken_receiver_free/ { s/^ \*//p; /interlaken_receiver_free/q }' "$include/interlaken.h"
+  printf '%s\n' '  return 0;' '}'
+}
+
 # The bytes of the one packet of a capture, in hex.
 hex_of() { # FILE
   od -An -v -tx1 -j40 "$1" | tr -d ' \n'
 }
+
+header_example >example.c
+cc -std=c99 "${strict[@]}" -o example example.c "$archive" "$top/examples/c/alloc.c" || gives_up "the header's example is not compiled"
+printf 'lanes,1\nmetaframe,32\nchannel,1,one.pcap\nout,one\n' >one.plan
+cp "$top/examples/one.pcap" . && "$program" send one.plan >/dev/null || gives_up 'send fails'
+holds "the header's example" "$(./example one.plan one.lane.0)" $'packet of 300 bytes\npacket of 40 bytes'
 
 cp "$top"/examples/{damaged.plan,damaged.schedule,one.pcap,two.pcap} . && "$program" link damaged.plan >/dev/null || gives_up 'link fails'
 same_as_receive 'examples/damaged.plan' damaged.plan damaged '' 1 2

@@ -4,7 +4,7 @@
 set -u
 . "$(dirname "$0")/program.bash"
 wants python3 python3
-wants cc gcc
+wants_cc
 . "$top/tools/archive.bash"
 if ! find_archive "$top" >/dev/null; then
   echo "$name: skipped, no archive of these sources (rt lib in crates/interlaken_c makes it)"

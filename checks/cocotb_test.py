@@ -8,15 +8,16 @@ import sys
 import tempfile
 
 from captures import packets_of
+from machine import copy_examples, patience
 from tally import Tally
 
 PROGRAM, TOP = os.path.abspath(sys.argv[1]), os.path.abspath(sys.argv[2])
-# The test of cocotb has to end by then.
+# A command has to end by then on an idle machine; the test of cocotb takes longest.
 SECONDS = 600
 
 
 def run(*words, folder, **more):
-    done = subprocess.run(words, cwd=folder, capture_output=True, text=True, timeout=SECONDS, env={**os.environ, **more})
+    done = subprocess.run(words, cwd=folder, capture_output=True, text=True, timeout=patience(SECONDS), env={**os.environ, **more})
     return done.returncode, done.stdout + done.stderr
 
 
@@ -66,7 +67,7 @@ def main():
     tally = Tally("cocotb")
     with tempfile.TemporaryDirectory(prefix="cocotb.") as top:
         folder = top + "/examples"
-        shutil.copytree(TOP + "/examples", folder, ignore=shutil.ignore_patterns("obj_dir", "library"))
+        copy_examples(TOP, folder)
         tally.expect("the library", run(TOP + "/tools/library", "library", folder=folder)[0], 0)
         library = folder + "/library/lib/libinterlaken.so"
         try_bits(tally, folder, library)

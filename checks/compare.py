@@ -12,10 +12,10 @@ that differ in a folder. What prints `KIND SEED: ..` is run again by --kinds KIN
 
 import argparse
 import itertools
-import multiprocessing
 import os
 import sys
 
+from machine import each
 from modeled import differences, left_by_model
 from random_cases import KINDS, LARGE, WIDE, make
 from runs import left_by, write_files
@@ -78,13 +78,12 @@ def tasks(given):
 
 def main():
     given, tally = arguments(), Tally("model")
-    with multiprocessing.Pool(given.jobs) as pool:
-        for kind, plans, found in pool.imap(compared, tasks(given), chunksize=1):
-            for what, wrong in found:
-                tally.count(what, wrong)
-            different = sum(bool(wrong) for _, wrong in found)
-            form = "" if plans == "drawn" else ", " + plans
-            print("%s%s: %d equal, %d different" % (kind, form, len(found) - different, different), flush=True)
+    for kind, plans, found in each(compared, tasks(given), given.jobs):
+        for what, wrong in found:
+            tally.count(what, wrong)
+        different = sum(bool(wrong) for _, wrong in found)
+        form = "" if plans == "drawn" else ", " + plans
+        print("%s%s: %d equal, %d different" % (kind, form, len(found) - different, different), flush=True)
     return tally.end()
 
 

@@ -6,28 +6,41 @@ no line stands below a command, the page says in words what it prints. A command
 the next one is `echo $?`, below which the page has the status. Where a tool of a block is missing the block is not tried.
 
 No page of the repository has a place that is still to be filled, as a measured number: a name between two `@`, in capital letters.
+What tools write into pages is what they would write now; the words of pages are those of documents.words
+(wording.py), and the names that they cite exist (cited.py).
 """
 
 import glob
 import os
 import re
-import shutil
 import signal
 import subprocess
 import sys
 import tempfile
 
-from tally import Tally
-
 PROGRAM, TOP = os.path.abspath(sys.argv[1]), os.path.abspath(sys.argv[2])
+sys.path.append(os.path.join(TOP, "tools"))
+
+from building import costs, edits
+from building.page import NoPlace, part_of
+from cited import check_cited
+from machine import copy_examples, has_tool, patience
+from tally import Tally
+from wording import check_words
+
 # The pages, with the folder of the first command of each.
-PAGES = {"README.md": "", "docs/TOUR.md": "examples", "tools/README.md": "", "examples/testbench/README.md": "examples/testbench"}
-# What the pages call that a machine may lack: the tool and its Debian package, by the command that needs it.
-TOOLS = {"iverilog": ("iverilog", "iverilog"), "vvp": ("vvp", "iverilog"), "verilator": ("verilator", "verilator"), "../tools/campaign": ("parallel", "parallel")}
+PAGES = {"README.md": "", "docs/TOUR.md": "examples", "docs/MORE.md": "examples", "docs/DEVICE.md": "examples/device", "tools/README.md": "",
+         "examples/testbench/README.md": "examples/testbench"}
+# What the pages call that a machine may lack: the tools and their Debian packages, by the command that needs them.
+TOOLS = {
+    "iverilog": [("iverilog", "iverilog")], "vvp": [("vvp", "iverilog")], "../tools/campaign": [("parallel", "parallel")],
+    # It calls the others where it builds a program.
+    "verilator": [("verilator", "verilator"), ("make", "make"), ("c++", "g++")],
+}
 UNFILLED = re.compile("@[A-Z_]+@")
 TELLS_STATUS = "echo $?"
-# A command has to end by then.
-SECONDS = 60
+# A command has to end by then on an idle machine: a build by verilator takes longest.
+SECONDS = 90
 # The commands of a page stand one on another, so its rest is not tried after this many failures.
 FAILURES = 2
 
@@ -51,14 +64,14 @@ def commands(number, lines):
 
 def missing_tool(lines):
     """The first tool that the commands of a block need and that is not there, with its package; or nothing."""
-    called = (line[2:].split()[0] for line in lines if line.startswith("$ "))
-    needed = (TOOLS[command] for command in called if command in TOOLS)
-    return next((needs for needs in needed if not shutil.which(needs[0])), None)
+    called = [line[2:].split()[0] for line in lines if line.startswith("$ ")]
+    needed = [tool for command in called for tool in TOOLS.get(command, [])]
+    return next((needs for needs in needed if not has_tool(needs[0])), None)
 
 
 def make_folder(top, page):
     """Puts the examples, the program and the tools into a folder, as the page has them; the folder of its first command."""
-    shutil.copytree(os.path.join(TOP, "examples"), os.path.join(top, "examples"))
+    copy_examples(TOP, os.path.join(top, "examples"))
     os.symlink(PROGRAM, os.path.join(top, "interlaken"))
     os.symlink(os.path.join(TOP, "tools"), os.path.join(top, "tools"))
     return os.path.join(top, PAGES[page])
@@ -76,7 +89,7 @@ class Shell:
         how = {"stdin": subprocess.DEVNULL, "stdout": subprocess.PIPE, "stderr": subprocess.STDOUT, "encoding": "utf-8", "errors": "replace"}
         shell = subprocess.Popen(["bash", "-c", script], cwd=self.folder, start_new_session=True, **how)
         try:
-            printed = shell.communicate(timeout=self.seconds)[0]
+            printed = shell.communicate(timeout=patience(self.seconds))[0]
         except subprocess.TimeoutExpired:
             os.killpg(shell.pid, signal.SIGKILL)
             shell.communicate()
@@ -135,9 +148,38 @@ def check_filled(tally):
     tally.count("pages", "" if len(pages) >= len(PAGES) else "there are %d" % len(pages))
 
 
+def part_in(page, name):
+    """What a tool wrote into a page, or why there is no place for it."""
+    with open(os.path.join(TOP, page), encoding="utf-8") as file:
+        try:
+            return part_of(file.read(), name)
+        except NoPlace as error:
+            return str(error)
+
+
+def check_made(tally):
+    """That what tools write into pages is up to date. The first line of the table of costs says when they were measured."""
+    faults = list(edits.faults_of(edits.edits_in(TOP), edits.reasons_in(TOP)))
+    tally.count("checks/edits/REASONS.csv", "\n  ".join(faults))
+    if not faults:
+        is_new = part_in("docs/WRONG_BODIES.md", "edits") == edits.page_part(TOP)
+        tally.count("docs/WRONG_BODIES.md", "" if is_new else "its list is not that of today: tools/wrong_bodies --page writes it")
+    with open(os.path.join(TOP, "docs", "WORKING.md"), encoding="utf-8") as file:
+        working = file.read()
+    names = [os.path.basename(path)[: -len(".sh")] for path in sorted(glob.glob(os.path.join(TOP, "checks", "*.sh")))]
+    lacking = [name for name in names if "\n| `%s` |" % name not in working]
+    tally.count("the checks of docs/WORKING.md", "it has no row of " + ", ".join(lacking) if lacking else "")
+    part = part_in("docs/WORKING.md", "seconds")
+    is_new = part == costs.page_part(TOP, part.split("\n")[0])
+    tally.count("docs/WORKING.md", "" if is_new else "its table of costs is not that of today: tools/seconds --page writes it")
+
+
 def main():
     tally = Tally("documents")
     check_filled(tally)
+    check_made(tally)
+    check_words(tally, TOP)
+    check_cited(tally, TOP)
     for page in PAGES:
         check_page(tally, page)
     return tally.end()

@@ -3,18 +3,18 @@
 import os
 import random
 import re
-import shutil
 import subprocess
 import sys
 import tempfile
 
 from captures import packets_of
 import documents
+from machine import copy_examples, patience
 from tally import Tally
 
 PROGRAM, TOP = os.path.abspath(sys.argv[1]), os.path.abspath(sys.argv[2])
 PAGE = "examples/dpi/README.md"
-# A command has to end by then: verilator and the compiler of C++ take long where other work is beside.
+# A command has to end by then on an idle machine: verilator and the compiler of C++ take long.
 SECONDS = 600
 # Bits that are inverted on each lane, and the plan of the bench of the page and of another one.
 FLIPS = 6
@@ -25,7 +25,7 @@ INCLUDE = "/usr/share/verilator/include/vltstd"
 
 def run(*words, folder):
     """Status and output of a command."""
-    done = subprocess.run(words, cwd=folder, capture_output=True, text=True, timeout=SECONDS)
+    done = subprocess.run(words, cwd=folder, capture_output=True, text=True, timeout=patience(SECONDS))
     return done.returncode, done.stdout + done.stderr
 
 
@@ -195,7 +195,7 @@ def main():
     tally = Tally("dpi")
     with tempfile.TemporaryDirectory(prefix="dpi.") as top:
         folder = top + "/examples"
-        shutil.copytree(TOP + "/examples", folder, ignore=shutil.ignore_patterns("obj_*", "library"))
+        copy_examples(TOP, folder)
         os.symlink(TOP + "/tools", top + "/tools")
         status, text = run(PROGRAM, "link", "damaged.plan", folder=folder)
         if status or "got channel=1 packets=1" not in text:

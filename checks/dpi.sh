@@ -9,14 +9,8 @@ wants python3 python3
 wants verilator verilator
 wants make make
 wants c++ g++
-wants cc gcc
-case $(verilator --version 2>/dev/null) in
-  'Verilator '[5-9]* | 'Verilator '[1-9][0-9]*) ;;
-  *)
-    echo "$name: skipped, no version 5 of verilator (Debian package verilator)"
-    exit 77
-    ;;
-esac
+wants_cc
+has_verilator || skips 'version 5 of verilator' verilator
 . "$top/tools/archive.bash"
 if ! find_archive "$top" >/dev/null; then
   echo "$name: skipped, no archive of these sources (rt lib in crates/interlaken_c makes it)"

@@ -5,7 +5,7 @@
 set -u
 top=$(cd "$(dirname "${BASH_SOURCE[0]}")/.." && pwd)
 . "$top/checks/tally.bash"
-# A check has to fail by then.
+# A check has to fail by then on an idle machine.
 seconds=60
 usage='usage: interlaken COMMAND FILE, or interlaken generate NUMBER PREFIX'
 folder=$(mktemp -d)
@@ -26,6 +26,7 @@ make_copy() {
   : >"$folder/copy/crates.txt"
   cp -a "$top/docs" "$folder/copy/"
   find "$top/checks" -mindepth 1 -maxdepth 1 -type f -exec cp -a {} "$folder/copy/checks/" \;
+  chmod -R u+w "$folder/copy" # a checkout may be one that is only read
 }
 
 # Whether a check that ended as it did was skipped for a tool that is missing.
@@ -38,17 +39,18 @@ is_skipped() { # CHECK STATUS LAST-LINE
 try() { # SCRIPT WHAT-IS-WRONG
   local check status last
   check=$(basename "$1" .sh)
-  timeout "$seconds" bash "$1" >"$folder/told" 2>&1 </dev/null
+  timeout "$(patience "$seconds")" bash "$1" >"$folder/told" 2>&1 </dev/null
   status=$?
   # How many it counts does not matter.
   last=$(tail -n 1 "$folder/told" | sed -E 's/[0-9]+ (passed|failed)/N \1/g')
   if is_skipped "$check" "$status" "$last"; then
-    echo "$name: not tried, ${last#"$check: skipped, "}: $check"
+    skipped[${last#"$check: skipped, "}]+=" $check"
     return 1
   fi
   holds "$check, $2" "status $status, $last" "status 1, $check: N passed, N failed"
 }
 
+declare -A skipped # checks by what they lack
 make_copy
 [ $# -gt 0 ] || set -- $(cd "$top/checks" && basename -s .sh -- *.sh)
 for check; do
@@ -62,5 +64,8 @@ for check; do
   else
     try "$folder/copy/checks/$check.sh" 'without crates and edits'
   fi
+done
+for lacking in "${!skipped[@]}"; do
+  echo "$name: not tried, $lacking:${skipped[$lacking]}"
 done
 ends

@@ -13,6 +13,9 @@ import sys
 import tempfile
 from collections import Counter
 
+from devices import changed, sums
+from machine import copy_examples
+from runs import write_files
 from tally import Tally
 
 PROGRAM, TOP = os.path.abspath(sys.argv[1]), os.path.abspath(sys.argv[2])
@@ -66,6 +69,7 @@ TOOL = os.path.join(TOP, "tools", "explain")
 # Mistakes: the files that are written, by their text or by the name of a file that is copied; the words; and what the tool says of
 # them, of a fault of usage its first line.
 LINK = "lanes,2\nmetaframe,32\nchannel,1,one.pcap\nchannel,2,two.pcap\nout,m\n"
+LANE_LINES = "the lines after `lane` are `sync I`, `state I S`, `code I HH X` or, last, `rest BITS`"
 MISTAKES = [
     ({"m.plan": "lane,2\n" + LINK}, "link m.plan", ["m.plan:1: unknown key 'lane': `lanes`?"]),
     ({"m.plan": "Lanes,2\n" + LINK}, "link m.plan", ["m.plan:1: unknown key 'Lanes': write `lanes`, in small letters and without blanks"]),
@@ -84,7 +88,7 @@ MISTAKES = [
     ({"m.plan": "lanes,65\nmetaframe,32\nchannel,1\nout,m\n"}, "send m.plan", ["m.plan:1: lanes: 65 is not in 1 to 64"]),
     ({}, "m.plan link", ["explain: the command comes first: `interlaken link m.plan`"]),
     ({}, "lnik m.plan", ["explain: unknown command lnik: `link`?"]),
-    ({}, "", ["explain: no words: a command and what it takes are wanted"]),
+    ({}, "", ["explain: no command given"]),
     ({}, "link -x", ["explain: FILE: -x begins with a dash; write ./-x"]),
     ({}, "generate 18446744073709551616 m", ["explain: NUMBER: 18446744073709551616 is not below 2^64"]),
     ({"m.plan": LINK + "deskew,16\n"}, "link m.plan", ["m.plan:6: deskew: 16 clashes with metaframe,32 of line 2: metaframe must be more than 2 * deskew"]),
@@ -98,10 +102,10 @@ MISTAKES = [
     ({"m.duplex": "plan,two_ends.plan\ndelay,10\nmark,99999\nslots,500\nout,m\n"}, "duplex m.duplex", ["m.duplex:3: mark: 99999 is not in 1 to 65536"]),
     ({"m.duplex": "plan,two_end.plan\ndelay,10\nmark,99\nslots,500\nout,m\n"}, "duplex m.duplex", ["m.duplex:1: plan: two_end.plan: no such file; two_ends.plan is there"]),
     ({"m.duplex": "plan,two_ends.plan\ndelay,10\nmark,99\nslots,500\nback,9,one.pcap\nout,m\n"}, "duplex m.duplex", ["m.duplex:5: back: two_ends.plan does not list channel 9"]),
-    ({"m.plan": "lanes,2\nmetaframe,32\nchannel,1\nout,x/y/z\n"}, "send m.plan", ["x/y/z.lane.0: the folder x/y is not there; `mkdir -p x/y` makes it"]),
-    ({"m.plan": "lanes,2\nmetaframe,32\nchannel,1\nout,one.pcap/z\n"}, "send m.plan", ["one.pcap/z.lane.0: one.pcap is no folder"]),
-    ({"m.plan": "lanes,2\nmetaframe,32\nchannel,1\nout,full\n"}, "burst m.plan", ["full.words: it is /dev/full, which is no file of a disk"]),
-    ({"m.plan": LINK}, "receive m.plan", ["m.lane.0: no such file; `interlaken link m.plan` writes it"]),
+    ({"m.plan": "lanes,2\nmetaframe,32\nchannel,1\nout,x/y/z\n"}, "send m.plan", ["x/y/z.lane.0: the folder x/y does not exist; `mkdir -p x/y` creates it"]),
+    ({"m.plan": "lanes,2\nmetaframe,32\nchannel,1\nout,one.pcap/z\n"}, "send m.plan", ["one.pcap/z.lane.0: one.pcap is not a folder"]),
+    ({"m.plan": "lanes,2\nmetaframe,32\nchannel,1,one.pcap\nout,full\n"}, "burst m.plan", ["full.words: it is /dev/full, which is not a regular file"]),
+    ({"m.plan": LINK}, "receive m.plan", ["m.lane.0: no such file: `interlaken link m.plan` makes it"]),
     ({"m.txt": "words\ndata 0001020304050607\ndata 00010203040506\n"}, "assemble m.txt", [
         "m.txt:3: 'data 00010203040506' is no line of a listing: 14 digits, and not 16; the lines after `words` are `data X`, `bad X`, `control X` (X: 16 digits of 0 to 9 and A to F), "
         "`idle sop=..` or `burst sop=..`"]),
@@ -109,7 +113,7 @@ MISTAKES = [
         "m.flow:1: warning: word: 81BFFF00004B8D9E changes nothing: its CRC24 is wrong: 81BFFF00004B8D9D has the right one",
         "m.schedule:2: warning: skew: lanes 0 and 1 lie 689 bits apart, more than deskew,7 aligns, 469 bits (7 words of 67): the lanes will not align",
         "m.schedule:5: warning: flip: bit 9000 of lane 0 is named 2 times, first in line 3, and stays as it was",
-        "m.schedule:4: warning: flip: bit 90000 is after the end of lane 1, which has bits 0 to 23583: it strikes nothing",
+        "m.schedule:4: warning: flip: bit 90000 is after the end of lane 1, which has bits 0 to 23583: it has no effect",
         "m: warning: all lanes are locked, and do not align: the nearest Sync words of all lanes lie 689 bits apart, and deskew,7 aligns 469"]),
     ({"m.flow": "0,81BFFF00004B8D9D\n", "m.schedule": "skew,0,11\ndark,1,21000,1000\nflip,1,21001\n"}, "link m.plan", [
         "m.schedule:3: warning: flip: bit 21001 of lane 1 is dark, and stays 0",
@@ -125,30 +129,57 @@ MISTAKES = [
         "v.schedule:3: warning: dark: bits 12865 to 12866 of lane 1 are in framing words: it strikes no packet",
         "v.schedule:4: warning: flip: bit 13420 of lane 1 is in slot 347: it strikes no packet"]),
     ({}, "receive damaged.plan", []),
-    ({"s.plan": LINK.replace("out,m", "out,s") + "schedule,s.schedule\n", "s.schedule": "skew,0,11\n"}, "damage s.plan", ["s.lane.0: no such file; `interlaken send s.plan` writes it"]),
+    ({"s.plan": LINK.replace("out,m", "out,s") + "schedule,s.schedule\n", "s.schedule": "skew,0,11\n"}, "damage s.plan", ["s.lane.0: no such file: `interlaken send s.plan` makes it"]),
     ({"s.lane.0": b"\x80\x01", "s.lane.1": b"", "s.schedule": "skew,0,11\nskew,1,700\nflip,0,30\nflip,0,3\nflip,0,3\ndark,0,10,9\nflip,0,11\nflip,1,0\n"}, "damage s.plan", [
         "s.schedule:5: warning: flip: bit 3 of lane 0 is named 2 times, first in line 4, and stays as it was",
         "s.schedule:7: warning: flip: bit 11 of lane 0 is dark, and stays 0",
-        "s.schedule:3: warning: flip: bit 30 is after the end of lane 0, which has bits 0 to 15: it strikes nothing",
+        "s.schedule:3: warning: flip: bit 30 is after the end of lane 0, which has bits 0 to 15: it has no effect",
         "s.schedule:6: warning: dark: bits 10 to 18 go beyond the end of lane 0, which has bits 0 to 15: it strikes 6 bits of 9",
-        "s.schedule:8: warning: flip: bit 0 is after the end of lane 1, which has no bits: it strikes nothing"]),
+        "s.schedule:8: warning: flip: bit 0 is after the end of lane 1, which has no bits: it has no effect"]),
     ({"x.lane.0": "damaged.lane.1", "x.lane.1": "damaged.lane.0", "x.plan": LINK.replace("out,m", "out,x")}, "receive x.plan", [
-        "x.lane.0: warning: it begins with the scrambler state of lane 1: are the files of lanes exchanged?",
-        "x.lane.1: warning: it begins with the scrambler state of lane 0: are the files of lanes exchanged?"]),
+        "x.lane.0: warning: it begins with the scrambler state of lane 1: are the lane files swapped?",
+        "x.lane.1: warning: it begins with the scrambler state of lane 0: are the lane files swapped?"]),
     ({}, "gather damaged.plan", []),
     ({}, "gather x.plan", [
-        "x.lane.0: warning: it begins with the scrambler state of lane 1: are the files of lanes exchanged?",
-        "x.lane.1: warning: it begins with the scrambler state of lane 0: are the files of lanes exchanged?"]),
+        "x.lane.0: warning: it begins with the scrambler state of lane 1: are the lane files swapped?",
+        "x.lane.1: warning: it begins with the scrambler state of lane 0: are the lane files swapped?"]),
     ({"x.lane.0": bytes(2000)}, "gather x.plan", [
         "x.lane.0: warning: no lock: four Sync words, 32 words apart (metaframe,32), were not found",
         "x: warning: a lane without a lock keeps all lanes from aligning: no word can come",
-        "x.lane.1: warning: it begins with the scrambler state of lane 0: are the files of lanes exchanged?"]),
-    ({"g.plan": LINK.replace("out,m", "out,g")}, "gather g.plan", ["g.lane.0: no such file; `interlaken link g.plan` writes it"]),
+        "x.lane.1: warning: it begins with the scrambler state of lane 0: are the lane files swapped?"]),
+    ({"g.plan": LINK.replace("out,m", "out,g")}, "gather g.plan", ["g.lane.0: no such file: `interlaken link g.plan` makes it"]),
     ({}, "inspect damaged.plan", []),
     ({}, "inspect x.plan", [
         "x.lane.0: warning: no lock: four Sync words, 32 words apart (metaframe,32), were not found",
-        "x.lane.1: warning: it begins with the scrambler state of lane 0: are the files of lanes exchanged?"]),
-    ({}, "inspect g.plan", ["g.lane.0: no such file; `interlaken link g.plan` writes it"]),
+        "x.lane.1: warning: it begins with the scrambler state of lane 0: are the lane files swapped?"]),
+    ({}, "inspect g.plan", ["g.lane.0: no such file: `interlaken link g.plan` makes it"]),
+    ({"g.lane.0": b"\0"}, "receive g.plan", ["g.lane.1: no such file: `interlaken link` of this plan with another `out` makes new files"]),
+    ({"l.txt": "lane\ncode 0 10 2BFFFFFFFFFFFFFF\n"}, "assemble l.txt", ["l.txt:2: 'code 0 10 2BFFFFFFFFFFFFFF' is no line of a listing: a Scrambler State word is written `state 0 3FFFFFFFFFFFFFF`; " + LANE_LINES]),
+    ({"l.txt": "lane\ncode 1 10 78F678F678F678F6\n"}, "assemble l.txt", ["l.txt:2: 'code 1 10 78F678F678F678F6' is no line of a listing: a Sync word is written `sync 1`; " + LANE_LINES]),
+    ({"l.txt": "lane\nsync 0\ncode 10 0000000000000000\n"}, "assemble l.txt", [
+        "l.txt:3: 'code 10 0000000000000000' is no line of a listing: `code` has three fields: I, the inversion bit; HH, the two header bits; X, the payload with the inversion undone; " + LANE_LINES]),
+    ({"l.txt": "lane\ncode 0 2 0000000000000000\n"}, "assemble l.txt", ["l.txt:2: 'code 0 2 0000000000000000' is no line of a listing: HH, the header, is two bits, as 01 or 10, and not '2'; " + LANE_LINES]),
+    ({"l.txt": "lane\ncode 0 10 000000000000000\n"}, "assemble l.txt", ["l.txt:2: 'code 0 10 000000000000000' is no line of a listing: 15 digits, and not 16; " + LANE_LINES]),
+    ({"l.txt": "words\ncontrol 81ffff0000188177\n"}, "assemble l.txt", [
+        "l.txt:2: 'control 81ffff0000188177' is no line of a listing: a valid control word is written `idle sop=0 eop=none reset=1 flow=FFFF channel=0 multi=0 crc=188177`; the lines after `words` are `data X`, `bad X`, `control X` "
+        "(X: 16 digits of 0 to 9 and A to F), `idle sop=..` or `burst sop=..`"]),
+]
+# A plan of a device's lanes; calls that would write over its files, or over a capture; and what is said in place of the run.
+DEVICE = "lanes,2\nmetaframe,32\nchannel,1\nout,d\n"
+INSTEAD = "run it of a plan with another `out`, or with --overwrite"
+GUARDED = [
+    # Each run that is allowed leaves its files to the next.
+    ({"d.plan": DEVICE, "d.lane.1": b"lane"}, "link d.plan", "d.lane.1: it exists, and `link` of a plan that names no captures would write over it: "),
+    ({}, "send d.plan", "d.lane.0: it exists, and `send` of a plan that names no captures would write over it: "),
+    ({"d.words": b""}, "burst d.plan", "d.words: it exists, and `burst` of a plan that names no captures would write over it: "),
+    ({}, "stripe d.plan", "d.lane.0: it exists, and `stripe` would write over it: "),
+    ({"e.plan": DEVICE.replace("out,d", "out,e"), "e.spans.csv": b""}, "link e.plan", "e.spans.csv: it exists, and `link` of a plan that names no captures would write over it: "),
+    ({"c.plan": LINK.replace("out,m", "out,c"), "c.words": b"", "c.lane.0": b"old"}, "stripe c.plan", "c.lane.0: it exists, and `stripe` would write over it: "),
+    ({"c.1.pcap": "one.pcap", "c.plan": LINK.replace("one.pcap", "./c.1.pcap").replace("out,m", "out,c")}, "link c.plan", "c.plan: `link` would write over ./c.1.pcap, a capture that the plan names: "),
+    ({"c.1.pcap": "three.pcap"}, "receive c.plan", "c.plan: `receive` would write over ./c.1.pcap, a capture that the plan names: "),
+    ({"c.1.pcap": "three.pcap"}, "join c.plan", "c.plan: `join` would write over ./c.1.pcap, a capture that the plan names: "),
+    ({"u.a.1.pcap": "one.pcap", "u.plan": LINK.replace("one.pcap", "u.a.1.pcap"), "u.duplex": "plan,u.plan\ndelay,10\nmark,99\nslots,500\nout,u\n"}, "duplex u.duplex",
+     "u.duplex: `duplex` would write over u.a.1.pcap, a capture that the plan names: "),
 ]
 
 
@@ -287,10 +318,43 @@ def check_mistakes(tally, folder):
     tally.expect("explain with a standard output that is full", statuses, [7, 7])
 
 
+def check_guarded(tally, folder):
+    """That no command is run which would write over a device's files or over a capture, unless the call allows it."""
+    for files, command, told in GUARDED:
+        for name, data in files.items():
+            content_of = folder.content(data) if isinstance(data, str) and folder.has(data) else data if isinstance(data, bytes) else data.encode()
+            write_files(folder.folder, {name: content_of})
+        words, before = command.split(" "), sums(folder.folder)
+        done = subprocess.run([TOOL, "--program", PROGRAM] + words, cwd=folder.folder, capture_output=True, encoding="utf-8")
+        tally.expect("explain %s over a file" % command, (done.returncode, done.stdout, done.stderr), (2, "", "explain: %s%s\n" % (told, INSTEAD)))
+        tally.expect("explain %s, changed" % command, changed(before, sums(folder.folder)), [])
+        done = subprocess.run([TOOL, "--overwrite", "--program", PROGRAM] + words, cwd=folder.folder, capture_output=True, encoding="utf-8")
+        tally.expect("explain --overwrite %s" % command, (done.returncode in (0, 3), changed(before, sums(folder.folder)) != []), (True, True))
+        for name, data in files.items():
+            if isinstance(data, bytes) or folder.has(str(data)):
+                write_files(folder.folder, {name: folder.content(data) if isinstance(data, str) else data})
+
+
+def check_ends(tally, folder):
+    """How each tool tells its words, and ends where nobody reads its output, or where a file is missing."""
+    for tool, words in (("explain", []), ("slots", []), ("picture", []), ("waves", []), ("campaign", ["1", "1"]), ("seconds", [])):
+        path = os.path.join(TOP, "tools", tool)
+        done = subprocess.run([path, "--help"], cwd=folder.folder, capture_output=True, encoding="utf-8")
+        tally.expect("%s --help" % tool, (done.returncode, done.stderr, done.stdout[:7], len(done.stdout) > 100), (0, "", "usage: ", True))
+        shell = subprocess.run(["bash", "-c", '{ "$0" --help; echo "$?" >&3; } 3>&2 2>errors | exec true', path], cwd=folder.folder, capture_output=True, encoding="utf-8")
+        tally.expect("%s, output that nobody reads" % tool, (shell.stderr.strip() in ("0", "141"), folder.content("errors")), (True, b""))
+        if tool == "explain" or tool == "campaign" and not shutil.which("parallel"):
+            continue
+        done = subprocess.run([path, "--absent"], cwd=folder.folder, capture_output=True, encoding="utf-8")
+        tally.expect("%s --absent" % tool, (done.returncode, done.stdout, done.stderr.count("\n"), done.stderr[:len(tool) + 2]), (2, "", 1, tool + ": "))
+        done = subprocess.run([path, *words, "absent"] + ["--plan", "absent.plan", "--dark", "1"] * (tool == "campaign"), cwd=folder.folder, capture_output=True, encoding="utf-8")
+        tally.expect("%s of a file that is not there" % tool, (done.returncode, done.stdout, done.stderr.count("\n"), done.stderr[:len(tool) + 8]), (2, "", 1, tool + ": absent"))
+
+
 def main():
     tally = Tally("explain")
     with tempfile.TemporaryDirectory() as path:
-        shutil.copytree(os.path.join(TOP, "examples"), path, dirs_exist_ok=True)
+        copy_examples(TOP, path)
         folder = Folder(PROGRAM, path)
         for name, text in FILES.items():
             with open(folder.path(name), "w", encoding="utf-8") as file:
@@ -303,6 +367,8 @@ def main():
         check_spoiled(tally, folder, causes)
         check_causes(tally, causes)
         check_mistakes(tally, folder)
+        check_guarded(tally, folder)
+        check_ends(tally, folder)
     return tally.end()
 
 

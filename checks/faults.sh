@@ -3,9 +3,9 @@
 # is loaded before the program; takes two minutes at most. Words are those of faults/faults.py, as --seconds 30 send.
 set -u
 . "$(dirname "$0")/program.bash"
-wants gcc gcc
+wants_cc
 wants python3 python3
 folder=$(mktemp -d)
 trap 'rm -rf "$folder"' EXIT
-gcc -O1 -shared -fPIC -o "$folder/failing.so" "$top/checks/faults/failing.c" -ldl || { echo "faults: 0 passed, 1 failed"; exit 1; }
+cc -O1 -shared -fPIC -o "$folder/failing.so" "$top/checks/faults/failing.c" -ldl || { echo "faults: 0 passed, 1 failed"; exit 1; }
 python3 -B "$top/checks/faults/faults.py" "$program" "$folder/failing.so" "$@"

@@ -1,6 +1,7 @@
 """Whether the files that show the house say what its crates use: crates.txt has a line for each crate, which names the crates, of
 the repository and of the kit, whose items the crate names, and no other; proofs/Lib.antt of a crate shows ('pub mod') the lemmas
-that other crates cite, and no other; docs/ARCHITECTURE.md has a row for each crate.
+that other crates cite, and no other; docs/CRATES.md has an entry for each crate, and docs/crates.svg a place for each but the programs
+of tests, from which no crate uses one of a higher box.
 
     python3 house.py TOP
 """
@@ -83,16 +84,43 @@ def faults_of_proofs(top, crate, cited):
     return ["proofs/Lib shows %s, which no other crate cites" % n for n in shows] + ["proofs/Lib hides %s, which another crate cites" % n for n in hides]
 
 
+def heights_in(path):
+    """The crates in the boxes of the picture, each with the height of its box. `x_` is short for `x_commands`."""
+    heights = {}
+    with open(path, encoding="utf-8") as file:
+        for line in file:
+            box, names = re.search(r'<rect x="\d+" y="(\d+)"', line), re.search(r'font-family="monospace">([^<]*)<', line)
+            if box:
+                height = int(box[1])
+            for name in re.findall(r"[a-z0-9_]+", re.sub(r"\([^)]*\)", "", names[1])) if names else []:
+                heights[name + "commands" if name.endswith("_") else name] = height
+    return heights
+
+
+def faults_of_height(crate, line, heights):
+    """What is wrong with the place of a crate in the picture: it uses a crate of a higher box, or it has no place."""
+    if crate not in heights:
+        return [] if is_test(crate) else ["docs/crates.svg has no place for it"]
+    return ["docs/crates.svg has %s above it" % other for other in line if heights.get(other, heights[crate]) < heights[crate]]
+
+
+def is_test(crate):
+    """Whether the crate is a program of tests, or prints for one."""
+    return crate.endswith("_calls") or crate in ("run_faults", "rx_orders", "test_telling")
+
+
 def main(top):
     tally, edges = Tally("house"), edges_of(top)
-    with open(os.path.join(top, "docs", "ARCHITECTURE.md"), encoding="utf-8") as file:
+    with open(os.path.join(top, "docs", "CRATES.md"), encoding="utf-8") as file:
         page = file.read()
+    heights = heights_in(os.path.join(top, "docs", "crates.svg"))
     names = {*edges, *sum(edges.values(), [])}
     used = {crate: used_by(top, crate, names) for crate in edges}
     cited = set().union(*(lemmas for _, lemmas in used.values()))
     for crate, line in edges.items():
         faults = faults_of_line(top, crate, set(line), used[crate][0]) + faults_of_proofs(top, crate, cited)
-        faults += [] if "\n| `%s` |" % crate in page else ["docs/ARCHITECTURE.md has no row for it"]
+        faults += [] if "**`%s`**" % crate in page else ["docs/CRATES.md has no entry for it"]
+        faults += faults_of_height(crate, line, heights)
         tally.count(crate, "; ".join(faults))
     for crate in sorted(set(os.listdir(os.path.join(top, "crates"))) - set(edges)):
         if any(sources_of(top, crate)):

@@ -1,7 +1,7 @@
 #!/usr/bin/env bash
 # Runs the launcher in a small tree, with programs that print who they are and an rt that proves nothing: which program is run
-# where, what is built and when; and there tools/release, the check of the release, checks/run with checks that end in each way, and
-# the gate.
+# where, what is built and when, what --help and --version say; and there tools/release, the check of the release, checks/run with checks
+# that end in each way, and the gate.
 set -u
 top=$(cd "$(dirname "${BASH_SOURCE[0]}")/.." && pwd)
 . "$top/checks/tally.bash"
@@ -12,9 +12,10 @@ trap 'rm -rf "$folder"' EXIT
 tree=$folder/a\ tree
 mkdir -p "$tree"/{release,checks,tools,.ci} "$folder"/{bin,elsewhere} "$tree"/crates/{low,interlaken,interlaken_main,beside,interlaken_c}/src
 cp "$top/interlaken" "$tree"
-cp -r "$top"/tools/{sources.bash,archive.bash,build,building,jobs,release} "$tree/tools/"
-cp "$top"/checks/{run,release.sh,*.bash} "$tree/checks/"
+cp -r "$top"/tools/{sources.bash,archive.bash,build,building,commands.txt,jobs,release} "$tree/tools/"
+cp "$top"/checks/{run,release.sh,packages.txt,*.bash} "$tree/checks/"
 cp "$top/.ci/run" "$tree/.ci/"
+chmod -R u+w "$tree" # a checkout may be one that is only read
 printf '%s\n' 'low:' 'interlaken: low' 'interlaken_main: interlaken low' 'beside: low' 'interlaken_c staticlib: beside core' >"$tree/crates.txt"
 echo 'Handles allowed: none.' >"$tree/HANDLES"
 for crate in low interlaken interlaken_main beside interlaken_c; do
@@ -84,6 +85,7 @@ settings=()
 release=$(cd "$tree/release" && pwd)/interlaken-x86_64-linux
 (. "$top/tools/sources.bash" && sum_of_sources "$tree" >"$tree/release/sources.sha256")
 (cd "$tree/release" && sha256sum interlaken-x86_64-linux >interlaken-x86_64-linux.sha256)
+echo a kit of old >"$tree/release/kit"
 cp -a "$tree" "$folder/old"
 from=$EPOCHSECONDS
 before=$(cd "$tree" && find . -printf '%p %T@ %s\n' | sort)
@@ -97,6 +99,31 @@ holds 'through a link, with no home' "$(cd / && env -i PATH=/usr/bin:/bin "$fold
 settings=(INTERLAKEN_WHICH=1)
 ran 'which program' "0 $tree/release/interlaken-x86_64-linux" without
 settings=()
+
+# What the launcher says itself.
+usage='usage: interlaken COMMAND FILE, or interlaken generate NUMBER PREFIX'
+names=$(sed -n 's/^ *word: "\(.*\)",$/\1/p' "$top/crates/command_words/src/table.rt" 2>/dev/null)
+for word in --help -h help; do
+  ran "$word" "0 $usage" without "$word"
+  holds "$word: the commands, each in a line" "$(sed -nE 's/^  ([a-z]+) (FILE|NUMBER PREFIX)  +[a-z`].*/\1/p' <<<"$text" | sort)" "$(sort <<<"${names:-no commands}")"
+done
+for command in $names; do
+  launch without "$command" --help
+  holds "$command --help" "$status $(sed -E "1s/^usage: interlaken $command (FILE|NUMBER PREFIX)$/usage/; 2s/^[A-Z ]+: .+/words/; 3s/.+/does/" <<<"$text")" $'0 usage\nwords\ndoes'
+done
+ran 'help of what is no command' '5 release' without lnik --help
+# What --version says: the program, the kit, the sum of the sources and that of the release.
+tells_version() { # WHAT PROGRAM SOURCES
+  launch without --version
+  holds "$1" "$status $text" "0 program: $2
+kit of the release: a kit of old
+sources: $3
+sources of the release: $(cat "$tree/release/sources.sha256")"
+}
+sum_here() {
+  (. "$top/tools/sources.bash" && sum_of_sources "$tree")
+}
+tells_version 'the version of the release' 'release/interlaken-x86_64-linux, the release of these sources' "$(sum_here)"
 say beside changed
 ran 'a change of a crate that the program does not stand on' '5 release' without x
 say beside 'beside as released'
@@ -106,11 +133,15 @@ touch -r "$tree/crates/low/src/lib.rt" "$folder/time"
 say low 'low as chagned '
 touch -r "$folder/time" "$tree/crates/low/src/lib.rt"
 ran 'a change that keeps length and time, and no rt' '70 ' without x
-ran 'help, of changed sources' '5 release' without --help
-holds 'help does not look like the program of these sources' "$(grep -c '^interlaken: ' <<<"$errors")" 1
+ran 'help, of changed sources' "0 $usage" without --help
+tells_version 'the version of changed sources' 'none, these are not the sources of the release' "$(sum_here)"
+holds 'which is another' "$([ "$(sum_here)" != "$(cat "$tree/release/sources.sha256")" ] && echo other)" other
+ran 'no words, of changed sources' '2 usage: none' without
+holds 'the answer does not look like the program of these sources' "$(grep -c '^interlaken: ' <<<"$errors")" 1
 ran 'a change' '5 built' with x
 holds 'builds' "$(calls)" 1
 holds 'crates that are done' "$(grep -c '^interlaken: . of 3 crates done after 0 min, about 1 min left: ' <<<"$errors")" 2
+tells_version 'the version of what was built' "$(echo "$folder"/cache/interlaken/*/programs/*), proved and built here" "$(sum_here)"
 ran 'a second start' '5 built' without x
 holds 'what a second start says' "$errors" odd
 say low 'low as released'
@@ -249,9 +280,19 @@ run_checks() { # WHAT WANTED WORDS..
 check good "$begin" 'holds program "$program" "$INTERLAKEN_PROGRAM"' 'ends'
 run_checks 'a check that passes' '0 checks: 1 passed, 0 failed, 0 skipped'
 check wanting "$begin" 'wants no-such-tool a-package'
+echo 'command no-such-tool a-package' >>"$tree/checks/packages.txt"
 run_checks 'a check that is skipped' '0 checks: 1 passed, 0 failed, 1 skipped'
 holds 'how many checks there are' "$(head -n 1 <<<"$text" | cut -d , -f 1)" '2 checks'
-holds 'why it is skipped' "$(grep -c '^wanting: skipped, no no-such-tool (Debian package a-package)$' <<<"$text")" 1
+holds 'why it is skipped' "$(grep -c '^skipped .* wanting: skipped, no no-such-tool (Debian package a-package)$' <<<"$text")" 1
+# All packages, whichever of them a check names first.
+packages=$(grep -v '^#' "$tree/checks/packages.txt" | cut -d ' ' -f 3 | paste -s -d ' ')
+holds 'all packages that a full run needs' "$(grep -c "^checks: a full run needs the Debian packages $packages; not here: apt-get install .*a-package$" <<<"$text")" 1
+holds 'packages that a check names, and the list has not' "$(grep -ohE '^ *(! |if ! )?(wants|lacks) [^ $]+ [^ $;]+' "$top"/checks/*.sh | awk '{ print $NF }' | sort -u |
+  grep -vxFf <(tr ' ' '\n' <<<"$packages"))" ''
+check start 'echo start: 1 passed, 0 failed'
+run_checks 'nothing but the start of the program' '3 checks: 1 passed, 0 failed, 1 skipped' start wanting
+run_checks 'a check without the program' '0 checks: 1 passed, 0 failed, 0 skipped' start
+rm "$tree/checks/start.sh"
 run_checks 'nothing but a skip' '1 checks: 0 passed, 0 failed, 1 skipped' wanting
 check bad 'echo in full' "$begin" 'holds one 1 2' ends
 check silent

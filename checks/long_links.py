@@ -10,11 +10,11 @@ and `inspect`. A case agrees where the status, the text and every file are the s
 """
 
 import argparse
-import multiprocessing
 import os
 import sys
 from random import Random
 
+from machine import each
 from modeled import differences, left_by_model
 import random_inputs as drawn
 from runs import left_by
@@ -107,10 +107,9 @@ def main():
     parser.add_argument("--jobs", type=int, default=1)
     given, tally = parser.parse_args(), Tally("long_links")
     tasks = [(given.program, given.first + at, given.bytes) for at in range(given.cases)]
-    with multiprocessing.Pool(given.jobs) as pool:
-        for number, found in pool.imap(compared, tasks, chunksize=1):
-            for command, wrong in found:
-                tally.count("case %d, %s" % (number, command), wrong)
+    for number, found in each(compared, tasks, given.jobs):
+        for command, wrong in found:
+            tally.count("case %d, %s" % (number, command), wrong)
     return tally.end()
 
 

@@ -11,11 +11,11 @@ is, gives the same status, text and files. The same seed gives the same runs.
 
 import argparse
 import collections
-import multiprocessing
 import os
 import random
 import sys
 
+from machine import each
 from rows import ROWS, Row
 from runs import left_by
 from tally import Tally
@@ -195,10 +195,9 @@ def main():
     given, tally = arguments(), Tally("mutated")
     trial = Trial(given, bases(given.program, tally))
     answers = collections.Counter()
-    with multiprocessing.Pool(given.jobs) as pool:
-        for number, (command, status, wrong) in enumerate(pool.imap(trial, range(given.count), chunksize=10)):
-            answers[command, status] += 1
-            tally.count("run %d, %s" % (number, command), wrong)
+    for number, (command, status, wrong) in enumerate(each(trial, range(given.count), given.jobs, at_once=10)):
+        answers[command, status] += 1
+        tally.count("run %d, %s" % (number, command), wrong)
     for (command, status), count in sorted(answers.items(), key=str):
         print("%s: status %s: %d" % (command, status, count))
     return tally.end()

@@ -13,6 +13,7 @@ import re
 import subprocess
 import sys
 
+from machine import patience
 from rows import Row
 from runs import left_by
 from tally import Tally
@@ -22,7 +23,7 @@ NAMES = [
     "link_of_lanes_skewed_one_bit_too_far",
     "link_with_one_of_four_lanes_dark_for_sixteen_words",
 ]
-# A row has to end by then.
+# A row has to end by then on an idle machine.
 SECONDS = 300
 
 
@@ -70,9 +71,9 @@ def fed(orders, row, lanes):
     """What the receivers of the lanes of a row print."""
     text = "".join(line.hex().upper() + "\n" for line in [row.before[row.words[1]], *lanes])
     try:
-        done = subprocess.run([orders], input=text.encode(), capture_output=True, timeout=SECONDS)
+        done = subprocess.run([orders], input=text.encode(), capture_output=True, timeout=patience(SECONDS))
     except subprocess.TimeoutExpired:
-        return ["no end in %d seconds" % SECONDS]
+        return ["no end in %d seconds" % patience(SECONDS)]
     return done.stdout.decode().splitlines()
 
 

@@ -13,6 +13,8 @@ PROGRAM, TOP = os.path.abspath(sys.argv[1]), os.path.abspath(sys.argv[2])
 sys.path.insert(0, os.path.join(TOP, "tools"))
 
 from drawing.svg import length_of
+from devices import BREAKS, SPOILED_SLOTS, Device, changed, spoiled, sums
+from machine import copy_examples
 from runs import content, write_files
 from tally import Tally
 
@@ -23,10 +25,13 @@ EXAMPLES = {"damaged": {"lanes": 2, "packets": 4, "lost": 2, "spans": 3}, "two":
             "wide": {"lanes": 2, "packets": 4, "lost": 0, "spans": 2}, "again": {"lanes": 1, "packets": 2, "lost": 0, "spans": 2},
             "status": {"lanes": 1, "packets": 0, "lost": 0, "spans": 2}}
 CASES = (2, 18, 20)
+NOT_PLACED = "first.places.csv is not of these lanes and words: `interlaken gather first.plan` writes it and the words of these lanes, over first.words: keep that under another name\n"
+# The sizes of packets of another dump, which is as long.
+OTHER_PACKETS = ["%d" % (60 + 37 * (47 - number) % 400) for number in range(48)]
 # Each file that is spoiled, and how; then what is drawn, and what the tool says.
 SPOILED = [
     ("damaged.words", None, "damaged.plan", "damaged.words is missing: `interlaken burst damaged.plan` makes it"),
-    ("damaged.lane.1", None, "damaged.plan", "damaged.lane.1 is missing: `interlaken link damaged.plan` makes it"),
+    ("damaged.lane.1", None, "damaged.plan", "damaged.lane.1 is missing: `interlaken link` of this plan with another `out` makes new files"),
     ("damaged.spans.csv", None, "damaged.plan", "damaged.spans.csv is missing: `interlaken receive damaged.plan` makes it"),
     ("damaged.2.pcap", None, "damaged.plan", "damaged.2.pcap is missing: `interlaken receive damaged.plan` makes it"),
     ("two_ends.b.1.pcap", None, "two_ends.duplex", "two_ends.b.1.pcap is missing: `interlaken duplex two_ends.duplex` makes it"),
@@ -34,8 +39,8 @@ SPOILED = [
     ("damaged.schedule", None, "damaged.plan", "damaged.schedule: No such file or directory"),
     ("damaged.words", lambda data: data[:100], "damaged.plan", "damaged.words: short at 99"),
     ("damaged.words", lambda data: data[:18] + b"\7" + data[19:], "damaged.plan", "damaged.words: tag at 18"),
-    ("damaged.words", lambda data: data[:900], "damaged.plan", "damaged.spans.csv: row 2: slot 169, and the words file has 100"),
-    ("damaged.spans.csv", lambda data: b"after\n", "damaged.plan", "damaged.spans.csv: no table of fault spans"),
+    ("damaged.words", lambda data: data[:900], "damaged.plan", "damaged.spans.csv:2: slot 169, and the words file has 100"),
+    ("damaged.spans.csv", lambda data: b"after\n", "damaged.plan", "damaged.spans.csv: no table with the heading after_group,after_index,before_group,before_index,why"),
     ("damaged.1.pcap", lambda data: data[:50], "damaged.plan", "damaged.1.pcap: short at 24: record 0 is not whole: the file ends at byte 50"),
     ("damaged.schedule", lambda data: b"flip,2,1\n", "damaged.plan", "damaged.schedule:1: flip: lane: 2 is not in 0 to 1"),
     ("damaged.plan", lambda data: data + b"lane,1\n", "damaged.plan", "damaged.plan:8: unknown key 'lane': `lanes`?"),
@@ -50,19 +55,19 @@ STALE_FILES = {"first.plan": "lanes,2\nmetaframe,32\nwarmup,4\nchannel,1,one.pca
 STALE = [
     ("first.plan", {}, [], ""),
     ("first.plan", {}, ["--text", "printed"], ""),
-    ("first.plan", {"stale.words": "longer.plan"}, ["--text", "printed"], "stale.words: 504 slots, and the run printed 392: these files are not of one run: `interlaken link stale.plan` and then `interlaken burst stale.plan` make them anew"),
+    ("first.plan", {"stale.words": "longer.plan"}, ["--text", "printed"], "stale.words: 504 slots, and the run printed 392: these files are not of one run: `interlaken link` and then `interlaken burst` of this plan with another `out` make new files"),
     ("first.plan", {"stale.words": "longer.plan"}, [], "stale.words: "),
-    ("first.plan", {"stale.words": "turned.plan"}, [], "stale.words: no span meets 1 packets of channel 1, and stale.1.pcap has others: these files are not of one run: `interlaken link stale.plan` and then `interlaken burst stale.plan` make them anew"),
+    ("first.plan", {"stale.words": "turned.plan"}, [], "stale.words: no span meets 1 packets of channel 1, and stale.1.pcap has others: these files are not of one run: `interlaken link` and then `interlaken burst` of this plan with another `out` make new files"),
     ("first.plan", {"stale.words": "turned.plan"}, ["--text", "printed"], "stale.words: no span meets 1 packets of channel 1, and stale.1.pcap has others"),
-    ("longer.plan", {"stale.words": "first.plan"}, ["--only", "stream"], "stale.spans.csv: row 4: slot "),
+    ("longer.plan", {"stale.words": "first.plan"}, ["--only", "stream"], "stale.spans.csv:4: slot "),
     ("longer.plan", {"stale.spans.csv": "first.plan"}, [], "stale.words: "),
     ("longer.plan", {"printed": "first.plan"}, ["--text", "printed"], "stale.words: 504 slots, and the run printed 392"),
-    ("first.plan", {"stale.words": "apart.plan"}, [], "stale.words: slot 300 is a control word, and in stale.lane.0 it is none: these files are not of one run: `interlaken link stale.plan` and then `interlaken burst stale.plan` make them anew"),
+    ("first.plan", {"stale.words": "apart.plan"}, [], "stale.words: slot 300 is a control word, and in stale.lane.0 it is none: these files are not of one run: `interlaken link` and then `interlaken burst` of this plan with another `out` make new files"),
     ("first.plan", {"stale.lane.0": "longer.plan"}, [], "stale.words: its 392 slots fill 15008 bits of a lane, and stale.lane.0 has "),
 ]
 
 # The schedule of a run, the one that is there when its lanes are drawn, the command of the run, the options, and what the tool says.
-SKEWED, MADE_ANEW = "skew,0,11\nskew,1,200\n", "the schedule was changed after the run; `interlaken link changed.plan` makes the lanes anew"
+SKEWED, MADE_ANEW = "skew,0,11\nskew,1,200\n", "the schedule was changed after the run; `interlaken link` of this plan with another `out` makes new lanes"
 NOT_SHOWN = "changed.schedule:3: bit 14000 of lane 0 came as it would without this row: " + MADE_ANEW
 # Bits of the code from 8978 on whose inversion no CRC32 shows: both of its header, and all others.
 HEADER, OTHERS = ("".join("flip,0,%d\n" % (8978 + bit) for bit in bits) for bits in ((1, 2), (0, *range(3, 67))))
@@ -128,18 +133,23 @@ def check_pictures(results, folder):
 
 
 def draw(results, folder, words):
-    done = run([TOOL] + words, folder)
+    done = run([TOOL, "--overwrite"] + words, folder)
     results.expect("picture " + " ".join(words), (done.returncode, done.stderr), (0, ""))
 
 
 def check_examples(results, folder):
     for name, wanted in EXAMPLES.items():
+        before = sums(folder)
         draw(results, folder, [name + ".plan", "--program", PROGRAM])
+        results.expect(name + ", changed", changed(before, sums(folder)), [name + ".lanes.svg", name + ".stream.svg"])
         results.expect(name, counts_of(folder, name), wanted)
     lanes = xml.parse(os.path.join(folder, "damaged.lanes.svg")).getroot()
-    groups = [(element.text, element.findtext(SVG + "title")) for element in lanes.iter(SVG + "text") if element.text.startswith("group 3")]
-    results.expect("damaged, the bit of a group", groups, [("group 3", "bit 6443")])
-    results.expect("damaged, the legend of groups", [element.text for element in lanes.iter(SVG + "text") if "by which the span table names it" in element.text] != [], True)
+    groups = [(element.text, element.findtext(SVG + "title")) for element in lanes.iter(SVG + "text") if element.text.startswith("group 6")]
+    results.expect("damaged, the name of a group", groups, [("group 6443", "metaframe 3")])
+    texts = [element.text for element in lanes.iter(SVG + "text")]
+    results.expect("damaged, the legend of groups", [text for text in texts if "a group is named as in the span table" in text] != [], True)
+    for text in ("bit 9011 is inverted (bit 9000 as sent)", "11 bits late", "200 bits late", "14000"):
+        results.expect("damaged, lanes, " + text, texts.count(text), 1)
     stream = xml.parse(os.path.join(folder, "damaged.stream.svg")).getroot()
     texts = [element.text for element in stream.iter(SVG + "text")]
     for text in ("slot 230 is damaged: lane 0, bit 9011", "span 1 of slots 224 to 290: crc"):
@@ -182,11 +192,13 @@ def check_tour(results, folder):
     for name in sorted(os.listdir(target)):
         with open(os.path.join(target, name), "rb") as drawn, open(os.path.join(TOP, "docs", "tour", name), "rb") as kept:
             results.expect("tour, " + name, drawn.read() == kept.read(), True)
-    results.expect("pictures of the tour", len(os.listdir(target)), 5)
+    results.expect("pictures of the tour", len(os.listdir(target)), 9)
     check_pictures(results, target)
 
 
 def check_spoiled(results, folder):
+    for command in ("burst", "link"):
+        run([PROGRAM, command, "damaged.plan"], folder)
     for name, change, plan, told in SPOILED:
         path = os.path.join(folder, name)
         with open(path, "rb") as file:
@@ -195,9 +207,9 @@ def check_spoiled(results, folder):
         if change:
             with open(path, "wb") as file:
                 file.write(change(data))
-        done = run([TOOL, plan], folder)
+        done = run([TOOL, "--overwrite", plan], folder)
         first = done.stderr[:len("picture: " + told)] if done.stderr.count("\n") == 1 else done.stderr
-        results.expect("%s spoiled" % name, (done.returncode, first), (1, "picture: " + told))
+        results.expect("%s spoiled" % name, (done.returncode, first), (2, "picture: " + told))
         with open(path, "wb") as file:
             file.write(data)
 
@@ -220,8 +232,8 @@ def check_stale(results, folder):
         for file, data in {**files, "stale.plan": STALE_FILES[plan].encode()}.items():
             with open(os.path.join(folder, file), "wb") as changed:
                 changed.write(data)
-        done = run([TOOL, "stale.plan"] + words, folder)
-        wanted = (1, "picture: " + told, 1) if told else (0, "", 0)
+        done = run([TOOL, "--overwrite", "stale.plan"] + words, folder)
+        wanted = (2, "picture: " + told, 1) if told else (0, "", 0)
         found = (done.returncode, done.stderr[:len("picture: " + told)] if told else done.stderr, done.stderr.count("\n"))
         results.expect("%s with %s" % (plan, from_other), found, wanted)
 
@@ -233,8 +245,8 @@ def check_changed(results, folder):
         write_files(folder, {"changed.plan": plan.encode(), "changed.schedule": before.encode()})
         statuses = [run([PROGRAM, name, "changed.plan"], folder).returncode for name in ("burst", command)]
         write_files(folder, {"changed.schedule": after.encode()})
-        done = run([TOOL, "changed.plan"] + words, folder)
-        wanted = (1, "picture: " + told, 1) if told else (0, "", 0)
+        done = run([TOOL, "--overwrite", "changed.plan"] + words, folder)
+        wanted = (2, "picture: " + told, 1) if told else (0, "", 0)
         found = (done.returncode, done.stderr[:len("picture: " + told)] if told else done.stderr, done.stderr.count("\n"))
         results.expect("%r, %s, %r, %s" % (before[:60], command, after[:60], words), (statuses, found), ([0, 0], wanted))
         if command == "send":
@@ -242,20 +254,74 @@ def check_changed(results, folder):
 
 
 def check_tables(results, folder):
-    """The events of lanes and the faults of words are drawn where `inspect` and `check` have told them."""
-    run([PROGRAM, "burst", "damaged.plan"], folder)
-    write_files(folder, {"printed": run([PROGRAM, "link", "damaged.plan"], folder).stdout.encode(),
-                         "damaged.events.csv": b"lane,bit,event\n0,6443,lock\n0,10664,diag\n1,6632,lock\n1,12126,bad\n1,12126,balance\n",
-                         "damaged.faults.csv": b"word,rule,channel\n257,crc,-\n"})
-    draw(results, folder, ["damaged.plan", "--text", "printed", "--to", "told"])
+    """The events of lanes and the faults of words are drawn where `inspect` and `check` tell them of what is there, and not those of an
+    older run."""
+    device = Device(PROGRAM, folder, "told", breaks=BREAKS, spoil=spoiled)
+    device.run("receive", "gather", "check", "inspect")
+    draw(results, folder, ["told.plan"])
     lanes, stream = (xml.parse(os.path.join(folder, "told.%s.svg" % kind)).getroot() for kind in ("lanes", "stream"))
-    results.expect("events", titles(lanes, "event"), ["word at bit 10664: diag", "word at bit 12126: bad, balance"])
-    results.expect("faults", [element.text for element in stream.iter(SVG + "text") if "breaks" in element.text], ["slot 257 breaks crc"])
-    write_files(folder, {"damaged.events.csv": b"lane,bit,event\n0,6443,lock\n"})
-    told = "picture: damaged.events.csv: its first lock of lane 1 is not that of damaged.lane.1"
-    results.expect("events of other lanes", run([TOOL, "damaged.plan", "--text", "printed"], folder).stderr[:len(told)], told)
-    for name in ("events", "faults"):
-        os.remove(os.path.join(folder, "damaged.%s.csv" % name))
+    breaks = [element.text for element in stream.iter(SVG + "text") if "breaks" in element.text]
+    results.expect("faults", ["slot %d breaks crc" % device.number_of(slot) in breaks for slot in SPOILED_SLOTS], [True] * len(SPOILED_SLOTS))
+    results.expect("events", [title.split(":")[0] for title in titles(lanes, "event")][:1] != [], True)
+    counts = counts_of(folder, "told")
+    results.expect("packets of a device", (counts["packets"], counts["lost"]), (39, 2))
+    for name, text, drawn in (("told.faults.csv", b"word,rule,channel\n7,crc,-\n", "breaks"), ("told.events.csv", b"lane,bit,event\n0,7576,lock\n0,9000,diag\n", "diag")):
+        data = content(os.path.join(folder, name))
+        write_files(folder, {name: text})
+        draw(results, folder, ["told.plan", "--to", "stale"])
+        told = [element.text or "" for kind in ("lanes", "stream") for element in xml.parse(os.path.join(folder, "stale.%s.svg" % kind)).getroot().iter()]
+        results.expect("%s of an older run" % name, [text for text in told if "slot 7 breaks" in text or "9000" in text], [])
+        write_files(folder, {name: text + b"x,y,z\n"})
+        done = run([TOOL, "--overwrite", "told.plan"], folder)
+        results.expect("%s with a row that is none" % name, (done.returncode, done.stderr.count("\n"), done.stderr[:18]), (2, 1, "picture: %s" % name[:9]))
+        write_files(folder, {name: data})
+
+
+def check_device(results, folder):
+    """A device's dump: the program makes what is missing apart, no file is changed but the pictures, and what is missing or of another
+    dump is told without advice to write over it."""
+    for name, breaks in (("whole", ()), ("broken", BREAKS)):
+        device, prefix = Device(PROGRAM, folder, name, breaks), os.path.join(folder, name)
+        pictures = [name + ".lanes.svg", name + ".stream.svg"]
+        before = sums(folder)
+        draw(results, folder, [name + ".plan", "--program", PROGRAM])
+        results.expect(name + ", changed", changed(before, sums(folder)), pictures)
+        spans = int(re.search(r"^spans (\d+)", device.run("receive")[0], re.MULTILINE)[1])
+        results.expect(name, counts_of(folder, name), {"lanes": 3, "packets": {"whole": 47, "broken": 39}[name], "lost": {"whole": 0, "broken": 2}[name], "spans": spans})
+        device.run("gather", "join")
+        before = sums(folder)
+        draw(results, folder, [name + ".plan", "--only", "stream"])
+        results.expect(name + ", joined", counts_of(folder, name)["packets"], {"whole": 47, "broken": 39}[name])
+        expect_refused(results, folder, [name + ".plan"], "%s.lanes.svg exists; --overwrite writes over it" % name, [], ())
+        lane = content(prefix + ".lane.1")
+        os.remove(prefix + ".lane.1")
+        for words in ([], ["--program", PROGRAM]):
+            expect_refused(results, folder, ["--overwrite", name + ".plan"] + words, "%s.lane.1 is missing\n" % name, [], ("link", "burst", "send"))
+        write_files(folder, {name + ".lane.1": lane})
+    check_other_dump(results, folder)
+
+
+def check_other_dump(results, folder):
+    """Words and tables of another dump, of as many words, are not drawn for this one's."""
+    Device(PROGRAM, folder, "first").run("gather", "receive", "check", "inspect")
+    Device(PROGRAM, folder, "second", packets=OTHER_PACKETS).run("gather", "receive", "check", "inspect")
+    results.expect("dumps of one length", [len(content(os.path.join(folder, "%s.%s" % (name, "words")))) for name in ("first", "second")], [1863 * 9] * 2)
+    for stolen, told in ((("words",), NOT_PLACED), (("words", "places.csv"), NOT_PLACED), (("spans.csv", "1.pcap", "2.pcap"), "first.words: no span meets 24 packets"), (("lane.0", "lane.1", "lane.2"), NOT_PLACED)):
+        kept = {"first." + end: content(os.path.join(folder, "first." + end)) for end in stolen}
+        write_files(folder, {"first." + end: content(os.path.join(folder, "second." + end)) for end in stolen})
+        expect_refused(results, folder, ["--overwrite", "--only", "stream", "first.plan"], told, [], ("`interlaken link", "`interlaken burst", "`interlaken send"))
+        write_files(folder, kept)
+    draw(results, folder, ["first.plan", "--only", "stream"])
+
+
+def expect_refused(results, folder, words, told, new, never):
+    """A call that ends with status 2 and one line, changes no file, and does not say what it must not."""
+    before = sums(folder)
+    done = run([TOOL] + words, folder)
+    found = (done.returncode, done.stdout, done.stderr[:len("picture: " + told)], done.stderr.count("\n"))
+    results.expect("picture " + " ".join(words), found, (2, "", "picture: " + told, 1))
+    results.expect("picture %s, changed" % " ".join(words), changed(before, sums(folder)), new)
+    results.expect("picture %s, advice" % " ".join(words), [word for word in never if word in done.stderr], [])
 
 
 def check_joined(results, folder):
@@ -264,8 +330,8 @@ def check_joined(results, folder):
     run([PROGRAM, "burst", "damaged.plan"], folder)
     run([PROGRAM, "join", "damaged.plan"], folder)
     told = "picture: damaged.spans.csv: 2 spans, and the run printed 3: these files are not of one run: "
-    done = run([TOOL, "damaged.plan", "--text", "printed"], folder)
-    results.expect("a table of join", (done.returncode, done.stderr[:len(told)]), (1, told))
+    done = run([TOOL, "--overwrite", "damaged.plan", "--text", "printed"], folder)
+    results.expect("a table of join", (done.returncode, done.stderr[:len(told)]), (2, told))
     draw(results, folder, ["damaged.plan", "--to", "joined"])
     texts = [element.text for element in xml.parse(os.path.join(folder, "joined.stream.svg")).getroot().iter(SVG + "text")]
     results.expect("damage of joined words", [text for text in texts if "damaged" in text], [])
@@ -274,8 +340,8 @@ def check_joined(results, folder):
 def main():
     results = Tally("pictures")
     with tempfile.TemporaryDirectory() as folder:
-        shutil.copytree(os.path.join(TOP, "examples"), folder, dirs_exist_ok=True)
-        steps = [check_examples, check_spoiled, check_stale, check_changed, check_tables, check_joined] + [partial(check_case, number=number) for number in CASES] + [check_wide_link, check_pictures, check_tour]
+        copy_examples(TOP, folder)
+        steps = [check_examples, check_spoiled, check_stale, check_changed, check_tables, check_joined, check_device] + [partial(check_case, number=number) for number in CASES] + [check_wide_link, check_pictures, check_tour]
         for step in steps:
             try:
                 step(results, folder)

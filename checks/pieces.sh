@@ -3,9 +3,9 @@
 # that the text is one write, by a library that makes a write or a read of the program fail.
 set -u
 . "$(dirname "$0")/program.bash"
-wants gcc gcc
+wants_cc
 wants python3 python3
 folder=$(mktemp -d)
 trap 'rm -rf "$folder"' EXIT
-gcc -O1 -shared -fPIC -o "$folder/failing.so" "$top/checks/faults/failing.c" -ldl || { echo "pieces: 0 passed, 1 failed"; exit 1; }
+cc -O1 -shared -fPIC -o "$folder/failing.so" "$top/checks/faults/failing.c" -ldl || { echo "pieces: 0 passed, 1 failed"; exit 1; }
 python3 -B "$top/checks/pieces.py" "$program" "$folder/failing.so"

@@ -11,13 +11,14 @@ import io
 import os
 import random
 import re
-import shutil
 import subprocess
 import sys
 import tempfile
 from collections import Counter
 
 from captures import capture
+from devices import BREAKS, CUT, GROUP, LANES, METAFRAME, PACKETS, PERIOD, SPOILED_SLOTS, Device, changed, spoiled, sums
+from machine import copy_examples
 from runs import content, write_files
 from tally import Tally
 
@@ -33,8 +34,8 @@ EXAMPLES, LINKS = ("damaged", "two", "wide", "again", "status"), 40
 CONTROL, CONTROL_TAG = "10", 2
 PLACES = ["%s_%s" % (end, column) for end in ("first", "last") for column in ("slot", "lane", "metaframe", "bit")]
 
-ANEW = "these files are not of one run: `interlaken link damaged.plan` and then `interlaken burst damaged.plan` make them anew"
-CHANGED = "the schedule was changed after the run; `interlaken link damaged.plan` makes the lanes anew"
+ANEW = "these files are not of one run: `interlaken link` and then `interlaken burst` of this plan with another `out` make new files"
+CHANGED = "the schedule was changed after the run; `interlaken link` of this plan with another `out` makes new lanes"
 MISSING = ["--missing", "--text", "printed"]
 # After a run of examples/damaged.plan: the file that is changed, what in it (None: the file goes), the words, and what the tool says.
 REFUSED = [
@@ -46,9 +47,9 @@ REFUSED = [
     ("damaged.plan", (b"metaframe,32", b"metaframe,64"), [], "damaged.lane.0: 1878 bytes, and 3 metaframes of the plan after a skew of 11 bits fill 1610: " + ANEW),
     ("damaged.plan", (b"metaframe,32", b"metaframe,64"), MISSING, "damaged.plan: 392 slots were printed, and a metaframe of the plan has 120: " + ANEW),
     ("damaged.plan", (b"metaframe,32", b"metaframe,32\nskips,2"), [], "damaged.spans.csv: word 55 of group 12875, and the groups of the plan have 54: " + ANEW),
-    ("damaged.plan", (b"lanes,2", b"lanes,3"), [], "damaged.lane.2 is missing: `interlaken link damaged.plan` makes it"),
+    ("damaged.plan", (b"lanes,2", b"lanes,3"), [], "damaged.lane.2 is missing: `interlaken link` of this plan with another `out` makes new files"),
     ("damaged.plan", (b"lanes,2", b"lanes,3"), MISSING, "damaged.plan: 3 lanes, and the run printed 2: " + ANEW),
-    ("damaged.lane.1", None, [], "damaged.lane.1 is missing: `interlaken link damaged.plan` makes it"),
+    ("damaged.lane.1", None, [], "damaged.lane.1 is missing: `interlaken link` of this plan with another `out` makes new files"),
     ("damaged.words", None, ["--packets"], "damaged.words is missing: `interlaken burst damaged.plan` makes it"),
     ("printed", (b"spans 3", b"spans 4"), MISSING, "damaged.spans.csv: 3 spans, and the run printed 4: " + ANEW),
     ("printed", (b"slots 392", b"slots 448"), MISSING, "damaged.lane.0: 1878 bytes, and 8 metaframes of the plan after a skew of 11 bits fill 2146: " + ANEW),
@@ -189,21 +190,160 @@ def check_refused(tally, folder):
         if change:
             tally.expect("%s has %s" % (name, change[0]), data.count(change[0]), 1)
             write_files(folder.folder, {name: data.replace(*change)})
-        tally.expect("%s changed by %s, %s" % (name, change, words), told("damaged.plan", words), (1, "", "slots: %s\n" % wanted))
+        tally.expect("%s changed by %s, %s" % (name, change, words), told("damaged.plan", words), (2, "", "slots: %s\n" % wanted))
         write_files(folder.folder, {name: data})
     for name, kind in OTHERS.items():
-        tally.expect("%s in place of a plan" % name, told(name, []), (1, "", "slots: %s is %s, and a plan is wanted here\n" % (name, kind)))
+        tally.expect("%s in place of a plan" % name, told(name, []), (2, "", "slots: %s is %s, and a plan is wanted here\n" % (name, kind)))
     folder.run("join", "damaged.plan")
     joined = "slots: damaged.spans.csv: its spans are of a words file, as `join` writes them, and the text is of lanes: %s\n" % ANEW
     write_files(folder.folder, {"printed": content(folder.path("printed")).replace(b"spans 3", b"spans 2")})
-    tally.expect("a table of join and a text of link", told("damaged.plan", MISSING), (1, "", joined))
+    tally.expect("a table of join and a text of link", told("damaged.plan", MISSING), (2, "", joined))
     tally.expect("a table of join", told("damaged.plan", [])[::2], (0, ""))
+
+
+class Dump:
+    """A device's dump, and the tables of the tool, beside the places of the sent words."""
+
+    def __init__(self, tally, folder, name, breaks):
+        self.tally, self.folder, self.name = tally, folder, name
+        self.device = Device(PROGRAM, folder, name, breaks, spoil=spoiled)
+        self.sent = {self.device.number_of(slot): slot for slot in range(len(self.device.words))}
+        # Each number of a gathered word, but of those between epochs.
+        self.sent.pop(None)
+
+    def told(self, *words, plan=None):
+        """What the tool prints; it changes no file."""
+        before = sums(self.folder)
+        done = subprocess.run([TOOL, plan or self.name + ".plan", *words], cwd=self.folder, capture_output=True, encoding="utf-8")
+        self.expect("changed by slots %s" % (words,), changed(before, sums(self.folder)), [])
+        return done.returncode, done.stdout, done.stderr
+
+    def table(self, *words):
+        status, text, error = self.told(*words)
+        self.expect("slots %s" % (words,), (status, error), (0, ""))
+        return list(csv.DictReader(io.StringIO(text)))
+
+    def expect(self, what, found, wanted):
+        self.tally.expect("%s: %s" % (self.name, what), found, wanted)
+
+    def place(self, number):
+        """The columns lane, metaframe and bit of a gathered word, by the sender's formula: a lane is locked from the fourth of its
+        metaframes on that the dump has whole."""
+        slot = self.sent.get(int(number))
+        if slot is None:
+            return None
+        lane, bit = self.device.place(slot)
+        return ["%d" % lane, "%d" % (slot // GROUP - 4), "%d" % bit]
+
+    def expect_places(self, what, rows, ends=("",), key="slot"):
+        """That rows have the places of their words."""
+        found = [[row[end + column] for column in (key, "lane", "metaframe", "bit")] for row in rows for end in ends if row[end + key]]
+        wanted = [[place[0], *(self.place(place[0]) or ["?"])] for place in found]
+        self.expect(what, found, wanted)
+        return len(found)
+
+    def check(self):
+        self.device.run("receive", "gather", "check", "inspect")
+        spans = self.table()
+        self.expect("spans", self.expect_places("places of spans", spans, ("after_", "before_")), 2 * len(spans) - 2)
+        packets = self.table("--packets")
+        self.expect("packets", self.expect_places("places of packets", packets, ("first_", "last_")) > 70, True)
+        words = [int.from_bytes(self.device.words[self.sent[int(row["first_slot"])]][1:], "big") for row in packets]
+        self.expect("words of packets", ([word >> 61 for word in words], [word >> 32 & 255 for word in words]), ([7] * len(words), [int(row["channel"]) for row in packets]))
+        self.expect("sent bits of a lane without a schedule", [row["sent_bit"] for row in packets], [row["first_bit"] for row in packets])
+        self.check_faults(self.table("--faults"))
+        self.check_events(self.table("--events"))
+        self.device.run("join")
+        self.expect("spans of join", [row["after_bit"] for row in self.table()], [row["after_bit"] for row in spans])
+        self.expect("packets after join", self.table("--packets"), packets)
+        self.device.run("receive")
+
+    def check_faults(self, rows):
+        """The spoiled words, and the bad words of a break."""
+        wrong = ["%d" % self.device.number_of(slot) for slot in SPOILED_SLOTS]
+        self.expect("words with a wrong CRC24", [row["word"] for row in rows if row["rule"] == "crc"], wrong)
+        self.expect_places("places of faults", [row for row in rows if row["rule"] == "crc"], key="word")
+        bad = [[row["lane"], int(row["bit"])] for row in rows if row["rule"] == "bad"]
+        # The 16 words of lane 1 whose headers are among the zeros, the last of which ends the lock.
+        first = CODE * (METAFRAME * 11 + 7) - CUT[1]
+        self.expect("places of bad words", bad, [["1", first + CODE * number] for number in range(16)] if self.device.breaks else [])
+
+    def check_events(self, rows):
+        places = {self.device.place(slot): "%d" % number for number, slot in self.sent.items()}
+        first = {row["lane"]: int(row["bit"]) for row in reversed(rows) if row["event"] == "lock"}
+        self.expect("first locks", first, {"%d" % lane: PERIOD * 4 - CUT[lane] for lane in range(LANES)})
+        for row in rows:
+            lane, bit = row["lane"], int(row["bit"])
+            told = places.get((int(lane), bit)) if row["event"] in ("bad", "balance") else None
+            self.expect("metaframe of %s" % row, row["metaframe"], "%d" % ((bit - first[lane]) // PERIOD))
+            if told:
+                self.expect("word of %s" % row, row["word"], told)
+            if row["event"] in ("lock", "sync", "state"):
+                self.expect("word of %s" % row, row["word"], "")
+
+    def expect_refused(self, what, words, *told):
+        status, text, error = self.told(*words)
+        self.expect(what, (status, text, error.count("\n"), [part for part in told if part not in error], "`interlaken link" in error or "`interlaken burst" in error or "`interlaken send" in error), (2, "", 1, [], False))
+
+    def check_program(self):
+        """Tables that the program makes apart, of the lanes alone."""
+        wanted = {words: self.table(*words) for words in ((), ("--packets",), ("--faults",), ("--events",))}
+        for name in os.listdir(self.folder):
+            if name.startswith(self.name + ".") and ".lane." not in name and not name.endswith(".plan"):
+                os.remove(os.path.join(self.folder, name))
+        for words, rows in wanted.items():
+            self.expect("with --program, %s" % (words,), self.table(*words, "--program", PROGRAM), rows)
+        self.expect_refused("--missing of a dump", ["--missing", "--program", PROGRAM], "names no captures")
+        for words in ([], ["--packets"], ["--faults"], ["--events"]):
+            self.expect_refused("%s of lanes alone" % words, words)
+
+    def check_stale(self, other):
+        """Files of another dump, of as many words, and tables that are of an older run."""
+        path = os.path.join(self.folder, self.name + ".")
+        for ends, words, told in (
+                (("words",), ["--packets"], "%s.places.csv is not of these lanes and words" % self.name), (("words", "places.csv"), ["--packets"], "is not of these lanes and words"),
+                (("lane.0", "lane.1", "lane.2"), ["--packets"], "is not of these lanes and words"), (("lane.0", "lane.1", "lane.2"), [], "is not of these lanes and words"),
+                (("spans.csv",), [], "%s.spans.csv is of an older run: `interlaken receive %s.plan` makes it anew" % (self.name, self.name)),
+                (("faults.csv",), ["--faults"], "%s.faults.csv is of an older run: `interlaken check %s.plan` makes it anew" % (self.name, self.name)),
+                (("events.csv",), ["--events"], "%s.events.csv is of an older run: `interlaken inspect %s.plan` makes it anew" % (self.name, self.name))):
+            kept = {end: content(path + end) for end in ends}
+            write_files(self.folder, {"%s.%s" % (self.name, end): other[end] for end in ends})
+            self.expect_refused("%s of another dump, %s" % (ends, words), words, told)
+            write_files(self.folder, {"%s.%s" % (self.name, end): data for end, data in kept.items()})
+        for end, words in (("lane.1", []), ("lane.1", ["--packets"]), ("lane.1", ["--faults"]), ("lane.1", ["--events"]), ("words", ["--packets"]), ("faults.csv", ["--faults"]), ("events.csv", ["--events"]), ("spans.csv", [])):
+            data = content(path + end)
+            os.remove(path + end)
+            self.expect_refused("without %s, %s" % (end, words), words, "%s.%s" % (self.name, end))
+            write_files(self.folder, {"%s.%s" % (self.name, end): data})
+        done = subprocess.run([TOOL, self.name + ".plan"], cwd=self.folder, capture_output=True, encoding="utf-8", env={**os.environ, "INTERLAKEN_PROGRAM": "./absent"})
+        self.expect("without a program", (done.returncode, done.stdout, done.stderr), (2, "", "slots: there is no program ./absent; INTERLAKEN_PROGRAM or --program names it\n"))
+        for end, data, words in (("places.csv", b"word,group,index,why\n0,x,0,-\n", []), ("places.csv", b"word\n", []), ("faults.csv", b"word,rule,channel\n1,none,-\n", ["--faults"]), ("events.csv", b"lane,bit,event\n9,9,diag\n", ["--events"])):
+            kept = content(path + end)
+            write_files(self.folder, {"%s.%s" % (self.name, end): data})
+            self.expect_refused("%s spoiled" % end, words)
+            write_files(self.folder, {"%s.%s" % (self.name, end): kept})
+
+
+def check_dumps(tally, folder):
+    """A device's lanes from 1,000 bits into a metaframe on, whole, and with a break after which one of them is late."""
+    dumps = [Dump(tally, folder, name, breaks) for name, breaks in (("whole", ()), ("broken", BREAKS))]
+    for dump in dumps:
+        dump.check()
+    Device(PROGRAM, folder, "other", packets=PACKETS[::-1]).run("receive", "gather", "check", "inspect")
+    ends = ["words", "places.csv", "spans.csv", "faults.csv", "events.csv"] + ["lane.%d" % lane for lane in range(LANES)]
+    other = {end: content(os.path.join(folder, "other." + end)) for end in ends}
+    tally.expect("words of another dump", len(other["words"]), len(content(os.path.join(folder, "whole.words"))))
+    other["spans.csv"] = other["spans.csv"].replace(b",end", b",lost")
+    other["events.csv"] += b"2,20000,skip\n"
+    dumps[0].check_stale(other)
+    for dump in dumps:
+        dump.check_program()
 
 
 def main():
     tally, lost, struck = Tally("slots"), 0, 0
     with tempfile.TemporaryDirectory() as path:
-        shutil.copytree(os.path.join(TOP, "examples"), path, dirs_exist_ok=True)
+        copy_examples(TOP, path)
         folder = Folder(PROGRAM, path)
         for number in range(LINKS):
             for name, data in random_link(random.Random(number), "random%d" % number).items():
@@ -217,6 +357,7 @@ def main():
                 continue
             lost, struck = lost + missing, struck + damage
         try:
+            check_dumps(tally, path)
             check_refused(tally, folder)
         except (Refused, OSError) as refused:
             tally.count("files of two runs", str(refused))

@@ -23,6 +23,15 @@ gives_up() { # WHY
   ends
 }
 
+# How long to wait by the clock for what takes an idle machine so many seconds: twice that, and as much again for each process that
+# waits for a processor. machine.py has the same for Python.
+patience() { # SECONDS
+  local load=0 processors
+  processors=$(nproc 2>/dev/null) || processors=1
+  { read -r load _ </proc/loadavg; } 2>/dev/null
+  echo $((2 * $1 * (processors + ${load%.*}) / processors))
+}
+
 # Prints the last line, and ends the check.
 ends() {
   echo "$name: $passed passed, $failed failed"
@@ -32,9 +41,28 @@ ends() {
 
 # Ends the script where a tool is not there.
 wants() { # TOOL PACKAGE
-  command -v "$1" >/dev/null 2>&1 && return
+  ! command -v "$1" >/dev/null 2>&1 || return 0
+  skips "$1" "$2"
+}
+
+# Ends the script for want of a tool.
+skips() { # TOOL PACKAGE
   echo "$name: skipped, no $1 (Debian package $2)"
   exit 77
+}
+
+# Ends the script where cc is not there, or has no headers of the C library: gcc only recommends the package that has them.
+wants_cc() {
+  wants cc gcc
+  echo '#include <dlfcn.h>' | cc -E -o /dev/null - 2>/dev/null || skips dlfcn.h libc6-dev
+}
+
+# Whether verilator is there, of version 5 or later: it is the first that runs a bench with delays.
+has_verilator() {
+  case $(verilator --version 2>/dev/null) in
+    'Verilator '[5-9]* | 'Verilator '[1-9][0-9]*) ;;
+    *) return 1 ;;
+  esac
 }
 
 # Whether a tool is not there that a part of the check needs, which is then told.

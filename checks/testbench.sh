@@ -38,7 +38,7 @@ lines_of() { # COMMAND
 }
 
 bench_of() { # CHECK FILE LANE
-  timeout 30 vvp -n "$1" "+file=$2" "+lane=$3" 2>&1
+  timeout "$(patience 30)" vvp -n "$1" "+file=$2" "+lane=$3" 2>&1
 }
 
 # A lane with the damage that the rows of a schedule say: link, receive and the bench agree on it.
@@ -120,12 +120,12 @@ agrees 'metaframes of another length, as the bench prints it' "$(bench_of check4
 # Lanes that send made of no packets are those that the bench makes: a stream of no packets has two groups more than its warm-up.
 plan warmup,4 channel,1
 "$program" send p.plan >sent 2>&1
-timeout 30 vvp -n make32 +file=m.lane.0 +metaframes=6 >made 2>&1
+timeout "$(patience 30)" vvp -n make32 +file=m.lane.0 +metaframes=6 >made 2>&1
 agrees 'a made lane of metaframes of 32 words' "$(cksum <m.lane.0)" "$(cksum <o.lane.0)"
 plan lanes,2 metaframe,40 skips,3 warmup,8 channel,1
 "$program" send p.plan >sent 2>&1
 for lane in 0 1; do
-  timeout 30 vvp -n "make40_$lane" "+file=m.lane.$lane" +metaframes=10 >made 2>&1
+  timeout "$(patience 30)" vvp -n "make40_$lane" "+file=m.lane.$lane" +metaframes=10 >made 2>&1
   agrees "made lane $lane of metaframes of 40 words" "$(cksum <"m.lane.$lane")" "$(cksum <"o.lane.$lane")"
   line=$(lines_of receive | sed -n "$((lane + 1))p")
   agrees "lane $lane of metaframes of 40 words" "$(bench_of check40 "m.lane.$lane" "$lane" | head -n 1)" "$line"
@@ -137,7 +137,7 @@ got=$(printf '%s\n' "$clean" 'got channel=1 packets=0 bytes=0' 'spans 2' \
   'dropped bad=0 crc=0 protocol=0 lost=0 end=0 toolong=0 unlisted=0 sender=0')
 cp "$bench/idle.plan" .
 for way in balanced plain; do
-  timeout 30 vvp -n make32 +file=idle.lane.0 +metaframes=12 "+$way" >made 2>&1
+  timeout "$(patience 30)" vvp -n make32 +file=idle.lane.0 +metaframes=12 "+$way" >made 2>&1
   agrees "receive of a made lane, $way" "$("$program" receive idle.plan 2>&1)" "$got"
   bench_of check32 idle.lane.0 0 >told
   agrees "the bench of a made lane, $way" "$(head -n 1 told)" "$clean"
@@ -145,13 +145,12 @@ for way in balanced plain; do
   agrees "the disparity of a made lane, $way" "$(grep -c 'unbalanced=0 ' told)" "$wanted"
 done
 
-case $(verilator --version 2>/dev/null) in
-  'Verilator '[5-9]* | 'Verilator '[1-9][0-9]*)
-    for kind in check make; do
-      complaints=$(cd "$bench" && verilator --lint-only -Wall --timing -f "$kind.f" --top-module "tb_$kind" 2>&1)
-      holds "lint of $kind" "$? $complaints" '0 '
-    done
-    ;;
-  *) echo "$name: not tried, no verilator of version 5 or later (Debian package verilator): the lint of both benches" ;;
-esac
+if has_verilator; then
+  for kind in check make; do
+    complaints=$(cd "$bench" && verilator --lint-only -Wall --timing -f "$kind.f" --top-module "tb_$kind" 2>&1)
+    holds "lint of $kind" "$? $complaints" '0 '
+  done
+else
+  echo "$name: not tried, no verilator of version 5 or later (Debian package verilator): the lint of both benches"
+fi
 ends

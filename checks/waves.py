@@ -11,6 +11,8 @@ import tempfile
 from bisect import bisect_right
 from collections import Counter, namedtuple
 
+from devices import BREAKS, CUT, LANES, METAFRAME, PACKETS, SKIPS, SPOILED_SLOTS, Device, changed, spoiled, sums
+from machine import copy_examples, patience
 from runs import content, write_files
 from tally import Tally
 
@@ -34,7 +36,7 @@ DRAWN = 8
 
 
 def run(words, folder):
-    return subprocess.run(words, cwd=folder, capture_output=True, encoding="utf-8", timeout=120)
+    return subprocess.run(words, cwd=folder, capture_output=True, encoding="utf-8", timeout=patience(120))
 
 
 def printed(tally, folder, command, name):
@@ -198,32 +200,58 @@ def check_damaged(tally, folder):
     tally.expect("damaged, differing words", [slot for slot, word in received_slots(waves, shape, skews) if word != sent[slot]], [230])
 
 
-# Tables of the example, by the rules: what `inspect` and `check` tell of its lanes, and of words with a fault in the word of slot 230.
-EVENTS = b"lane,bit,event\n0,6443,lock\n0,10664,diag\n1,6632,lock\n"
-FAULTS = b"word,rule,channel\n257,crc,-\n257,off,2\n"
+def check_device(tally, folder, name, breaks):
+    """A device's dump from 1,000 bits into a metaframe on: its stream, faults and events at the places of a sender's formula."""
+    device = Device(PROGRAM, folder, name, breaks, spoil=spoiled)
+    device.run("receive", "gather", "check", "inspect")
+    before = sums(folder)
+    waves = made(tally, folder, name, name)
+    tally.expect(name + ", changed", changed(before, sums(folder)), [name + ".vcd"] + [name + ".vcd.fst"] * os.path.exists(os.path.join(folder, name + ".vcd.fst")))
+    sent = {device.number_of(slot): slot for slot in range(len(device.words))}
+    sent.pop(None)
+    shape, times = Shape(name, LANES, METAFRAME, SKIPS), {slot: time for time, slot in waves.changes("stream.slot") if slot is not None}
+    wanted = {number: device.row_bit(slot) + CODE * (slot % LANES) // LANES for number, slot in sent.items()}
+    tally.expect(name + ", times of slots", {slot: times.get(slot) for slot in wanted}, wanted)
+    tally.expect(name + ", words of slots", [number for number, slot in sent.items() if waves.at("stream.word", times[number]) != int.from_bytes(device.words[slot][1:], "big") and slot not in device.broken_slots()], [])
+    for slot in SPOILED_SLOTS:
+        tally.expect("%s, rule of sent word %d" % (name, slot), waves.at("stream.rule", times[device.number_of(slot)]), "crc")
+    bad = [time for time, kind in waves.changes("stream.kind") if kind == "bad"]
+    tally.expect(name + ", bad words", len(bad), 16 if breaks else 0)
+    with open(os.path.join(folder, name + ".spans.csv"), encoding="utf-8") as file:
+        tally.expect(name + ", spans", len({value for _, value in waves.changes("stream.span") if value is not None}), len(file.readlines()) - 1)
+    for lane in range(LANES):
+        events = [time for time, event in waves.changes("lane_%d.event" % lane) if event == "lock"]
+        tally.expect("%s, first lock of lane %d" % (name, lane), events[:1], [CODE * METAFRAME * 4 - CUT[lane]])
+    return shape
 
 
 def check_tables(tally, folder):
-    """The events of lanes and the faults of words, where their tables are there."""
-    write_files(folder, {"damaged.events.csv": EVENTS, "damaged.faults.csv": FAULTS})
-    waves = made(tally, folder, "damaged", "damaged, with tables")
-    tally.expect("events of lane 0", waves.changes("lane_0.event"), [(0, "-"), (6443, "lock"), (6443 + CODE, "-"), (10664, "diag"), (10664 + CODE, "-")])
-    tally.expect("events of lane 1", waves.changes("lane_1.event"), [(0, "-"), (6632, "lock"), (6632 + CODE, "-")])
-    begin = waves.changes("stream.slot")[[slot for _, slot in waves.changes("stream.slot")].index(257)][0]
-    tally.expect("rules of slot 257", waves.changes("stream.rule")[1], (begin, "crc+off_of_channel_2"))
-    tally.expect("rules end with the slot", [value for _, value in waves.changes("stream.rule")], ["-", "crc+off_of_channel_2", "-"])
-    for name, data, told in (
-            ("events", EVENTS.replace(b"6443", b"6510"), "damaged.events.csv: its first lock of lane 0 is not that of damaged.lane.0"),
-            ("events", EVENTS.replace(b"10664", b"99999"), "damaged.events.csv: row 3: no word of the lanes"),
-            ("events", EVENTS.replace(b"diag", b"dial"), "damaged.events.csv: row 3: 'dial' is no event"),
-            ("faults", FAULTS.replace(b"257,off", b"392,off"), "damaged.faults.csv: row 3: word 392, and the words file has 392"),
-            ("faults", b"word,rule\n", "damaged.faults.csv: no table with the heading word,rule,channel")):
-        kept = {"events": EVENTS, "faults": FAULTS}[name]
-        write_files(folder, {"damaged.%s.csv" % name: data})
-        expect_refused(tally, folder, told, ["damaged.plan"], 1, told)
-        write_files(folder, {"damaged.%s.csv" % name: kept})
-    for name in ("events", "faults"):
-        os.remove(os.path.join(folder, "damaged.%s.csv" % name))
+    """Devices' dumps with their tables, and tables and words that are of an older run, or are none."""
+    for name, breaks in (("whole", ()), ("broken", BREAKS)):
+        check_device(tally, folder, name, breaks)
+    other = Device(PROGRAM, folder, "other", packets=PACKETS[::-1])
+    other.run("receive", "gather")
+    kept = {end: content(os.path.join(folder, "whole." + end)) for end in ("events.csv", "faults.csv", "words", "places.csv", "spans.csv", "lane.1")}
+    for end, signal in (("events.csv", "event"), ("faults.csv", "rule")):
+        write_files(folder, {"whole." + end: kept[end].split(b"\n")[0] + b"\n" + kept[end].split(b"\n")[1] + b"\n"})
+        done = run([TOOL, "--overwrite", "whole.plan"], folder)
+        tally.expect("%s of an older run" % end, (done.returncode, done.stderr, "%ss=" % {"event": "event", "rule": "fault"}[signal] in done.stdout), (0, "", False))
+        with open(os.path.join(folder, "whole.vcd"), encoding="ascii") as file:
+            tally.expect("signals beside %s of an older run" % end, " %s $end" % signal in file.read(), False)
+        for data in (b"no,heading\n", kept[end] + b"9,9,dial\n", kept[end] + b"x,crc,-\n"):
+            write_files(folder, {"whole." + end: data})
+            expect_refused(tally, folder, "%s spoiled" % end, ["whole.plan"], "whole.%s: " % end)
+        write_files(folder, {"whole." + end: kept[end]})
+    for ends in (("words",), ("words", "places.csv"), ("lane.0", "lane.1", "lane.2"), ("spans.csv",)):
+        before = {end: content(os.path.join(folder, "whole." + end)) for end in ends}
+        write_files(folder, {"whole." + end: content(os.path.join(folder, "other." + end)).replace(b",end", b",lost") for end in ends})
+        expect_refused(tally, folder, "%s of another dump" % (ends,), ["whole.plan"], "whole.%s" % ("spans.csv is of an older run: `interlaken receive" if ends == ("spans.csv",) else "places.csv is not of these lanes and words: "))
+        write_files(folder, {"whole." + end: data for end, data in before.items()})
+    os.remove(os.path.join(folder, "whole.lane.1"))
+    expect_refused(tally, folder, "a dump without a lane", ["whole.plan"], "whole.lane.1 is missing\n")
+    write_files(folder, {"whole.lane.1": kept["lane.1"]})
+    done = run([TOOL, "whole.plan"], folder)
+    tally.expect("waves that are there", (done.returncode, done.stdout, done.stderr), (2, "", "waves: whole.vcd exists; --overwrite writes over it\n"))
 
 
 def check_losses(tally, folder):
@@ -253,7 +281,7 @@ def ends_of(waves, shape):
 
 def made(tally, folder, name, what):
     """The waves that the tool writes, which another reader has to read alike."""
-    done = run([TOOL, name + ".plan"], folder)
+    done = run([TOOL, "--overwrite", name + ".plan"], folder)
     if done.returncode != 0:
         tally.give_up(what, "status %d: %s" % (done.returncode, done.stderr))
     path = os.path.join(folder, name + ".vcd")
@@ -286,43 +314,44 @@ def write_plan(folder, shape, schedule):
             file.write("\n".join(lines) + "\n")
 
 
-NOT_OF_ONE_RUN = "these files are not of one run: `interlaken link damaged.plan` and then `interlaken burst damaged.plan` make them anew\n"
+NOT_OF_ONE_RUN = "these files are not of one run: `interlaken link` and then `interlaken burst` of this plan with another `out` make new files\n"
 
 
 def check_refused(tally, folder):
     """Calls and files that the tool does not take."""
     printed(tally, folder, "link", "damaged")
-    expect_refused(tally, folder, "a words file as the plan", ["damaged.words"], 1, "damaged.words is a words file, and a plan is wanted here")
+    expect_refused(tally, folder, "a words file as the plan", ["damaged.words"], "damaged.words is a words file, and a plan is wanted here")
     schedule = content(os.path.join(folder, "damaged.schedule"))
     write_files(folder, {"damaged.schedule": schedule.replace(b"skew,0,11", b"skew,0,12")})
-    expect_refused(tally, folder, "another skew", ["damaged.plan"], 1, "damaged.lane.0: a Sync word at bit 11, and none begins there after a skew of 12 bits: " + NOT_OF_ONE_RUN)
+    expect_refused(tally, folder, "another skew", ["damaged.plan"], "damaged.lane.0: a Sync word at bit 11, and none begins there after a skew of 12 bits: " + NOT_OF_ONE_RUN)
     write_files(folder, {"damaged.schedule": schedule})
     words = os.path.join(folder, "damaged.words")
     data = bytearray(content(words))
     data[9 * 301 - 1] ^= 1
     write_files(folder, {"damaged.words": bytes(data)})
-    expect_refused(tally, folder, "words with another word", ["damaged.plan"], 1, "damaged.words: slot 300 is another word than lane 0 has, whose Diagnostic word after it is right: " + NOT_OF_ONE_RUN)
+    expect_refused(tally, folder, "words with another word", ["damaged.plan"], "damaged.words: slot 300 is another word than lane 0 has, whose Diagnostic word after it is right: " + NOT_OF_ONE_RUN)
     shutil.copy(os.path.join(folder, "two.words"), words)
-    expect_refused(tally, folder, "words of another plan", ["damaged.plan"], 1, "damaged.words: its 252 slots fill 8576 bits of a lane, and damaged.lane.0 has 1878 bytes: " + NOT_OF_ONE_RUN)
+    expect_refused(tally, folder, "words of another plan", ["damaged.plan"], "damaged.words: its 252 slots fill 8576 bits of a lane, and damaged.lane.0 has 1878 bytes: " + NOT_OF_ONE_RUN)
     os.remove(os.path.join(folder, "damaged.lane.1"))
-    expect_refused(tally, folder, "a lane that is missing", ["damaged.plan"], 1, "damaged.lane.1 is missing: `interlaken link damaged.plan` makes it")
-    expect_refused(tally, folder, "no plan", ["absent.plan"], 1, "absent.plan: No such file")
-    expect_refused(tally, folder, "a folder that is not there", ["two.plan", "--to", "no/two.vcd"], 1, "no/two.vcd: No such file")
-    expect_refused(tally, folder, "no words", [], 2, "")
-    expect_refused(tally, folder, "an unknown option", ["damaged.plan", "--from", "7"], 2, "")
+    expect_refused(tally, folder, "a lane that is missing", ["damaged.plan"], "damaged.lane.1 is missing: `interlaken link` of this plan with another `out` makes new files")
+    expect_refused(tally, folder, "no plan", ["absent.plan"], "absent.plan: No such file")
+    expect_refused(tally, folder, "a folder that is not there", ["two.plan", "--to", "no/two.vcd"], "no/two.vcd: No such file")
+    expect_refused(tally, folder, "no words", [], "the following arguments are required: plan; `waves --help` shows the words\n")
+    expect_refused(tally, folder, "an unknown option", ["damaged.plan", "--from", "7"], "unrecognized arguments: --from 7; `waves --help` shows the words\n")
 
 
-def expect_refused(tally, folder, what, words, status, told):
-    done = run([TOOL] + words, folder)
-    beginning = "waves: " + told if status == 1 else "usage: waves"
-    tally.expect(what, (done.returncode, done.stdout, done.stderr[:len(beginning)]), (status, "", beginning))
+def expect_refused(tally, folder, what, words, told):
+    before, beginning = sums(folder), "waves: " + told
+    done = run([TOOL, "--overwrite"] + words, folder)
+    tally.expect(what + ", changed", changed(before, sums(folder)), [])
+    tally.expect(what, (done.returncode, done.stdout, done.stderr[:len(beginning)], done.stderr.count("\n")), (2, "", beginning, 1))
     tally.expect(what + ", no file", [name for name in os.listdir(folder) if name.endswith(".part")], [])
 
 
 def main():
     tally = Tally("waves")
     with tempfile.TemporaryDirectory() as folder:
-        shutil.copytree(os.path.join(TOP, "examples"), folder, dirs_exist_ok=True)
+        copy_examples(TOP, folder)
         for shape in EXAMPLES:
             check_sent(tally, folder, shape)
         check_damaged(tally, folder)

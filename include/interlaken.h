@@ -1,22 +1,83 @@
-/* Both ends of an Interlaken link, for C and C++. A receiver: bytes of lanes in, packets, fault spans and control words out. A
- * transmitter: packets and rows of flow control in, at any time, bytes of lanes out. And damage of lanes on their way, so that a bench can
- * injure a lane while it runs.
+/* Both ends of an Interlaken link, for C and C++.
  *
- * A call returns one of `enum interlaken_result`, and is defined for every value of its numbers and every content of its bytes, as
- * long as
- * - each pointer is valid for what it points to, aligned for its type, and never null, also where a count is 0;
+ * - A receiver: feed it bytes of lanes; it returns packets, fault spans and control words.
+ * - A transmitter: give it packets and flow control at any time, and take bytes of lanes.
+ * - Damage: it inverts bits of lanes on their way, or forces them to 0, while a bench runs.
+ *
+ * This receives the packets of one lane. `plan` is the text of a plan file of `plan_size` bytes,
+ * and `lane` has `size` bytes of the lane:
+ *
+ *     interlaken_receiver r = {0};
+ *     interlaken_refusal why;
+ *     interlaken_event e = {0};
+ *     size_t taken, at = 0;
+ *     if (interlaken_receiver_new(&r, plan, plan_size, &why) != INTERLAKEN_DONE) return why.row;
+ *     for (; e.kind != INTERLAKEN_ENDED; interlaken_receiver_next(&r, &e)) {
+ *       if (e.kind == INTERLAKEN_PACKET) printf("packet of %u bytes\n", (unsigned)e.length);
+ *       if (e.kind != INTERLAKEN_NONE) continue;
+ *       if (at == size) interlaken_receiver_finish(&r, 0);
+ *       else interlaken_receiver_feed(&r, 0, lane + at, size - at, &taken), at += taken;
+ *     }
+ *     interlaken_receiver_free(&r);
+ *
+ * What ends a loop
+ *
+ * - A receiver: INTERLAKEN_ENDED, once, after all lanes are finished. INTERLAKEN_NONE before that
+ *   means that at least one unfinished lane has an empty ring: feed or finish that lane.
+ * - A transmitter: after `finish`, a turn in which `take` returns 0 bytes of every lane. If `take`
+ *   returns 0 bytes of one lane before, take the others: too many of their bytes wait.
+ *
+ * Threads
+ *
+ * A handle is used by one call at a time. If threads share a handle, one call returns before the
+ * next begins, as with a mutex. Calls on different handles may run at the same time, if the
+ * functions of interlaken_alloc.h may.
+ *
+ * Terms
+ *
+ * - Code: the 67 bits of a word on a lane: inversion bit, 2 header bits, 64 bits.
+ * - Bad word: a word with the header 00 or 11. All others have 01 (data) or 10 (control).
+ * - Control word: a word of 64 bits between bursts, with channel, start and end marks, flow
+ *   control and CRC24. SOP marks the start of a packet.
+ * - CRC24 block: the words after a control word, up to and with the next, which its CRC24 covers.
+ * - Verified: a control word that ends a block without a bad word, with the right CRC24, and by
+ *   the rules of bursts and ends.
+ * - Fault span: the words between two verified control words, if a block between them failed or a
+ *   lock was lost; also the words before the first verified word and after the last.
+ * - Metaframe: on each lane the words from one Sync word to the next. It ends with a Diagnostic
+ *   word, which has a CRC32.
+ * - Word lock: the receiver knows where the words of a lane begin. Declared lock: it knows where
+ *   metaframes begin, too. The Sync word that shows this, the fourth in a row, declares it.
+ * - Covered: a word of a declared lock, from the Sync word that declares it, up to the last word
+ *   before the one that loses it.
+ * - Running state: the state of a lane's scrambler that the receiver has computed.
+ * - Group: the words of one metaframe of all lanes, without its framing words. Its name is the bit
+ *   at which lane 0's Sync word begins.
+ * - Calendar: the list of channels whose on and off bits the control words carry, 16 in each. A
+ *   control word with Reset Calendar begins the list anew.
+ * - Ring: the bytes of a lane that were fed and not used yet, or made and not taken yet.
+ *
+ * Rules of all calls
+ *
+ * A call returns one of `enum interlaken_result`. It is defined for every value of its numbers and
+ * every content of its bytes, as long as
+ * - each pointer is valid for what it points to, aligned for its type, and never null, also if a
+ *   count is 0;
  * - no two pointers of one call lead to the same bytes;
- * - a handle is all zeros, or as the last call on it left it, and is in one place: it may be moved, but of a copy and what it was
- *   copied of only one is used from then on;
- * - a handle is used by one call at a time: where threads share it, one call has returned before the next begins, as by a mutex.
- * Misuse of any other kind has a result, and leaves what the handle has as it was. Where several results apply it is the first of
- * NO_RECEIVER or NO_DAMAGE or NO_TRANSMITTER, IN_USE, NO_LANE, FINISHED, NO_CHANNEL, BAD_LENGTH, TOO_MANY, OUT_OF_RANGE, PASSED,
- * OUT_OF_MEMORY. What a call only writes need not be initialised before, and is written whatever the result is. After
- * `interlaken_receiver_new` no call on a receiver takes memory; of those on damage `new`, `flip` and `dark` do, and of those on a
- * transmitter `new` and `packet`.
+ * - a handle is either all zeros or exactly what the last call left in it. You may move it. If you
+ *   copy it, use only one of the two afterwards.
  *
- * Memory comes from the three functions of interlaken_alloc.h. The libraries that tools/library makes have them over malloc, realloc
- * and free. */
+ * Any other misuse returns an error code and changes nothing. If several results apply, the call
+ * returns the first of NO_RECEIVER or NO_DAMAGE or NO_TRANSMITTER, IN_USE, NO_LANE, FINISHED,
+ * NO_CHANNEL, BAD_LENGTH, TOO_MANY, OUT_OF_RANGE, PASSED, OUT_OF_MEMORY. IN_USE also precedes
+ * BAD_PLAN. What a call only writes need not be initialised, and is written whatever the result is.
+ *
+ * Memory comes from the three functions of interlaken_alloc.h. The libraries that tools/library
+ * makes have them over malloc, realloc and free. After `interlaken_receiver_new` no call on a
+ * receiver allocates memory. Of the calls on damage `new`, `flip` and `dark` do; of the calls on a
+ * transmitter `new` and `packet` do. A receiver keeps room for the longest packet of the plan
+ * (`max_packet`) on each channel, so a smaller `max_packet` saves memory. Give a thread that calls
+ * `interlaken_receiver_new` or `interlaken_transmitter_new` a stack of 128 KiB or more. */
 #ifndef INTERLAKEN_H
 #define INTERLAKEN_H
 
@@ -27,43 +88,47 @@
 extern "C" {
 #endif
 
-/* The version of these calls. The shared library has the first number in its name. */
+/* The version of the program, the library and the formats of files. The shared library has the
+ * first number in its name. */
 #define INTERLAKEN_VERSION "1.4.0"
 
 /* The results of calls. */
 enum interlaken_result {
-  INTERLAKEN_DONE = 0,          /* the call did what it was asked */
-  INTERLAKEN_OUT_OF_MEMORY = 1, /* memory ran out: there is no receiver, no transmitter, no damage, no row more, or no packet more */
-  INTERLAKEN_BAD_PLAN = 2,      /* the plan is refused: there is no receiver, or no transmitter */
-  INTERLAKEN_NO_LANE = 3,       /* there is no such lane */
-  INTERLAKEN_FINISHED = 4,      /* the lane, or the transmitter, was finished before */
-  INTERLAKEN_TOO_MANY = 5,      /* the lane has 2^40 bytes or more, or the piece has; or the channel would be given more than 2^60 */
-  INTERLAKEN_NO_PACKET = 6,     /* the last event was no packet */
-  INTERLAKEN_NO_RECEIVER = 7,   /* the handle has no receiver: it is all zeros, or its receiver was freed */
-  INTERLAKEN_IN_USE = 8,        /* the handle has a receiver, a transmitter, or damage, already, and keeps it */
-  INTERLAKEN_NO_DAMAGE = 9,     /* the handle has no damage: it is all zeros, or its damage was freed */
-  INTERLAKEN_OUT_OF_RANGE = 10, /* there is no such number of lanes, or a lane has no such bit */
-  INTERLAKEN_PASSED = 11,       /* all bits that are named have passed: nothing happens to them any more */
-  INTERLAKEN_NO_TRANSMITTER = 12, /* the handle has no transmitter: it is all zeros, or its transmitter was freed */
-  INTERLAKEN_NO_CHANNEL = 13,   /* the plan does not list the channel */
-  INTERLAKEN_BAD_LENGTH = 14    /* the packet has no bytes, or more than 262,144 */
+  INTERLAKEN_DONE = 0,            /* the call did what it was asked */
+  INTERLAKEN_OUT_OF_MEMORY = 1,   /* memory ran out: no handle was opened, no row or packet added */
+  INTERLAKEN_BAD_PLAN = 2,        /* the plan is refused: no receiver or transmitter was opened */
+  INTERLAKEN_NO_LANE = 3,         /* no lane has this number */
+  INTERLAKEN_FINISHED = 4,        /* the lane, or the transmitter, was finished before */
+  INTERLAKEN_TOO_MANY = 5,        /* the lane or the piece has 2^40 bytes or more, or the channel
+                                     would be given more than 2^60 */
+  INTERLAKEN_NO_PACKET = 6,       /* the last event was no packet */
+  INTERLAKEN_NO_RECEIVER = 7,     /* the handle has no receiver: it is all zeros, or was freed */
+  INTERLAKEN_IN_USE = 8,          /* the handle is open already, and stays as it is */
+  INTERLAKEN_NO_DAMAGE = 9,       /* the handle has no damage: it is all zeros, or was freed */
+  INTERLAKEN_OUT_OF_RANGE = 10,   /* the number of lanes, or the bit of a lane, is not allowed */
+  INTERLAKEN_PASSED = 11,         /* all named bits have passed: nothing happens to them any more */
+  INTERLAKEN_NO_TRANSMITTER = 12, /* the handle has no transmitter: it is all zeros, or was freed */
+  INTERLAKEN_NO_CHANNEL = 13,     /* the plan does not list the channel */
+  INTERLAKEN_BAD_LENGTH = 14      /* the packet has no bytes, or more than 262,144 */
 };
 
-/* A handle of a receiver, or of none. All zeros is a handle of none, as in `interlaken_receiver r = {0};`. Both members are the
- * library's own. */
+/* A handle of a receiver, or of none. All zeros is a handle of none, as in
+ * `interlaken_receiver r = {0};`. Both members belong to the library. */
 typedef struct interlaken_receiver {
   void *at;
   uint8_t live;
 } interlaken_receiver;
 
-/* A handle of a transmitter, or of none. All zeros is a handle of none. Both members are the library's own. */
+/* A handle of a transmitter, or of none. All zeros is a handle of none. Both members belong to the
+ * library. */
 typedef struct interlaken_transmitter {
   void *at;
   uint8_t live;
 } interlaken_transmitter;
 
-/* What a transmitter was given on a channel, and what it sent of it. A burst is sent once its burst word was made: then all its bytes
- * count, and its packet where it is the last burst of one. Both differences are what is left. */
+/* What a transmitter was given on a channel, and what it sent of it. A burst is sent once its
+ * control word was made: from then on all its bytes count, and so does its packet if the burst is
+ * the packet's last. The differences are what is left. */
 typedef struct interlaken_counts {
   uint64_t packets_given;
   uint64_t packets_sent;
@@ -71,21 +136,22 @@ typedef struct interlaken_counts {
   uint64_t bytes_sent;
 } interlaken_counts;
 
-/* A handle of the damage of lanes, or of none. All zeros is a handle of none. Both members are the library's own. */
+/* A handle of the damage of lanes, or of none. All zeros is a handle of none. Both members belong
+ * to the library. */
 typedef struct interlaken_damage {
   void *at;
   uint8_t live;
 } interlaken_damage;
 
-/* Causes of a refusal. Rows are counted from 1. */
+/* Causes of a refusal. Rows are counted from 1; empty lines do not count. */
 enum interlaken_cause {
   INTERLAKEN_NO_CAUSE = 0,    /* the plan is not refused */
   INTERLAKEN_TEXT = 1,        /* a field of the row is not UTF-8 */
-  INTERLAKEN_UNKNOWN_KEY = 2, /* the row's first field names no key */
+  INTERLAKEN_UNKNOWN_KEY = 2, /* the row's first field is no key */
   INTERLAKEN_FIELDS = 3,      /* the row has another number of fields */
-  INTERLAKEN_NUMBER = 4,      /* a field of the row is not of its form */
+  INTERLAKEN_NUMBER = 4,      /* a field of the row does not have its form */
   INTERLAKEN_RANGE = 5,       /* a number, a length or a count of rows is out of range */
-  INTERLAKEN_REPEAT = 6,      /* the row is a second one of what may stand once */
+  INTERLAKEN_REPEAT = 6,      /* a second row of a kind that may occur once */
   INTERLAKEN_MISSING = 7,     /* no row has the key */
   INTERLAKEN_CLASH = 8        /* the row contradicts others */
 };
@@ -101,212 +167,249 @@ enum interlaken_key {
 
 /* Why a plan is refused. */
 typedef struct interlaken_refusal {
-  uint32_t cause; /* of enum interlaken_cause */
-  uint32_t row;   /* the row, from 1; 0 where a key is missing, or there is no cause */
-  uint32_t key;   /* of enum interlaken_key: the key that is missing, else INTERLAKEN_NO_KEY */
+  uint32_t cause; /* an enum interlaken_cause */
+  uint32_t row;   /* the row, from 1; 0 if a key is missing, or without a cause */
+  uint32_t key;   /* an enum interlaken_key: the missing key, otherwise INTERLAKEN_NO_KEY */
 } interlaken_refusal;
 
 /* Kinds of events. */
 enum interlaken_kind {
-  INTERLAKEN_NONE = 0,    /* no event: a lane that is not finished lacks bytes, or the end came before */
-  INTERLAKEN_PACKET = 1,  /* a packet: channel, length, first, last; its bytes can be read until the next call of `next` */
-  INTERLAKEN_DROPPED = 2, /* a piece of a packet is dropped: channel, why of enum interlaken_drop */
-  INTERLAKEN_SPAN = 3,    /* a fault span: first, last, why of enum interlaken_fault */
-  INTERLAKEN_FLOW = 4,    /* a verified control word, for whoever reads flow control: first, word */
-  INTERLAKEN_ENDED = 5    /* the end: all lanes are finished, and all other events were given */
+  INTERLAKEN_NONE = 0,    /* no event: an unfinished lane needs bytes, or the end was returned */
+  INTERLAKEN_PACKET = 1,  /* a packet: channel, length, first, last; read its bytes before the
+                             next call of `next` */
+  INTERLAKEN_DROPPED = 2, /* a fragment of a packet is dropped: channel, why (interlaken_drop) */
+  INTERLAKEN_SPAN = 3,    /* a fault span: first, last, why (interlaken_fault) */
+  INTERLAKEN_FLOW = 4,    /* every verified control word: first, word; it carries flow control */
+  INTERLAKEN_ENDED = 5    /* the end: all lanes are finished, and all other events were returned */
 };
 
+/* Why a fragment of a packet is dropped. */
 enum interlaken_drop {
-  INTERLAKEN_DROP_BAD = 0,         /* a Bad word came before the piece was whole */
-  INTERLAKEN_DROP_CRC = 1,         /* a checksum was wrong before the piece was whole */
-  INTERLAKEN_DROP_PROTOCOL = 2,    /* the words broke the rules, or a packet began inside another or without a beginning */
-  INTERLAKEN_DROP_LOST = 3,        /* a lane lost its lock before the piece was whole */
-  INTERLAKEN_DROP_END = 4,         /* the words were over before the piece was whole */
-  INTERLAKEN_DROP_TOO_LONG = 5,    /* the packet is longer than the receiver takes */
+  INTERLAKEN_DROP_BAD = 0,         /* a bad word arrived before the fragment was whole */
+  INTERLAKEN_DROP_CRC = 1,         /* a CRC24 was wrong before the fragment was whole */
+  INTERLAKEN_DROP_PROTOCOL = 2,    /* the words broke the rules; or a packet began inside another,
+                                      or without SOP */
+  INTERLAKEN_DROP_LOST = 3,        /* a lane lost its lock before the fragment was whole */
+  INTERLAKEN_DROP_END = 4,         /* the words ended before the fragment was whole */
+  INTERLAKEN_DROP_TOO_LONG = 5,    /* the packet is longer than the plan's `max_packet` */
   INTERLAKEN_DROP_UNLISTED = 6,    /* the plan does not list the channel */
   INTERLAKEN_DROP_SENDER_ERROR = 7 /* the sender ended the packet with an error */
 };
 
+/* Why there is a fault span: the first reason. */
 enum interlaken_fault {
   INTERLAKEN_FAULT_START = 0,    /* no control word was verified before */
-  INTERLAKEN_FAULT_BAD = 1,      /* a stretch has a Bad word */
-  INTERLAKEN_FAULT_CRC = 2,      /* a stretch's checksum is wrong */
-  INTERLAKEN_FAULT_PROTOCOL = 3, /* a stretch's words break the rules of bursts and ends */
+  INTERLAKEN_FAULT_BAD = 1,      /* a CRC24 block has a bad word */
+  INTERLAKEN_FAULT_CRC = 2,      /* a CRC24 is wrong */
+  INTERLAKEN_FAULT_PROTOCOL = 3, /* the words of a block break the rules of bursts and ends */
   INTERLAKEN_FAULT_LOST = 4,     /* a lane lost its lock */
-  INTERLAKEN_FAULT_END = 5       /* a lane's bits, or the words, were over */
+  INTERLAKEN_FAULT_END = 5       /* a lane's bits, or the words, ended */
 };
 
 /* How far the search for the locks of a lane is. */
 enum interlaken_lane_state {
-  INTERLAKEN_LANE_SEARCHING = 0, /* there is no word lock: none was found yet, or the last one was lost or given up */
-  INTERLAKEN_LANE_WORD_LOCK = 1, /* a word lock goes on, of whose words none has declared a lock */
-  INTERLAKEN_LANE_DECLARED = 2   /* a declared lock goes on */
+  INTERLAKEN_LANE_SEARCHING = 0, /* no word lock: none was found yet, or the last one was lost or
+                                    given up */
+  INTERLAKEN_LANE_WORD_LOCK = 1, /* in a word lock, without a declared lock */
+  INTERLAKEN_LANE_DECLARED = 2   /* in a declared lock */
 };
 
-/* The place of a payload word. */
+/* The place of a word that is no framing word. */
 typedef struct interlaken_place {
-  uint32_t known; /* 1 where there is a place; else 0, as are index and group */
+  uint32_t known; /* 1 if there is a place; otherwise 0, and so are index and group */
   uint32_t index; /* the word in its group, from 0 */
-  uint64_t group; /* the received bit position of the group's Sync on lane 0 */
+  uint64_t group; /* the group: the received bit of lane 0 at which its Sync word begins */
 } interlaken_place;
 
 /* An event. A member that its kind lacks is 0. */
 typedef struct interlaken_event {
-  uint32_t kind;          /* of enum interlaken_kind */
+  uint32_t kind;          /* an enum interlaken_kind */
   uint32_t channel;       /* 0 to 65535 */
   uint32_t length;        /* bytes of the packet */
-  uint32_t why;           /* of enum interlaken_drop or enum interlaken_fault */
-  interlaken_place first; /* a packet's SOP word, the verified word before a span, a control word */
-  interlaken_place last;  /* the word that ends a packet, the verified word after a span */
+  uint32_t why;           /* an enum interlaken_drop or enum interlaken_fault */
+  interlaken_place first; /* a packet's SOP word; the verified word before a span; a control word */
+  interlaken_place last;  /* the word that ends a packet; the verified word after a span */
   uint64_t word;          /* a control word */
 } interlaken_event;
 
-/* What the locks of a lane were, and how many of the words that they cover are wrong, over the bytes that were taken from the
- * lane's ring so far. */
+/* The locks of a lane and the wrong words that they cover, in the bytes that were used so far. */
 typedef struct interlaken_report {
   uint64_t locks;     /* declared locks */
-  uint64_t has_first; /* 1 where a lock was declared; else 0 */
-  uint64_t first;     /* the bit position of the first declaring Sync; 0 where there is none */
+  uint64_t has_first; /* 1 if a lock was declared; otherwise 0 */
+  uint64_t first;     /* the bit of the Sync word that declared the first lock; 0 without one */
   uint64_t lost;      /* declared locks that were lost */
-  uint64_t unframed;  /* losses before a declaration, and searches that were given up */
-  uint64_t bad;       /* Bad words */
+  uint64_t unframed;  /* word locks lost, and searches given up, before a declaration */
+  uint64_t bad;       /* bad words */
   uint64_t sync;      /* Sync words that are wrong */
-  uint64_t state;     /* Scrambler State words that are not that of the running key */
-  uint64_t diag;      /* Diagnostic words that are not right */
+  uint64_t state;     /* Scrambler State words without the running state */
+  uint64_t diag;      /* Diagnostic words that are wrong, in form or CRC32 */
 } interlaken_report;
 
-/* Opens a receiver of the plan of these bytes (the text of a plan file, of any length) behind a handle that has none. The plan is not
- * kept: its bytes are the caller's. Its rows are all read, and refused where they are wrong, but no file that they name is opened or
- * written. The receiver has the plan's lanes: each that `report` has a report of. `refusal` has the cause INTERLAKEN_NO_CAUSE where the
- * plan is not refused.
+/* Opens a receiver behind a handle that has none. `plan` is the text of a plan file, of any length;
+ * it is not kept. All its rows are read, and refused if they are wrong, but no file that they name
+ * is opened or written. The receiver has the plan's lanes: the lanes for which `report` returns
+ * DONE. `refusal` has the cause INTERLAKEN_NO_CAUSE if the plan is not refused.
  * Results: DONE, OUT_OF_MEMORY, BAD_PLAN, IN_USE. */
-uint32_t interlaken_receiver_new(interlaken_receiver *receiver, const uint8_t *plan, size_t count, interlaken_refusal *refusal);
+uint32_t interlaken_receiver_new(interlaken_receiver *receiver, const uint8_t *plan, size_t count,
+                                 interlaken_refusal *refusal);
 
-/* Frees a receiver with all its memory. Its handle is one of none afterwards.
+/* Frees a receiver with all its memory. Its handle has none afterwards.
  * Results: DONE, NO_RECEIVER. */
 uint32_t interlaken_receiver_free(interlaken_receiver *receiver);
 
-/* Feeds a lane, counted from 0, with the next of its bytes, first bit first: the longest prefix of `bytes` that its ring of 4,096
- * bytes has room for. `taken` is how many that are; what was not taken is fed again, once `next` has made room, which it does only as
- * far as the other lanes have come.
- * Results: DONE, NO_LANE, FINISHED, TOO_MANY, NO_RECEIVER; `taken` is 0 where it is not DONE. */
-uint32_t interlaken_receiver_feed(interlaken_receiver *receiver, uint32_t lane, const uint8_t *bytes, size_t count, size_t *taken);
+/* Feeds a lane, counted from 0, with the next of its bytes, first bit first. It takes the longest
+ * prefix of `bytes` for which the lane's ring of 4,096 bytes has room, and writes its length to
+ * `taken`. Feed the other bytes again after `next` has made room. `next` makes room only as far as
+ * the other lanes were fed.
+ * Results: DONE, NO_LANE, FINISHED, TOO_MANY, NO_RECEIVER; `taken` is 0 if it is not DONE. */
+uint32_t interlaken_receiver_feed(interlaken_receiver *receiver, uint32_t lane,
+                                  const uint8_t *bytes, size_t count, size_t *taken);
 
-/* No further byte of this lane comes.
+/* Ends a lane: no further byte of it follows.
  * Results: DONE, NO_LANE, FINISHED, NO_RECEIVER. */
 uint32_t interlaken_receiver_finish(interlaken_receiver *receiver, uint32_t lane);
 
-/* Writes the next event; INTERLAKEN_NONE where there is none so far, or the end came before. Before the end a lane that is not
- * finished has an empty ring then, and that one is to be fed or finished, whatever the others have: their rings may be full.
- * Results: DONE, NO_RECEIVER; the event is INTERLAKEN_NONE where it is not DONE. */
+/* Writes the next event, or INTERLAKEN_NONE if there is none yet, or if the end was returned
+ * before. Until the end, NONE means that at least one unfinished lane has an empty ring. Feed or
+ * finish that lane; the rings of the other lanes may be full.
+ * Results: DONE, NO_RECEIVER; the event is INTERLAKEN_NONE if it is not DONE. */
 uint32_t interlaken_receiver_next(interlaken_receiver *receiver, interlaken_event *event);
 
-/* Copies bytes of the packet that `next` gave last, from `offset` on, as many as there are and as `count` allows; `copied` is how
- * many. The bytes after these stay as they are.
- * Results: DONE, NO_PACKET, NO_RECEIVER; `copied` is 0 where it is not DONE. */
-uint32_t interlaken_receiver_read(interlaken_receiver *receiver, uint32_t offset, uint8_t *bytes, size_t count, size_t *copied);
+/* Copies bytes of the packet that `next` returned last, from `offset` on: as many as exist and as
+ * `count` allows. `copied` is how many. The rest of `bytes` stays unchanged.
+ * Results: DONE, NO_PACKET, NO_RECEIVER; `copied` is 0 if it is not DONE. */
+uint32_t interlaken_receiver_read(interlaken_receiver *receiver, uint32_t offset, uint8_t *bytes,
+                                  size_t count, size_t *copied);
 
 /* Writes the report of a lane, counted from 0.
- * Results: DONE, NO_LANE, NO_RECEIVER; the report is all 0 where it is not DONE. */
-uint32_t interlaken_receiver_report(interlaken_receiver *receiver, uint32_t lane, interlaken_report *report);
+ * Results: DONE, NO_LANE, NO_RECEIVER; the report is all 0 if it is not DONE. */
+uint32_t interlaken_receiver_report(interlaken_receiver *receiver, uint32_t lane,
+                                    interlaken_report *report);
 
-/* Writes how far the search for the locks of a lane, counted from 0, is after the bytes that were taken from the lane's ring so far:
- * of enum interlaken_lane_state. The lane is in a declared lock where its report has more locks than lost ones.
- * Results: DONE, NO_LANE, NO_RECEIVER; the state is INTERLAKEN_LANE_SEARCHING where it is not DONE. */
-uint32_t interlaken_receiver_lane_state(interlaken_receiver *receiver, uint32_t lane, uint32_t *state);
+/* Writes how far the search for the locks of a lane, counted from 0, is, in the bytes that were
+ * used so far: an enum interlaken_lane_state. The lane is in a declared lock if its report has
+ * more locks than lost ones.
+ * Results: DONE, NO_LANE, NO_RECEIVER; the state is INTERLAKEN_LANE_SEARCHING if it is not DONE. */
+uint32_t interlaken_receiver_lane_state(interlaken_receiver *receiver, uint32_t lane,
+                                        uint32_t *state);
 
-/* Writes whether the far end lets packets be sent on a channel, 1 or 0, by the control words that `next` gave as INTERLAKEN_FLOW and the
- * plan's calendar. A channel is on until an entry turns it off, also one that has no entry. After a fault span, in which words may be
- * missing, no word counts up to the next with Reset Calendar.
- * Results: DONE, NO_RECEIVER; `on` is 0 where it is not DONE. */
+/* Writes whether the far end lets packets be sent on a channel, 1 or 0, by the plan's calendar and
+ * the control words that `next` returned as INTERLAKEN_FLOW. A channel is on until an entry turns
+ * it off; a channel without an entry stays on. After a fault span, in which words may be missing,
+ * no word counts up to the next with Reset Calendar.
+ * Results: DONE, NO_RECEIVER; `on` is 0 if it is not DONE. */
 uint32_t interlaken_receiver_is_on(interlaken_receiver *receiver, uint16_t channel, uint32_t *on);
 
-/* A transmitter of the lanes of a link. Packets and rows of flow control may come at any time; the words of the link are made one by one,
- * as bytes of its lanes are asked for, so that what comes counts from the next word on, and not from the next metaframe on. The lanes are
- * in step: each word that one makes all make, and of each up to 4,096 bytes wait until they are taken. So all lanes are to be taken in
- * turn: one that is not holds back the others. A word on each lane comes to 8.375 bytes of each. As long as no packet waits, or none may
- * be sent, idles are made: the lanes go on until `finish`. */
+/* A transmitter of the lanes of a link. Packets and flow control may be given at any time. The
+ * words of the link are made one by one, when bytes of its lanes are taken. So what is given
+ * counts from the next word on, and not from the next metaframe on.
+ *
+ * All lanes are in step: a word is made on each lane at once, 8.375 bytes of each. Up to 4,096
+ * bytes of each lane wait until they are taken, so take all lanes in turn: a lane that is not
+ * taken holds back the others. As long as no packet waits, or none may be sent, idle words are
+ * made: the lanes go on until `finish`. */
 
-/* Opens a transmitter of the plan of these bytes (the text of a plan file, of any length) behind a handle that has none. The plan is not
- * kept: its bytes are the caller's. Its rows are all read, and refused where they are wrong, but no file that they name is opened, and
- * packets, flow and local rows come by calls alone. It sends on the lanes, channels and calendar of the plan. No word is made yet, and
- * all channels are on. `refusal` has the cause INTERLAKEN_NO_CAUSE where the plan is not refused.
+/* Opens a transmitter behind a handle that has none. `plan` is the text of a plan file, of any
+ * length; it is not kept. All its rows are read, and refused if they are wrong, but no file that
+ * they name is opened: packets, flow control and states are given by calls alone. The transmitter
+ * has the plan's lanes, channels and calendar. No word is made yet, and all channels are on.
+ * `refusal` has the cause INTERLAKEN_NO_CAUSE if the plan is not refused.
  * Results: DONE, OUT_OF_MEMORY, BAD_PLAN, IN_USE. */
-uint32_t interlaken_transmitter_new(interlaken_transmitter *transmitter, const uint8_t *plan, size_t count, interlaken_refusal *refusal);
+uint32_t interlaken_transmitter_new(interlaken_transmitter *transmitter, const uint8_t *plan,
+                                    size_t count, interlaken_refusal *refusal);
 
-/* Frees a transmitter with all its memory; what it has not sent is lost. Its handle is one of none afterwards.
+/* Frees a transmitter with all its memory; what it has not sent is lost. Its handle has none
+ * afterwards.
  * Results: DONE, NO_TRANSMITTER. */
 uint32_t interlaken_transmitter_free(interlaken_transmitter *transmitter);
 
-/* Gives a packet of 1 to 262,144 bytes to be sent on a channel that the plan lists, after those that were given on this channel before. Its
- * bytes are copied: they are the caller's. It may begin with the next word that is made.
- * Results: DONE, OUT_OF_MEMORY, FINISHED, TOO_MANY, NO_TRANSMITTER, NO_CHANNEL, BAD_LENGTH; the packet is not taken where it is not
- * DONE. */
-uint32_t interlaken_transmitter_packet(interlaken_transmitter *transmitter, uint16_t channel, const uint8_t *bytes, size_t count);
+/* Queues a packet of 1 to 262,144 bytes on a channel that the plan lists, after the packets that
+ * were given on this channel before. Its bytes are copied. It may begin with the next word that is
+ * made. The plan's `max_packet` is not looked at: a receiver of that plan drops a longer packet.
+ * Results: DONE, OUT_OF_MEMORY, FINISHED, TOO_MANY, NO_TRANSMITTER, NO_CHANNEL, BAD_LENGTH; the
+ * packet is not queued if it is not DONE. */
+uint32_t interlaken_transmitter_packet(interlaken_transmitter *transmitter, uint16_t channel,
+                                       const uint8_t *bytes, size_t count);
 
-/* Gives a control word of the far end that the caller has verified, as INTERLAKEN_FLOW has it: its checksum covers the data before it,
- * and is not looked at. What it tells of the far end's channels by the plan's calendar counts from the next word on that is made: on a
- * channel that is off no burst begins. After a fault span, in which words may be missing, give a word that is no control word, as 0: it
- * tells nothing, and after it no word counts up to the next with Reset Calendar. All channels are on, and no word counts, until one with
- * Reset Calendar. A channel stays as the last entry for it has it.
+/* Passes on a control word of the far end that the caller has verified, as INTERLAKEN_FLOW has it.
+ * Its CRC24 is not looked at, since it covers the data before it. The word turns channels off and
+ * on by the plan's calendar, from the next word on that is made: on a channel that is off no burst
+ * begins. A channel keeps the state of its most recent calendar entry.
+ *
+ * All channels are on, and no word counts, until one with Reset Calendar. After a fault span, in
+ * which words may be missing, pass a word that is no control word, such as 0. It turns no channel,
+ * and after it no word counts up to the next with Reset Calendar.
  * Results: DONE, FINISHED, NO_TRANSMITTER. */
 uint32_t interlaken_transmitter_flow(interlaken_transmitter *transmitter, uint64_t word);
 
-/* Says whether the far end may send on a channel: it may where `on` is not 0. The control words tell it by the plan's calendar, from the next
- * one on that is made. A channel is on until it is said that it is off; of one that has no entry nothing is told.
+/* Says whether the far end may send on a channel: it may if `on` is not 0. The control words carry
+ * this by the plan's calendar, from the next control word on that is made. A channel is on until a
+ * call turns it off. A channel without an entry in the calendar is accepted, and nothing carries
+ * its state.
  * Results: DONE, FINISHED, NO_TRANSMITTER. */
-uint32_t interlaken_transmitter_local(interlaken_transmitter *transmitter, uint16_t channel, uint32_t on);
+uint32_t interlaken_transmitter_local(interlaken_transmitter *transmitter, uint16_t channel,
+                                      uint32_t on);
 
-/* Takes the next bytes of a lane, counted from 0, first bit first: `taken` is how many. While fewer wait than `count`, the next word of each
- * lane is made, as long as those that wait of each lane leave room for its bytes. So it gives fewer than `count` where another lane
- * has too many bytes that were not taken, or after the last byte of a transmitter that was finished: of a lane whose bytes wait it gives some.
- * The bytes of `bytes` after these stay as they are.
- * Results: DONE, NO_LANE, NO_TRANSMITTER; `taken` is 0 where it is not DONE. */
-uint32_t interlaken_transmitter_take(interlaken_transmitter *transmitter, uint32_t lane, uint8_t *bytes, size_t count, size_t *taken);
+/* Takes the next bytes of a lane, counted from 0, first bit first: `taken` is how many. While fewer
+ * than `count` bytes wait, the next word of each lane is made, as long as every lane's waiting
+ * bytes leave room for it. So it returns fewer than `count` bytes in two cases: another lane has
+ * too many bytes that were not taken, or a finished transmitter has no further byte. It returns at
+ * least one byte of a lane with waiting bytes. The rest of `bytes` stays unchanged.
+ * Results: DONE, NO_LANE, NO_TRANSMITTER; `taken` is 0 if it is not DONE. */
+uint32_t interlaken_transmitter_take(interlaken_transmitter *transmitter, uint32_t lane,
+                                     uint8_t *bytes, size_t count, size_t *taken);
 
-/* No further packet and no further row comes. What was given is sent, as far as the channels are on, and the lanes end a few metaframes
- * after: `take` gives 0 from then on. It may be called again, and changes nothing then.
+/* Ends the input: no packet or flow control may follow. Queued packets are sent on channels that
+ * are on; packets on a channel that is off are not sent. The lanes end a few metaframes later, and
+ * `take` then returns 0 bytes. A second call changes nothing.
  * Results: DONE, NO_TRANSMITTER. */
 uint32_t interlaken_transmitter_finish(interlaken_transmitter *transmitter);
 
-/* Says what was given on a channel so far, and what was sent of it: what is left is the difference. Words are made ahead of what is taken
- * of a lane, by 4,096 bytes of it at most.
- * Results: DONE, NO_TRANSMITTER, NO_CHANNEL; all of `counts` is 0 where it is not DONE. */
-uint32_t interlaken_transmitter_sent(interlaken_transmitter *transmitter, uint16_t channel, interlaken_counts *counts);
+/* Writes what was given on a channel so far, and what was sent of it. Words are made ahead of what
+ * is taken of a lane, by 4,096 bytes of it at most.
+ * Results: DONE, NO_TRANSMITTER, NO_CHANNEL; all of `counts` is 0 if it is not DONE. */
+uint32_t interlaken_transmitter_sent(interlaken_transmitter *transmitter, uint16_t channel,
+                                     interlaken_counts *counts);
 
-/* Says how many payload words were made so far, those of all lanes: the number of the next one, counted from 0. What is given now counts
- * from this one on.
- * Results: DONE, NO_TRANSMITTER; `slots` is 0 where it is not DONE. */
+/* Writes how many payload words of all lanes were made so far: the number of the next one, counted
+ * from 0. What is given now counts from that word on.
+ * Results: DONE, NO_TRANSMITTER; `slots` is 0 if it is not DONE. */
 uint32_t interlaken_transmitter_slots(interlaken_transmitter *transmitter, uint64_t *slots);
 
-/* Damage of lanes on their way. The bytes of each lane pass through `apply`, piece by piece, in pieces of any length; what comes out is
- * fed to a receiver, or to a device. Bits of a lane are counted from 0, the highest bit of its first byte, over all its pieces, as in the
- * rows of a schedule file: bit n is bit 7 - n % 8 of byte n / 8. A bit is 0 where a dark stretch covers it, else inverted where an odd
- * number of flips names it; so two flips of one bit cancel each other. Rows may come at any time, also between pieces: the bytes of a lane
- * that came out, joined, are those of the lane that went in, joined, with all rows that were accepted. */
+/* Damage of lanes on their way. The bytes of each lane pass through `apply`, in pieces of any
+ * length; feed the result to a receiver, or to a device. Bits of a lane are counted from 0 over all
+ * its pieces, as in the rows of a schedule file: bit n is bit 7 - n % 8 of byte n / 8. A bit is 0
+ * if a dark stretch covers it; otherwise it is inverted if an odd number of flips names it. So two
+ * flips of one bit cancel each other. Rows may be added at any time, also between pieces. The bytes
+ * of a lane after `apply`, joined, are the bytes of the lane before, joined, with all accepted
+ * rows. */
 
 /* Opens the damage of 1 to 64 lanes behind a handle that has none. Nothing happens to them so far.
  * Results: DONE, OUT_OF_MEMORY, IN_USE, OUT_OF_RANGE. */
 uint32_t interlaken_damage_new(interlaken_damage *damage, uint32_t lanes);
 
-/* Frees damage with all its memory. Its handle is one of none afterwards.
+/* Frees damage with all its memory. Its handle has none afterwards.
  * Results: DONE, NO_DAMAGE. */
 uint32_t interlaken_damage_free(interlaken_damage *damage);
 
-/* Inverts a bit of a lane, counted from 0, once more. It is OUT_OF_RANGE from bit 2^44 on, and PASSED where the bit was in a piece before:
- * nothing happens then, since its byte is gone.
+/* Inverts a bit of a lane, counted from 0, once more. The result is OUT_OF_RANGE from bit 2^44 on,
+ * and PASSED if the bit was in an earlier piece: nothing happens then, since its byte is gone.
  * Results: DONE, OUT_OF_MEMORY, NO_LANE, NO_DAMAGE, OUT_OF_RANGE, PASSED. */
 uint32_t interlaken_damage_flip(interlaken_damage *damage, uint32_t lane, uint64_t bit);
 
-/* Makes `bits` bits of a lane, counted from 0, dark from bit `first` on: each is 0. Those of them that have passed stay as they came out.
- * It is OUT_OF_RANGE where first + bits is above 2^44, and PASSED where all bits below first + bits have passed: nothing happens then.
+/* Forces `bits` bits of a lane, counted from 0, to 0, from bit `first` on. Bits that have passed
+ * stay as they were. The result is OUT_OF_RANGE if first + bits is above 2^44, and PASSED if
+ * all bits below first + bits have passed: nothing happens then.
  * Results: DONE, OUT_OF_MEMORY, NO_LANE, NO_DAMAGE, OUT_OF_RANGE, PASSED. */
-uint32_t interlaken_damage_dark(interlaken_damage *damage, uint32_t lane, uint64_t first, uint64_t bits);
+uint32_t interlaken_damage_dark(interlaken_damage *damage, uint32_t lane, uint64_t first,
+                                uint64_t bits);
 
-/* Damages the next bytes of a lane, counted from 0, in place. Each byte of the lane passes once: what a receiver did not take of it is fed
- * again as it is. Rows of which all bits have passed are forgotten: a call costs time for its bytes and for the rows that still lie ahead.
- * Results: DONE, NO_LANE, TOO_MANY, NO_DAMAGE; the bytes stay as they are where it is not DONE. */
-uint32_t interlaken_damage_apply(interlaken_damage *damage, uint32_t lane, uint8_t *bytes, size_t count);
+/* Damages the next bytes of a lane, counted from 0, in place. Each byte of the lane passes once:
+ * if a receiver did not take all of a piece, feed the rest again as it is. Rows whose bits have all
+ * passed are forgotten: a call costs time for its bytes and for the rows that are still ahead.
+ * Results: DONE, NO_LANE, TOO_MANY, NO_DAMAGE; the bytes stay unchanged if it is not DONE. */
+uint32_t interlaken_damage_apply(interlaken_damage *damage, uint32_t lane, uint8_t *bytes,
+                                 size_t count);
 
 #ifdef __cplusplus
 }

@@ -1,6 +1,7 @@
-/* The memory of the library: three functions, which it calls and never gives. examples/c/alloc.c has them over malloc, realloc and free.
- * The libraries that tools/library makes have that file in them; a program that has the three itself, and links libinterlaken.a, uses its
- * own. The shared library always uses those that are in it. */
+/* The memory of the library: three functions that it calls and does not define. examples/c/alloc.c
+ * has them over malloc, realloc and free. The libraries that tools/library makes have that file in
+ * them. A program that defines the three itself and links libinterlaken.a uses its own. The shared
+ * library always uses the functions inside it. */
 #ifndef INTERLAKEN_ALLOC_H
 #define INTERLAKEN_ALLOC_H
 
@@ -11,19 +12,22 @@
 extern "C" {
 #endif
 
-/* Whether there is memory, and where it is. Where there is none, `at` is a pointer that is not null, and nothing lies there. */
+/* Whether memory was allocated, and where. Without memory `at` is not null, but points to nothing
+ * usable. */
 struct rattle_tried {
-  uint8_t memory; /* 1 where there is memory; else 0 */
+  uint8_t memory; /* 1 if memory was allocated; otherwise 0 */
   void *at;
 };
 
-/* A new block of `size` bytes, aligned to `align`, which is at most 16; where `size` is 0 it has as many as `align`. */
+/* Allocates a block of `size` bytes, aligned to `align`, which is at most 16. If `size` is 0, the
+ * block has `align` bytes. */
 struct rattle_tried rattle_alloc(size_t size, size_t align);
 
-/* The same block with `size` bytes, of which the first `kept` are as they were. Where there is no memory it is as it was. */
+/* Resizes a block to `size` bytes and keeps its first `kept` bytes. Without memory the block stays
+ * as it was. */
 struct rattle_tried rattle_realloc(void *at, size_t kept, size_t size, size_t align);
 
-/* Gives a block back. */
+/* Frees a block. */
 void rattle_dealloc(void *at);
 
 #ifdef __cplusplus

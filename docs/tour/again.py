@@ -12,7 +12,7 @@ ROOM, CONTROL = 1024, 2
 MANY = 8  # a row of more events than these is drawn as one
 STEP, TOP = 25, 46
 EVENTS, WAY, GAP = 8, 290, 10
-LEGEND = "blue: pieces; green: acknowledgements, which have the number of the piece that the receiver waits for; rows of more than %d events are one line" % MANY
+LEGEND = "blue: pieces; green, dashed: acknowledgements, each with the number of the piece that the receiver waits for; rows of more than %d events are one line" % MANY
 SENDER, RECEIVER = "sender", "receiver"
 LOST_AFTER = 0.7  # of the way that a lost thing would have gone
 
@@ -66,7 +66,7 @@ class Link:
         path = way.pop(0)
         path.ends, path.is_lost = moment, is_lost
         if is_lost:
-            self.note(moment, path.sides()[1], "%s is lost", path.number)
+            self.note(moment, path.sides()[1], "%s is lost" if path.is_piece else "acknowledgement %s is lost", path.number)
         return path.number
 
     def event(self, name, moment):
@@ -172,10 +172,10 @@ def draw_path(picture, path, columns, last):
     colour = COLOURS[1] if path.is_piece else COLOURS[2]
     (x, y), (to_x, to_y) = path.start(columns, last), path.aim(columns, last)
     if path.ends is not None and not path.is_lost:
-        picture.arrow(x, y, to_x, to_y, colour)
+        picture.arrow(x, y, to_x, to_y, colour, "" if path.is_piece else "6 3")
         return
     to_x, to_y = x + LOST_AFTER * (to_x - x), y + LOST_AFTER * (to_y - y)
-    picture.line(x, y, to_x, to_y, colour, "" if path.is_lost else "3 3")
+    picture.line(x, y, to_x, to_y, colour, "3 3" if not path.is_lost else "" if path.is_piece else "6 3")
     for side in (-6, 6) if path.is_lost else ():
         picture.line(to_x - 6, to_y - side, to_x + 6, to_y + side, COLOURS["lost"])
 

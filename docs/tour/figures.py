@@ -3,8 +3,9 @@
     python3 figures.py PROGRAM [FOLDER]
 
 The program runs its commands on a copy of examples/; the pictures are written to FOLDER, which is the script's own by default. Those of
-examples/damaged.plan, lanes.svg and stream.svg, and those of two ends, two_ends.svg, are drawn by tools/picture; status.py and again.py
-have one each. Nothing is drawn that does not stand in a file or in the printed text, or was computed from the rules and agrees with both.
+examples/damaged.plan, lanes.svg and stream.svg, and those of two ends, two_ends.svg, are drawn by tools/picture. Each other script here has
+one: status, again, control_word and metaframe from files of the commands, whole and lock from tables of their own. What is drawn of a run
+is in a file or in the printed text, or was computed from the rules and agrees with both.
 """
 
 import os
@@ -17,7 +18,11 @@ HERE = os.path.dirname(os.path.abspath(__file__))
 sys.path.insert(0, os.path.join(HERE, "..", "..", "tools"))
 
 import again
+import control_word
+import lock
+import metaframe
 import status
+import whole
 from drawing import command
 from reading.files import Folder
 
@@ -25,10 +30,17 @@ from reading.files import Folder
 PAGES = [("burst", "damaged.plan", []), ("link", "damaged.plan", [("lanes", "lanes"), ("stream", "stream")]), ("duplex", "two_ends.duplex", [("queues", "two_ends")])]
 
 
+def copy_examples(source, target):
+    """Copies the files of a folder without its mode, which may be that of one that nobody writes."""
+    for name in os.listdir(source):
+        if os.path.isfile(os.path.join(source, name)):
+            shutil.copyfile(os.path.join(source, name), os.path.join(target, name))
+
+
 def main():
     program, target = os.path.abspath(sys.argv[1]), os.path.abspath(sys.argv[2]) if len(sys.argv) > 2 else HERE
     with tempfile.TemporaryDirectory() as work:
-        shutil.copytree(os.path.join(HERE, "..", "..", "examples"), work, dirs_exist_ok=True)
+        copy_examples(os.path.join(HERE, "..", "..", "examples"), work)
         os.chdir(work)
         folder = Folder(program, work)
         for name, plan, pictures in PAGES:
@@ -38,7 +50,7 @@ def main():
                 raise SystemExit(1)
             for kind, page in pictures:
                 shutil.copy("page.%s.svg" % kind, os.path.join(target, page + ".svg"))
-        for page in (status, again):
+        for page in (status, again, whole, lock, control_word, metaframe):
             page.draw(folder, os.path.join(target, page.__name__ + ".svg"))
         os.chdir(HERE)
 

@@ -92,6 +92,7 @@ def draw_frame(picture, plan, begin, x, top, bottom):
         picture.text(x(first_check + 2 * number + 1), top + 28, "%d" % bit, anchor="middle")
     picture.arrow(x(last) + 12, bottom + 18, x(last) + 12, bottom + 36, COLOURS["note"])
     picture.text(x(last + 1), bottom + 50, "row %s" % ",".join(plan.row(begin)), COLOURS["note"], "end")
+    picture.text(x(last + 1), bottom + 64, "its digits %s are the states, then ones" % plan.row(begin)[1][2:6], COLOURS["note"], "end")
 
 
 def draw(folder, path):
@@ -102,7 +103,7 @@ def draw(folder, path):
     check(plan, begins, samples, folder, printed)
     left, step = 60, 820 / len(samples)
     x = lambda sample: left + step * sample
-    picture, tops = Picture(900, 280), [74, 114, 154]
+    picture, tops = Picture(900, 290), [74, 114, 154]
     for at in range(len(samples)):
         if samples[at] & 1:
             picture.box(x(at), tops[0] - 4, step, 120, "#f4f6f7")
@@ -110,5 +111,5 @@ def draw(folder, path):
     draw_lines(picture, samples, x, tops)
     for begin in begins:
         draw_frame(picture, plan, begin, x, 26, 192)
-    picture.text(8, 270, "shaded: the samples at which the clock has gone from 0 to 1, in which a bit is taken")
+    picture.text(8, 280, "shaded: the samples at which the clock has gone from 0 to 1, in which a bit is taken")
     picture.save(path)

@@ -4,6 +4,8 @@ import csv
 import os
 
 COLUMNS = ["seconds", "cpu_seconds", "peak_mb"]
+# The crate of the program.
+PROGRAM = "interlaken_main"
 
 
 def graph_of(path):
@@ -31,3 +33,55 @@ def write_costs(path, costs):
         writer.writerow(["crate"] + COLUMNS)
         for name, cost in costs.items():
             writer.writerow([name] + ["%.0f" % cost[key] for key in COLUMNS])
+
+
+def above(uses, name):
+    """The crates that stand on this one."""
+    found = set()
+    for it in uses:  # each stands after those that it stands on
+        if found.intersection(uses[it]) or name in uses[it]:
+            found.add(it)
+    return found
+
+
+def table(uses, costs):
+    yield "| crate | s | processor s | GB | crates above | with them, processor min |"
+    yield "|---|---|---|---|---|---|"
+    for name in uses:
+        higher, row = above(uses, name), ["", "", ""]
+        if name in costs:
+            cost = costs[name]
+            row = ["%.0f" % cost["seconds"], "%.0f" % cost["cpu_seconds"], "%.1f" % (cost["peak_mb"] / 1000)]
+        with_them = sum(costs[it]["cpu_seconds"] for it in higher | {name} if it in costs) / 60
+        yield "| " + " | ".join(["`%s`" % name] + row + ["%d" % len(higher), "%.0f" % max(with_them, 1)]) + " |"
+
+
+def chain(uses, costs):
+    """The longest chain of crates, each of which stands on the one before, by their seconds."""
+    longest = {}
+    for name in uses:
+        below = max((longest[it] for it in uses[name]), default=(0, []))
+        longest[name] = (below[0] + costs.get(name, {"seconds": 0})["seconds"], below[1] + [name])
+    return max(longest.values())
+
+
+def sums(uses, costs):
+    """The longest chain and the whole, and the crates of which nothing was measured."""
+    seconds, names = chain(uses, costs)
+    yield "Longest chain: %.0f s, %s." % (seconds, ", ".join("`%s`" % name for name in names))
+    yield ""
+    program = [name for name in uses if name == PROGRAM or PROGRAM in above(uses, name)]
+    for what, names in (("The program", program), ("All", list(uses))):
+        known = [costs[name]["cpu_seconds"] for name in names if name in costs]
+        yield "%s: %d crates; the %d that were measured take %.0f s of a processor." % (what, len(names), len(known), sum(known))
+        yield ""
+    lacking = [name for name in uses if name not in costs]
+    if lacking:
+        yield "Not measured yet: %s." % ", ".join("`%s`" % name for name in lacking)
+
+
+def page_part(top, note):
+    """The part of docs/WORKING.md: the note, and the table of release/seconds.csv."""
+    uses = graph_of(os.path.join(top, "crates.txt"))
+    costs = {name: cost for name, cost in costs_in(os.path.join(top, "release", "seconds.csv")).items() if name in uses}
+    return "\n".join([note, "", *table(uses, costs), "", *sums(uses, costs)]) + "\n"

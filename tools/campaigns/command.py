@@ -4,7 +4,6 @@ import argparse
 import os
 import re
 import shutil
-import subprocess
 import sys
 import tempfile
 from decimal import Decimal
@@ -12,14 +11,13 @@ from decimal import Decimal
 from campaigns import reports
 from campaigns.one_number import copy_plan, printed, slots_of, words_counts
 from campaigns.parallel import RUN, run_all, run_job
-from campaigns.records import Records, digest
+from campaigns.records import Records, digest, has_begun
+from reading.apart import found_program
+from reading.ending import INTERRUPTED, Options
 from reading.files import Folder, Refused, own_program
 from reading.plans import Plan
 
 RATES = ("flips_per_million", "dark", "skew")
-# What the launcher ends with where it cannot build the program.
-NOT_BUILT = 70
-INTERRUPTED = 130
 MOST_NUMBER, MOST_SKEW, MOST_DARK = 2 ** 64 - 1, 65535, 1000
 
 
@@ -48,16 +46,19 @@ def jobs(text):
 
 def options_of(words):
     told = "Runs the program for each number of a range with GNU parallel, and keeps what comes of each."
-    parser = argparse.ArgumentParser(prog="campaign", description=told, allow_abbrev=False)
+    parser = Options(prog="campaign", description=told)
     parser.add_argument("first", metavar="FIRST", type=whole(0, MOST_NUMBER))
     parser.add_argument("last", metavar="LAST", type=whole(0, MOST_NUMBER))
     parser.add_argument("folder", metavar="FOLDER", help="gets the tables; the same call goes on where it was cut off, and does again what was not done")
     parser.add_argument("--plan", metavar="PLAN", help="`link` of this plan with schedules that are drawn by the number, in place of `generate`")
+    parser.add_argument("--each", metavar="COMMAND", help="runs COMMAND by the shell between `damage` and `receive` of each number, with --plan: it takes the lanes of "
+                        "INTERLAKEN_LANES_IN and may leave others at INTERLAKEN_LANES_OUT; `judge` counts what these have that they should not")
     parser.add_argument("--flips-per-million", metavar="N", type=rate, default="0", help="inverted bits of a million, with --plan")
     parser.add_argument("--dark", metavar="N", type=whole(0, MOST_DARK), default=0, help="dark stretches of each lane, with --plan")
     parser.add_argument("--skew", metavar="BITS", type=whole(0, MOST_SKEW), default=0, help="the greatest skew of a lane, with --plan")
     parser.add_argument("--coverage", action="store_true", help="counts the words of the stream too: bursts, ends of packets, channels that go off")
     parser.add_argument("--junit", metavar="FILE", help="writes a JUnit report with a test case for each number")
+    parser.add_argument("--overwrite", action="store_true", help="writes over files that are there and that no campaign made")
     parser.add_argument("--keep", action="store_true", help="keeps the files of each run in FOLDER/NUMBER")
     parser.add_argument("--timeout", metavar="SECONDS", type=whole(1, 1000000), help="how long a run may take")
     parser.add_argument("--program", help="the program; INTERLAKEN_PROGRAM, or the repository's own, where it is not named")
@@ -67,7 +68,9 @@ def options_of(words):
     has_rates = options.dark or options.skew or Decimal(options.flips_per_million)
     if options.last < options.first:
         parser.error("LAST, %d, is below FIRST, %d" % (options.last, options.first))
-    if bool(options.plan) != bool(has_rates):
+    if options.each is not None and not options.plan:
+        parser.error("--each needs --plan")
+    if bool(options.plan) != bool(has_rates) and options.each is None:
         parser.error("--plan needs a rate above 0 of --flips-per-million, --dark or --skew, and these need --plan")
     return options
 
@@ -77,22 +80,9 @@ def must_have(tool, package):
         raise Refused("%s is not there (Debian package %s)" % (tool, package))
 
 
-def found_program(name, is_here):
-    """The path of the program. A launcher builds it first where it has to, and prints where it is; but other machines run their own
-    launcher, since what was built here is not there."""
-    found = shutil.which(name)
-    if found is None:
-        raise Refused("there is no program %s; INTERLAKEN_PROGRAM or --program names it" % name)
-    done = subprocess.run([found], stdin=subprocess.DEVNULL, stdout=subprocess.PIPE, env={**os.environ, "INTERLAKEN_WHICH": "1"})
-    if done.returncode == NOT_BUILT:
-        raise Refused("the program was not built")
-    told = os.fsdecode(done.stdout).strip()
-    return told if is_here and os.path.isabs(told) and os.access(told, os.X_OK) else os.path.abspath(found)
-
-
 def settings_of(options, program):
     """What each job has to know."""
-    settings = {"program": program, "plan": options.plan, "folder": os.getcwd(), "coverage": options.coverage, "timeout": options.timeout,
+    settings = {"program": program, "plan": options.plan, "folder": os.getcwd(), "coverage": options.coverage, "timeout": options.timeout, "each": options.each,
                 "keep": os.path.abspath(options.folder) if options.keep else None, "rates": {rate: getattr(options, rate) for rate in RATES}}
     if options.plan:
         settings.update(first_look(program, options))
@@ -106,7 +96,7 @@ def first_look(program, options):
         copy_plan(os.getcwd(), options.plan, folder)
         files = Folder(program, folder)
         slots = slots_of(printed(files, "send"))
-        return {"bits": plan.sent_bits(slots), "words": words_counts(files) if options.coverage else {}}
+        return {"bits": plan.sent_bits(slots), "words": words_counts(files) if options.coverage and not options.each else {}}
 
 
 def campaign_of(options):
@@ -116,7 +106,22 @@ def campaign_of(options):
     folder = Folder(None, os.getcwd())
     plan = Plan(folder, options.plan)
     names = [options.plan] + [name for name in list(plan.captures.values()) + [plan.flow, plan.local] if name]
-    return {"campaign": "plan", "coverage": options.coverage, "files": digest(folder.content(name) for name in names), "rates": {rate: getattr(options, rate) for rate in RATES}}
+    each = {} if options.each is None else {"each": options.each}
+    return {"campaign": "plan", **each, "coverage": options.coverage, "files": digest(folder.content(name) for name in names), "rates": {rate: getattr(options, rate) for rate in RATES}}
+
+
+def must_be_new(options):
+    """An error where a file or a folder is there that the campaign would write, and that is not of a call of it that was cut off."""
+    names, base = [], os.path.join(options.folder, "%d-%d" % (options.first, options.last))
+    if not has_begun(options.folder, options.first, options.last):
+        names += [base + ".csv", base + ".coverage.csv"]
+        kept = os.listdir(options.folder) if options.keep and os.path.isdir(options.folder) else []
+        names += [os.path.join(options.folder, name) for name in sorted(kept) if name.isdigit() and options.first <= int(name) <= options.last]
+    if options.junit and os.path.exists(options.junit) and not reports.is_junit(options.junit):
+        names.append(options.junit)
+    there = next(filter(os.path.lexists, names), None)
+    if there:
+        raise Refused("%s exists, and no campaign made it; --overwrite writes over it" % there)
 
 
 def run_campaign(tool, options):
@@ -124,6 +129,8 @@ def run_campaign(tool, options):
     must_have("parallel", "parallel")
     if options.sshlogin:
         must_have("ssh", "openssh-client")
+    if not options.overwrite:
+        must_be_new(options)
     records = Records(options.folder, options.first, options.last, campaign_of(options))
     numbers = records.left()
     if numbers:
@@ -135,15 +142,15 @@ def run_campaign(tool, options):
 
 def report(options, records):
     base, rows = os.path.join(options.folder, "%d-%d" % (options.first, options.last)), records.all()
-    counts = reports.counted(rows, options.coverage)
+    counts = reports.counted(rows, options.coverage, options.each is not None)
     try:
-        reports.write_table(base + ".csv", rows)
+        reports.write_table(base + ".csv", rows, options.each is not None)
         reports.write_coverage(base + ".coverage.csv", counts)
         if options.junit:
             reports.write_junit(options.junit, "campaign.%s" % (options.plan or "generate"), rows)
     except OSError as error:
         raise Refused("%s: %s" % (error.filename, error.strerror))
-    lines, is_right = reports.summary(rows, counts)
+    lines, is_right = reports.summary(rows, counts, options.each is not None)
     print("\n".join(lines))
     return is_right
 
@@ -155,9 +162,6 @@ def main(words):
     options = options_of(words)
     try:
         return 0 if run_campaign(sys.argv[0], options) else 1
-    except Refused as error:
-        print("campaign: %s" % str(error).replace("\n", " "), file=sys.stderr)
-        return 1
     except KeyboardInterrupt:
         print("campaign: interrupted: the same call goes on with what is not done", file=sys.stderr)
         return INTERRUPTED

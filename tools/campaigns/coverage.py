@@ -25,6 +25,10 @@ OF_TEXT = (["span " + why for why in WHYS] + ["dropped " + why for why in DROPS]
 OF_WORDS = ["eop %d" % size for size in range(1, 9)] + ["eop error"] + BURST_ITEMS + [OFF]
 
 
+# What is not known of lanes that a command made.
+NOT_OF_LANES = ["accident " + kind for kind in ACCIDENTS] + [HELD, OFF]
+
+
 def text_counts(text):
     """What the printed lines count: drops, losses by lanes, accidents."""
     counts = Counter()
@@ -49,13 +53,15 @@ def skew_counts(skews, deskew):
 
 
 def stream_counts(stream, plan, flow):
-    """The ends of packets by the bytes of their last words, the bursts by their words, and the channels that go off in a packet."""
+    """The ends of packets by the bytes of their last words, the bursts by their words, and the channels that go off in a packet by the
+    flow rows, whose slots are not known of words that another sender sent: there are none then."""
     counts = Counter(BURST_ITEMS[bisect_right(BURSTS, words) - 1] for _, words, _ in stream.bursts)
     for packet in stream.packets:
         if packet.last is not None:
             end = stream.word(packet.last) >> 57 & 15
             counts["eop %d" % (end & 7 or 8) if end & 8 else "eop error"] += 1
-    counts[OFF] = off_in_packets(stream.packets, turned_off(flow, plan.entries))
+    if flow is not None:
+        counts[OFF] = off_in_packets(stream.packets, turned_off(flow, plan.entries))
     return counts
 
 

@@ -1,6 +1,5 @@
 """The run of one number: its files, what the program makes of them, and what is kept of it."""
 
-import csv
 import os
 import re
 import shutil
@@ -10,7 +9,9 @@ import time
 from collections import Counter
 
 from campaigns.coverage import ACCIDENTS, skew_counts, span_counts, stream_counts, text_counts
+from campaigns.each import each_record
 from campaigns.schedules import drawn_rows, struck_bits
+from reading.apart import Links, write_rows
 from reading.files import Folder, Refused
 from reading.plans import Flow, Plan, Schedule
 from reading.words import Stream
@@ -19,8 +20,6 @@ from reading.words import Stream
 CASE = "case"
 # Statuses of runs whose files are written to their ends; and the status that is kept of a run that is late.
 DONE, LATE = (0, 3), 124
-# The rows of a plan that name a file, by the field that does; the row of the schedule is replaced.
-NAMED = {"channel": 2, "flow": 1, "local": 1, "oob": 1, "events": 1}
 
 
 def record_of(number, settings):
@@ -35,6 +34,8 @@ def record_of(number, settings):
             copy_plan(settings["folder"], settings["plan"], folder)
             draw_schedule(folder, number, settings)
             words = ["link", CASE + ".plan"]
+        if settings.get("each"):
+            return {"number": number, **each_record(os.path.abspath(folder), number, settings, CASE)}
         return {"number": number, **run_record(folder, words, settings)}
     finally:
         if not settings["keep"]:
@@ -43,16 +44,8 @@ def record_of(number, settings):
 
 def copy_plan(source, name, target):
     """Writes a plan into another folder, with links to the files that it names, with outputs of its own, and without a schedule."""
-    rows, links = [], 0
-    for fields in Folder(None, source).rows(name):
-        place = NAMED.get(fields[0])
-        if place is not None and len(fields) > place:
-            link = "%s.input.%d" % (CASE, links)
-            os.symlink(os.path.abspath(os.path.join(source, fields[place])), os.path.join(target, link))
-            fields, links = fields[:place] + [link], links + 1
-        if fields[0] not in ("schedule", "out"):
-            rows.append(fields)
-    write_rows(os.path.join(target, CASE + ".plan"), rows + [["out", CASE + ".out"]])
+    links = Links(source, target, CASE + ".input")
+    write_rows(os.path.join(target, CASE + ".plan"), links.rows(Folder(None, source).rows(name), CASE + ".out", without=("schedule",)))
 
 
 def draw_schedule(folder, number, settings):
@@ -62,11 +55,6 @@ def draw_schedule(folder, number, settings):
     write_rows(os.path.join(folder, name), rows)
     with open(os.path.join(folder, CASE + ".plan"), "a", encoding="utf-8") as file:
         file.write("schedule,%s\n" % name)
-
-
-def write_rows(path, rows):
-    with open(path, "w", encoding="utf-8", newline="") as file:
-        csv.writer(file, lineterminator="\n").writerows(rows)
 
 
 def run_record(folder, words, settings):

@@ -12,7 +12,7 @@ class Records:
 
     def __init__(self, folder, first, last, campaign):
         self.first, self.last = first, last
-        self.path = os.path.join(folder, "%d-%d.results" % (first, last))
+        self.path = results_path(folder, first, last)
         self.by_number = {}
         try:
             os.makedirs(folder, exist_ok=True)
@@ -24,12 +24,12 @@ class Records:
         except OSError as error:
             raise Refused("%s: %s" % (error.filename or folder, error.strerror))
         lines = text.splitlines()
-        if lines and not text.endswith("\n"):
-            self.file.write("\n")  # the last line was cut off
         if not lines:
             self.write(campaign)
         elif parsed(lines[0]) != campaign:
             raise Refused("%s is of another campaign: of another plan, another rate or other options; take another folder" % self.path)
+        elif not text.endswith("\n"):
+            self.file.write("\n")  # the last line was cut off
         for line in lines[1:]:
             self.keep(parsed(line))
 
@@ -57,6 +57,16 @@ class Records:
     def all(self):
         """Each number with its record, or None."""
         return [(number, self.by_number.get(number)) for number in range(self.first, self.last + 1)]
+
+
+def results_path(folder, first, last):
+    return os.path.join(folder, "%d-%d.results" % (first, last))
+
+
+def has_begun(folder, first, last):
+    """Whether a campaign of these numbers has left records in a folder."""
+    path = results_path(folder, first, last)
+    return os.path.isfile(path) and os.path.getsize(path) > 0
 
 
 def is_done(record):

@@ -64,6 +64,16 @@ class Row:
         return piece.x + piece.width * (value - piece.first) / (piece.last - piece.first)
 
 
+STEPS = [step * 10 ** power for power in range(12) for step in (1, 2, 5)]
+
+
+def ticks_of(row, scale, apart):
+    """The round values of a row that are at least so many pixels apart and are not folded, each with its x."""
+    step = next(step for step in STEPS if scale * step >= apart)
+    values = range(-(-row.first // step) * step, row.last, step)
+    return [(value, row.x(value)) for value in values if row.shows(value)]
+
+
 def rows_of(parts, left, right, scale, fold_width):
     """The rows of an axis with this many pixels for each value; a part that does not fit in a row goes on in the next."""
     rows, pieces, x = [], [], left

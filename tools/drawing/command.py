@@ -1,61 +1,69 @@
 """The command `picture`: its options, the files that it needs, and its errors."""
 
-import argparse
 import os
-import sys
 import tempfile
 
-from reading.agreement import must_be_damaged, must_be_in_lanes, must_be_of_run, must_fill_lanes
+from reading.agreement import must_be_damaged, must_be_in_lanes, must_be_of_run, must_carry, must_fill_lanes
 from drawing.lanes import draw_lanes
 from drawing.queues import draw_queues
 from drawing.stream import draw_stream
-from reading.files import Folder, Refused
+from reading.apart import Apart
+from reading.ending import Options, must_be_new
+from reading.files import Refused
 from reading.lane_bits import read_lanes
 from reading.kinds import read_plan
+from reading.outputs import PLACES, SPANS, WORDS, capture_names, is_of_device, lane_names, names_captures
+from reading.placing import SentPlaces, gathered_places, must_have_all, not_placed
 from reading.plans import Plan, Schedule, Settings, are_settings
 from reading.tables import read_events, read_faults
-from reading.words import Stream, are_joined, read_spans
+from reading.words import Stream, are_joined, begin_of, span_rows, spans_at
 
 
 def options_of(words):
-    parser = argparse.ArgumentParser(prog="picture", description="Draws the lanes and the stream of a plan, or the queues of a run of two ends, as SVG files.")
+    parser = Options(prog="picture", description="Draws the lanes and the stream of a plan, or the queues of a run of two ends, as SVG files.")
     parser.add_argument("plan", help="a plan, or the settings of a run of two ends")
-    parser.add_argument("--program", help="the program, which makes the files that are missing, and the lanes as they were sent to compare with")
+    parser.add_argument("--program", help="the program, which makes in a temporary folder the files that are missing, and the lanes as they were sent to compare with")
     parser.add_argument("--only", choices=("lanes", "stream"), help="one picture of a plan, from the files that it alone needs")
     parser.add_argument("--sent", metavar="PREFIX", help="PREFIX.lane.I are the lanes as `send` made them")
     parser.add_argument("--text", metavar="FILE", help="what `link`, `receive` or `duplex` printed, to draw locks and to compare with")
     parser.add_argument("--to", metavar="PREFIX", help="the prefix of the pictures' names; that of the plan's outputs where there is none")
+    parser.add_argument("--overwrite", action="store_true", help="writes over pictures that are there")
     return parser.parse_args(words)
 
 
 class Work:
-    """One call: what is there, and what the program is asked for."""
+    """One call: what is there, and what the program is asked for, which stands apart from the files that are there."""
 
     def __init__(self, options):
         self.options = options
-        self.folder = Folder(options.program and os.path.abspath(options.program), os.getcwd())
+        self.folder = Apart(options.program and os.path.abspath(options.program), os.getcwd())
         self.text = self.folder.content(options.text).decode("utf-8", "replace") if options.text else ""
 
-    def need(self, names, command):
-        """Sees to it that files are there: the program makes them, or else the error names the first that is missing."""
-        missing = [name for name in names if not self.folder.has(name)]
-        if not missing:
-            return
-        if not self.options.program:
-            raise Refused("%s is missing: `interlaken %s %s` makes it" % (missing[0], command, self.options.plan))
-        printed = self.folder.run(command, self.options.plan)
+    def lacks(self, names):
+        return any(not self.folder.has(name) for name in names)
+
+    def make(self, command, plan):
+        """Has the program run a command of a plan, apart."""
+        self.keep(self.folder.make(command, plan))
+
+    def keep(self, printed):
         if not self.options.text:
             self.text += printed
-        left = [name for name in missing if not self.folder.has(name)]
-        if left:
-            raise Refused("%s is missing, and `%s %s` did not make it" % (left[0], command, self.options.plan))
 
     def wants(self, picture):
         return self.options.only in (None, picture)
 
+    def name_of(self, out, kind):
+        return "%s.%s.svg" % (self.options.to or out, kind)
+
+    def must_be_new(self, out, *kinds):
+        """An error where a picture would be written over a file, before anything is drawn."""
+        for name in (self.name_of(out, kind) for kind in kinds):
+            must_be_new(self.folder.path(name), name, self.options.overwrite)
+
     def save(self, draw, out, kind):
         """Draws to a file by a call that takes its name, and tells what is in it."""
-        path = self.folder.path("%s.%s.svg" % (self.options.to or out, kind))
+        path = self.folder.path(self.name_of(out, kind))
         try:
             counts = draw(path)
         except (OSError, UnicodeError) as error:
@@ -67,32 +75,53 @@ def draw_settings(work):
     folder, name = work.folder, work.options.plan
     settings = Settings(folder, name)
     plan = Plan(folder, settings.plan)
-    work.need(["%s.%s.%d.pcap" % (settings.out, end, channel) for end in "ab" for channel in plan.channels], "duplex")
+    work.must_be_new(settings.out, "queues")
+    names = ["%s.%s.%d.pcap" % (settings.out, end, channel) for end in "ab" for channel in plan.channels]
+    if work.options.program and work.lacks(names):
+        work.keep(folder.make_duplex(settings))
+    missing = next((other for other in names if not folder.has(other)), None)
+    if missing:
+        raise Refused("%s is missing: `interlaken duplex %s` makes it" % (missing, name))
     work.save(lambda path: draw_queues(folder, name, work.text or None, path), settings.out, "queues")
 
 
 def need_plan_files(work, plan):
-    """The files of a plan's pictures. Lanes that are there are received, and not made again."""
-    lanes = ["%s.lane.%d" % (plan.out, lane) for lane in range(plan.lanes)]
-    came = [plan.out + ".spans.csv"] + ["%s.%d.pcap" % (plan.out, channel) for channel in plan.channels]
-    has_lanes = all(work.folder.has(name) for name in lanes)
+    """The files of a plan's pictures. With a program it makes what is missing: the words of captures by `burst`, of a plan that names
+    none by `gather` of its lanes; lanes, if none is there; and of lanes that are there what was received."""
+    folder, lanes, came = work.folder, lane_names(plan), capture_names(plan) + [plan.out + SPANS]
+    is_device = is_of_device(folder, plan)
+    if work.options.program:
+        make_lanes(work, plan, lanes)
     if work.wants("lanes"):
-        work.need(lanes, "link")
-    if work.wants("stream"):
-        work.need([plan.out + ".words"], "burst")
-        work.need(came, "receive" if has_lanes else "link")
+        must_have_all(folder, plan, lanes)
+    if not work.wants("stream"):
+        return
+    maker = "gather" if is_device else "burst"
+    if work.options.program and work.lacks([plan.out + WORDS]):
+        work.make(maker, plan)
+    must_have_all(folder, plan, [plan.out + WORDS], maker)
+    if work.options.program and work.lacks(came):
+        must_have_all(folder, plan, lanes)
+        work.make("receive", plan)
+    must_have_all(folder, plan, came, "link" if work.lacks(lanes) else "receive")
+
+
+def make_lanes(work, plan, lanes):
+    """Has lanes made, and all that is received of them, if they are needed and none is there."""
+    folder = work.folder
+    is_needed = work.wants("lanes") or work.lacks(capture_names(plan) + [plan.out + SPANS])
+    if is_needed and not any(folder.has(name) for name in lanes):
+        work.make("link", plan)
 
 
 def sent_prefix(work, plan, folder):
-    """The prefix of the lanes as sent: the one that is named, or that of lanes which the program makes in a temporary folder."""
-    if work.options.sent or not work.options.program:
+    """The prefix of the lanes as sent: the one that is named, or that of lanes which the program makes in a temporary folder; None where
+    nothing tells what was sent."""
+    if work.options.sent or not work.options.program or not names_captures(plan):
         return work.options.sent
-    path, prefix = os.path.join(folder, "plan"), os.path.join(folder, "sent")
-    rows = [row if row[0] != "out" else ["out", prefix] for row in work.folder.rows(work.options.plan)]
-    with open(path, "w", encoding="utf-8") as file:
-        file.write("".join(",".join('"%s"' % field.replace('"', '""') for field in row) + "\n" for row in rows))
-    work.folder.run("send", path)
-    return prefix
+    for name, path in work.folder.run_apart("send", plan)[1].items():
+        os.symlink(path, os.path.join(folder, "sent" + name[len(plan.out):]))
+    return os.path.join(folder, "sent")
 
 
 def damage_of(by_lane):
@@ -104,12 +133,12 @@ def damage_of(by_lane):
     return damaged
 
 
-def damage_by_schedule(plan, schedule):
+def damage_by_schedule(schedule, places):
     """The same, of the bits that a schedule inverts."""
     damaged = {}
     for lane, flips in enumerate(schedule.flips):
         for bit in flips:
-            slot, place = plan.slot_of(lane, bit), bit + schedule.skew[lane]
+            slot, place = places.slot_of(lane, bit + schedule.skew[lane]), bit + schedule.skew[lane]
             if slot is not None:
                 damaged.setdefault(slot, []).append((lane, place, place))
     return damaged
@@ -130,18 +159,16 @@ def draw_plan(work):
     folder = work.folder
     plan = read_plan(folder, work.options.plan)
     schedule = Schedule(folder, plan)
+    work.must_be_new(plan.out, *(kind for kind in ("lanes", "stream") if work.wants(kind)))
     need_plan_files(work, plan)
-    damaged, skew = damage_by_schedule(plan, schedule), schedule.skew[0]
-    if work.wants("lanes"):
+    lanes, has_lanes = None, not work.lacks(lane_names(plan))
+    if work.wants("lanes") or has_lanes:
         lanes, as_sent = lanes_of(work, plan, schedule)
-        damaged = damage_of({lane.number: lane.damaged_slots(plan) for lane in lanes})
-        skew = lanes[0].front
+    if work.wants("lanes"):
         take_events(folder, plan, lanes)
         work.save(lambda path: draw_lanes(lanes, plan, as_sent, path), plan.out, "lanes")
-    elif all(folder.has("%s.lane.%d" % (plan.out, lane)) for lane in range(plan.lanes)):
-        lanes_of(work, plan, schedule)
     if work.wants("stream"):
-        draw_plan_stream(work, plan, schedule, lanes if work.wants("lanes") else None, damaged, skew)
+        draw_plan_stream(work, plan, schedule, lanes)
 
 
 def take_events(folder, plan, lanes):
@@ -151,29 +178,51 @@ def take_events(folder, plan, lanes):
         lane.events = {bit: kinds for bit, kinds in told.items() if kinds}
 
 
-def draw_plan_stream(work, plan, schedule, lanes, damaged, skew):
-    """The picture of the stream, whose words have to be those of the lanes, where these are drawn too, and of what came."""
-    folder, name = work.folder, plan.out + ".words"
-    stream = Stream(folder, name, plan)
-    spans = read_spans(folder, plan.out + ".spans.csv", plan, skew, stream.count)
-    came = {channel: folder.packets("%s.%d.pcap" % (plan.out, channel)) for channel in plan.channels}
-    must_be_of_run(stream, name, plan, spans, came, work.text)
+def places_of(folder, plan, schedule, lanes, rows):
+    """Where the words stand in the lanes: by the table of `gather`, if it is of what is there, or by the skews."""
+    found = gathered_places(folder, plan, True) if lanes or folder.has(plan.out + PLACES) else None
+    if found:
+        return found
     if lanes:
-        sizes = [folder.size("%s.lane.%d" % (plan.out, lane)) for lane in range(plan.lanes)]
-        must_fill_lanes(stream.count, name, plan, sizes, schedule.skew)
+        return SentPlaces(plan, [lane.front for lane in lanes])
+    begin = begin_of([pair for _, pair, _ in rows], plan, schedule.skew[0])
+    return SentPlaces(plan, schedule.skew if begin == schedule.skew[0] else [0] * plan.lanes)
+
+
+def draw_plan_stream(work, plan, schedule, lanes):
+    """The picture of the stream, whose words have to be those of the lanes, where these are there, and of what came."""
+    folder, name, spans_name = work.folder, plan.out + WORDS, plan.out + SPANS
+    stream, rows = Stream(folder, name, plan), span_rows(folder, spans_name)
+    places = places_of(folder, plan, schedule, lanes, rows)
+    if lanes and is_of_device(folder, plan) and not places.is_gathered:
+        must_be_sent(folder, plan, stream, places)
+    if places.is_gathered:
+        folder.must_be_made_by(plan, spans_name, "receive", "join")
+    spans = spans_at(rows, places, stream.count)
+    came = {channel: folder.packets("%s.%d.pcap" % (plan.out, channel)) for channel in plan.channels}
+    must_be_of_run(stream, name, plan, spans, came, work.text, places.is_gathered)
+    if lanes and not places.is_gathered and (work.wants("lanes") or not are_joined(spans)):
+        must_fill_lanes(stream.count, name, plan, [folder.size(lane) for lane in lane_names(plan)], places.skew)
         must_be_in_lanes(stream, name, plan, lanes, spans)
-    # What came of a words file came of no lanes.
-    damaged = {slot: places for slot, places in damaged.items() if slot < stream.count and not are_joined(spans)}
-    faults = read_faults(folder, plan, stream.count)
+        must_carry(folder, plan, stream, name, places)
+    damaged = damage_of({lane.number: lane.damaged_slots(places) for lane in lanes}) if lanes else damage_by_schedule(schedule, places)
+    # What came of a words file came of no lanes, but for one that was gathered of these.
+    damaged = {slot: found for slot, found in damaged.items() if slot < stream.count and (places.is_gathered or not are_joined(spans))}
+    faults = read_faults(folder, plan)
     work.save(lambda path: draw_stream(stream, plan, spans, damaged, came, faults, path), plan.out, "stream")
 
 
-def main(words):
-    options = options_of(words)
+def must_be_sent(folder, plan, stream, places):
+    """An error where words that nobody gathered are not those that the lanes of a device carry."""
+    name = plan.out + WORDS
     try:
-        work = Work(options)
-        (draw_settings if are_settings(work.folder, options.plan) else draw_plan)(work)
-    except Refused as error:
-        print("picture: %s" % str(error).replace("\n", " "), file=sys.stderr)
-        return 1
+        must_fill_lanes(stream.count, name, plan, [folder.size(lane) for lane in lane_names(plan)], places.skew)
+        must_carry(folder, plan, stream, name, places)
+    except Refused:
+        raise not_placed(folder, plan) from None
+
+
+def main(words):
+    work = Work(options_of(words))
+    (draw_settings if are_settings(work.folder, work.options.plan) else draw_plan)(work)
     return 0

@@ -1,6 +1,6 @@
 """Draws lanes from their first bit: the ones of their skews, their Sync words, their first locks, the groups and the damaged bits."""
 
-from drawing.axis import best_scale, folded, rows_of
+from drawing.axis import best_scale, folded, rows_of, ticks_of
 from drawing.svg import COLOURS, LINE, Labels, Picture, length_of, wrapped
 from reading.intervals import merged
 from reading.lane_bits import groups_of
@@ -90,12 +90,12 @@ def places_of(lane, row):
         apart *= 2
 
 
-def place_text(first, end, count, what):
+def place_text(first, end, count, what, skew=0):
     if what == "dark":
         return "bits %d to %d are dark" % (first, end - 1) if count == 1 else "bits of %d to %d are dark" % (first, end - 1)
     names = {"inverted": "inverted", "changed": "changed, not by the schedule"}
     if count == 1:
-        return "bit %d is %s" % (first, names[what])
+        return "bit %d is %s%s" % (first, names[what], " (bit %d as sent)" % (first - skew) if skew and what == "inverted" else "")
     if count == 2:
         return "bits %d and %d are %s" % (first, end - 1, names[what])
     return "%d bits of %d to %d are %s" % (count, first, end - 1, names[what])
@@ -163,6 +163,8 @@ class Drawing:
 
     def texts_of_lane(self, lane):
         labels, text = Labels(LEFT, self.width - 8), lock_text(lane)
+        if lane.front:
+            labels.place(LEFT, "%d bits late" % lane.front, COLOURS["note"])
         if lane.lock is None:
             labels.place(LEFT, text, COLOURS["lost"])
         elif self.row.x(lane.lock) - LEFT > length_of(text) + 24:
@@ -170,7 +172,7 @@ class Drawing:
         else:
             labels.place(self.row.x(lane.lock) + 2, "\u25c0 " + text)
         for first, end, count, what in places_of(lane, self.row):
-            labels.place(self.row.x(first) + 12, place_text(first, end, count, what), FILLS[what])
+            labels.place(self.row.x(first) + 12, place_text(first, end, count, what, lane.front), FILLS[what])
         for first, last, count, kinds in events_of(lane, self.row):
             labels.place(self.row.x(first) + 12, event_text(first, last, count, kinds), COLOURS["lost"])
         if lane.note:
@@ -179,7 +181,7 @@ class Drawing:
 
     def draw(self):
         legend = wrapped(self.legend(), self.width - LEFT)
-        self.picture = Picture(self.width, self.bottom + 8 + LINE * len(legend))
+        self.picture = Picture(self.width, self.bottom + 8 + LINE * (len(legend) + 1))
         self.draw_groups()
         for band in self.bands:
             for lane in band.lanes:
@@ -190,17 +192,26 @@ class Drawing:
             self.picture.text(8, self.tops[lane.number] + (10 if band.is_thin else 20), "%d lanes" % len(band.lanes) if len(band.lanes) > 1 else "lane %d" % lane.number)
             if not band.is_thin:
                 self.draw_damage(lane)
-            band.under.draw(self.picture, self.tops[lane.number] + band.height() + LINE)
+            band.under.draw_backed(self.picture, self.tops[lane.number] + band.height() + LINE)
+        self.draw_axis()
         for place, text in enumerate(legend):
-            self.picture.text(LEFT, self.bottom + LINE * place, text)
+            self.picture.text(LEFT, self.bottom + LINE * (place + 1) + 4, text)
         return self.picture
+
+    def draw_axis(self):
+        """The numbers of bits below the last lane."""
+        scale = next((piece.width / (piece.last - piece.first) for piece in self.row.pieces if not piece.folded), 1)
+        self.picture.text(8, self.bottom, "bit", COLOURS["note"])
+        for bit, x in ticks_of(self.row, scale, 64):
+            self.picture.line(x, self.bottom - 18, x, self.bottom - 13, COLOURS["note"])
+            self.picture.text(x, self.bottom, "%d" % bit, COLOURS["note"], "middle")
 
     def draw_lane(self, lane, height):
         picture, row, top = self.picture, self.row, self.tops[lane.number]
         begin, end = row.x(lane.front), row.x(len(lane.bits))
         picture.box(begin, top, end - begin, height, COLOURS["lane"], "lane %d: skew %d, %d bits" % (lane.number, lane.front, len(lane.bits)), "lane")
         if lane.front:
-            picture.box(LEFT, top, max(begin - LEFT, 1.5), height, COLOURS["skew"], "the %d ones of the skew" % lane.front)
+            picture.box(LEFT, top, max(begin - LEFT, 3), height, COLOURS["skew"], "the %d ones of the skew" % lane.front)
         for at in lane.syncs:
             if row.shows(at):
                 picture.box(row.x(at), top, max(row.x(at + CODE) - row.x(at), 1.5), height, COLOURS["sync"])
@@ -236,11 +247,11 @@ class Drawing:
                     self.picture.line(self.row.x(group[above]) + 2, foot, self.row.x(group[below]) + 2, head, COLOURS["sync"], "3 3")
         named = [at for at in [group[0] for group in self.groups] or self.lanes[0].syncs if self.row.shows(at)]
         for at in named:
-            place, rest = divmod(at - self.lanes[0].front, self.plan.period)
-            labels.place(self.row.x(at), ("group %d" % place if rest == 0 else "at %d" % at) if self.groups else "at bit %d" % at)
+            labels.place(self.row.x(at), "group %d" % at if self.groups else "at bit %d" % at)
         for at, (x, line, text, colour, anchor) in zip(named, labels.texts):
             if line == 0:
-                self.picture.text(x, self.tops[0] - 6, text, colour, anchor, title="bit %d" % at)
+                place, rest = divmod(at - self.lanes[0].front, self.plan.period)
+                self.picture.text(x, self.tops[0] - 6, text, colour, anchor, title="metaframe %d" % place if rest == 0 else "bit %d" % at)
 
     def draw_folds(self):
         for piece in self.row.pieces:
@@ -254,7 +265,7 @@ class Drawing:
         if self.groups and len(self.lanes) > 1:
             parts.append("dashed: the Sync words of one group")
         if self.groups:
-            parts.append("group n begins at the bit in its title, by which the span table names it")
+            parts.append("a group is named as in the span table, by the bit of lane 0 at which its Sync word begins")
         if any(piece.folded for piece in self.row.pieces):
             parts.append("\u00d7n: n metaframes are left out, in which no lock or damage begins or ends")
         if any(lane.missing_syncs(self.plan.period) for lane in self.lanes):

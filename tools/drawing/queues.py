@@ -12,6 +12,7 @@ FOLD, LEAST_QUIET = 60, 60
 FEW, AROUND = 2000, 120  # slots of a run that is drawn whole but for what is quiet; slots around what is drawn of a longer one
 TALLEST, LOWEST, BY_WORD = 170, 60, 2.2
 MOST_CHANNELS = 6
+NAMED = 45  # slots at the end of a row over which the name of a curve stands
 STEPS = [step * 10 ** power for power in range(1, 8) for step in (1, 2, 5)]
 
 
@@ -140,6 +141,22 @@ class Drawing:
             slot = end.peak_at[c]
             if row.first <= slot < row.last and (row.shows(slot) or len(row.pieces) == 1):
                 self.draw_peak("peak %d" % end.peak[c], row.x(slot), floor - self.by_word * end.peak[c] - 6, self.colours[c], placed)
+        if len(filled) == 1 and not self.is_long:
+            self.draw_crossings(row, floor, end.course[filled[0]], self.colours[filled[0]], placed)
+        if row.last == self.link.slots:
+            for c in filled:
+                most = max(words for slot, words in end.course[c][-NAMED:] if slot >= row.last - NAMED or slot == end.course[c][-1][0])
+                self.draw_peak("channel %d" % c, row.right, floor - self.by_word * most - 8, self.colours[c], placed)
+
+    def draw_crossings(self, row, floor, course, colour, placed):
+        """The slots in which a queue first reaches the mark, and then first falls below it."""
+        up = next((slot for slot, words in course if words >= self.link.mark), None)
+        down = next((slot for slot, words in course if up is not None and slot > up and words < self.link.mark), None)
+        for slot in (up, down):
+            if slot is not None and row.shows(slot):
+                y = floor - self.by_word * self.link.mark
+                self.picture.line(row.x(slot), y - 4, row.x(slot), y + 4, colour)
+                self.draw_peak("slot %d" % slot, row.x(slot) + (-24 if slot == up else 26), y - 6, colour, placed)
 
     def draw_peak(self, text, x, y, colour, placed):
         """The text of a peak over it, or higher where other texts are in its way."""
@@ -198,7 +215,9 @@ class Drawing:
             picture.box(row.x(burst.slot), top, 1.4, 18, COLOURS["sync"])
 
     def legend(self):
-        parts = ["a colour for each channel", "below each queue, by the slots in which they are sent: dark, a burst starts", "red, the channel is off"]
+        parts = ["a colour for each channel", "bars: bursts of the other end, by the slots in which they are sent", "dark: a burst starts", "red: the channel is off"]
+        if self.rows[0].first > 0 and not self.is_long:
+            parts.append("slots 0 to %d, before the first burst, are not shown" % (self.rows[0].first - 1))
         if self.is_long:
             parts.append("grey: slots are pressed together, and a queue is drawn from its least to its most words")
         elif any(is_folded for _, _, is_folded in self.parts):

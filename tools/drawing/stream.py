@@ -96,7 +96,7 @@ class Drawing:
                     near.append((x, [(number, span)]))
             labels = Labels(8, WIDTH - 8)
             for x, spans in near:
-                labels.place(x, spans_text(spans), COLOURS["flip"])
+                labels.place(x, spans_text(spans), span_colours([span for _, span in spans])[2])
             if len(labels.lines) <= MOST_LINES or apart > WIDTH:
                 return labels
             apart = 2 * apart + 20
@@ -137,7 +137,7 @@ class Drawing:
             right = [packet.data for packet in sent if packet not in self.is_lost and packet.end & 8]
             came = self.came.get(channel, [])
             if met or right != came:
-                notes.append(("channel %d: %d packets sent, %d met by spans, %d came" % (channel, len(sent), met, len(came)), right == came))
+                notes.append(("channel %d: %d packets sent, %d lost, %d delivered" % (channel, len(sent), met, len(came)), right == came))
         return notes
 
     def draw(self):
@@ -163,13 +163,15 @@ class Drawing:
             part = self.shown_part(row, span)
             if part:
                 x, deep = row.x(part[0]), height - over.height() - 2
-                self.picture.box(x, words - 14, row.end(part[1]) - x, deep, COLOURS["span"], span_text(number, span), "span")
-                self.picture.line(x, words - 14, x, words - 14 + deep, COLOURS["edge"])
+                fill, edge, _ = span_colours([span])
+                self.picture.box(x, words - 14, row.end(part[1]) - x, deep, fill, span_text(number, span), "span")
+                self.picture.line(x, words - 14, x, words - 14 + deep, edge)
         over.draw(self.picture, top + LINE)
         self.draw_words(row, words)
         self.picture.text(8, words + 20, "words")
-        self.picture.text(8, words + 34, "%d to" % row.first, COLOURS["note"])
-        self.picture.text(8, words + 48, "%d" % (row.last - 1), COLOURS["note"])
+        numbers = "%d to %d" % (row.first, row.last - 1)
+        for place, text in enumerate([numbers] if length_of(numbers) < LEFT - 12 else ["%d to" % row.first, "%d" % (row.last - 1)]):
+            self.picture.text(8, words + 34 + 14 * place, text, COLOURS["note"])
         for slot in self.damaged:
             if row.first <= slot < row.last:
                 x = row.x(slot) + (self.scale / 2 if row.shows(slot) else 0)
@@ -237,17 +239,21 @@ class Drawing:
         lost, begin, end = packet in self.is_lost, row.piece(first), row.piece(last - 1)
         x = begin.x + begin.width - EDGE if begin.folded and first > row.first and first > begin.first else row.x(first)
         to_x = end.x + EDGE if end.folded and last < row.last and last < end.last else row.end(last)
-        colour = COLOURS["lost"] if lost else COLOURS["note"] if packet.last is None else self.colours.get(packet.channel, COLOURS["note"])
+        colour = COLOURS["note"] if packet.last is None else self.colours.get(packet.channel, COLOURS["note"])
         told = "no end word" if packet.last is None else "to %d, %d bytes%s" % (packet.last, len(packet.data), ", did not come" if lost else "")
         title = "channel %d, packet %d: slots %d %s" % (packet.channel, packet.number, packet.first, told)
-        self.picture.box(x + 0.8, top, max(to_x - x - 1.4, 0.6), 22, colour, title, "lost packet" if lost else "packet")
+        part = (x + 0.8, top, max(to_x - x - 1.4, 0.6), 22, colour, title)
+        if lost:
+            self.picture.frame(*part, "lost packet")
+        else:
+            self.picture.box(*part, "packet")
         if length_of("%d" % packet.number) + 6 <= to_x - x:
-            self.picture.text(x + 3, top + 15, "%d" % packet.number, "white")
+            self.picture.text(x + 3, top + 15, "%d" % packet.number, colour if lost else "white")
 
     def legend(self):
-        parts = ["tall: control words", "red boxes: the packets that meet a span, which did not come"] if self.lost else ["tall: control words"]
+        parts = ["tall: control words", "outlined: packets that a span meets, which were lost"] if self.lost else ["tall: control words"]
         if any(is_folded for _, _, is_folded in self.parts):
-            parts.append("dotted: as many slots as are written there are left out")
+            parts.append("dashed box: so many slots are not shown")
         if self.faults:
             parts.append("marks below words: rules that `check` says they break")
         if any(packet.last is None for packet in self.stream.packets):
@@ -276,6 +282,13 @@ def span_text(number, span):
     if span.before is None:
         return "span %d from slot %d on: %s" % (number, span.after, span.why)
     return "span %d of slots %d to %d: %s" % (number, span.after, span.before, span.why)
+
+
+def span_colours(spans):
+    """The colours of the area, the edge and the text of spans: grey for what is at the start and at the end of every stream."""
+    if all(span.why in ("start", "end") for span in spans):
+        return "#e5e8e8", COLOURS["idle"], COLOURS["note"]
+    return COLOURS["span"], COLOURS["edge"], COLOURS["flip"]
 
 
 def spans_text(spans):

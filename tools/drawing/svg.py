@@ -37,6 +37,12 @@ class Picture:
         head = '<rect%s x="%.1f" y="%.1f" width="%.1f" height="%.1f" fill="%s"' % (' class="%s"' % kind if kind else "", x, y, width, height, fill)
         self.lines.append(head + ("><title>%s</title></rect>" % plain(title) if title else "/>"))
 
+    def frame(self, x, y, width, height, colour, title="", kind=""):
+        """A box of which the edge alone has a colour, as of what is absent."""
+        head = '<rect%s x="%.1f" y="%.1f" width="%.1f" height="%.1f" fill="white" fill-opacity="0.7" stroke="%s" stroke-width="1.8"' % (
+            ' class="%s"' % kind if kind else "", x, y, width, height, colour)
+        self.lines.append(head + ("><title>%s</title></rect>" % plain(title) if title else "/>"))
+
     def line(self, x, y, to_x, to_y, colour, dashes=""):
         self.lines.append('<line x1="%.1f" y1="%.1f" x2="%.1f" y2="%.1f" stroke="%s"%s/>' % (x, y, to_x, to_y, colour, ' stroke-dasharray="%s"' % dashes if dashes else ""))
 
@@ -47,12 +53,12 @@ class Picture:
         """A polygon that lets what lies under it be seen."""
         self.lines.append('<polygon points="%s" fill="%s" fill-opacity="0.4"/>' % (" ".join("%.1f,%.1f" % point for point in points), colour))
 
-    def arrow(self, x, y, to_x, to_y, colour):
+    def arrow(self, x, y, to_x, to_y, colour, dashes=""):
         """A line with a head at its end, which points along it."""
         length = ((to_x - x) ** 2 + (to_y - y) ** 2) ** 0.5
         along_x, along_y = (to_x - x) / length, (to_y - y) / length
         corners = [(to_x, to_y)] + [(to_x - 8 * along_x - side * along_y, to_y - 8 * along_y + side * along_x) for side in (3.5, -3.5)]
-        self.line(x, y, to_x, to_y, colour)
+        self.line(x, y, to_x, to_y, colour, dashes)
         self.lines.append('<polygon points="%s" fill="%s"/>' % (" ".join("%.1f,%.1f" % corner for corner in corners), colour))
 
     def text(self, x, y, text, colour="#17202a", anchor="start", more="", title=""):
@@ -102,6 +108,14 @@ class Labels:
         """Draws the texts, the first line's at `y` and each further one `step` below."""
         for x, number, text, colour, anchor in self.texts:
             picture.clear_text(x, y + step * number, text, colour, anchor)
+
+    def draw_backed(self, picture, y):
+        """The same over white boxes, which interrupt the lines behind the texts."""
+        for x, number, text, _, anchor in self.texts:
+            width = length_of(text)
+            left = x - width if anchor == "end" else x - width / 2 if anchor == "middle" else x
+            picture.box(left - 2, y + LINE * number - 11, width + 4, 14, "white")
+        self.draw(picture, y)
 
 
 def wrapped(text, width):

@@ -5,9 +5,11 @@ import os
 import re
 import shlex
 
+from explaining.listings import LINES, line_hint
 from reading import kinds
 from reading.files import Refused, shown_name
 from reading.kinds import CAPTURE, WORDS
+from reading.outputs import is_of_device, way_to
 from reading.plans import EVENTS_KIND, PLAN_KIND, SCHEDULE_KIND, SETTINGS_KIND
 from reading.rows import KeyMissing, RowRefused
 
@@ -18,8 +20,6 @@ MEANINGS = {"text": "a field is not UTF-8", "key": "an unknown key", "fields": "
             "repeat": "a second row of what stands once", "clash": "the row contradicts another"}
 # What writes the words files and lanes that a command reads; of the others it is `link`.
 WRITERS = {"join": "burst", "stripe": "burst", "check": "burst", "damage": "send"}
-LINES = {"words": "`data X`, `bad X`, `control X` (X: 16 digits of 0 to 9 and A to F), `idle sop=..` or `burst sop=..`",
-         "lane": "`sync I`, `state I S`, `code I HH X` or, last, `rest BITS`"}
 
 
 def wanted_kind(inputs, refused):
@@ -94,8 +94,15 @@ def absent(folder, inputs, refused):
     """An absent file: which row names it, and where it may be."""
     told = "%s%s: no such file" % (where_named(refused), shown_name(refused.name))
     if not refused.is_plan and refused.named_by is None and inputs.plan:
-        return told + "; `interlaken %s %s` writes it" % (WRITERS.get(inputs.command, "link"), shlex.quote(inputs.name))
+        return told + way_to(folder, inputs.plan, writer_of(folder, inputs))
     return told + "".join("; " + hint for hint in name_hints(folder, inputs, refused.name))
+
+
+def writer_of(folder, inputs):
+    """The command that makes the words or the lanes that a command reads: of lanes that no captures made, the words are gathered."""
+    if inputs.command in ("join", "check") and is_of_device(folder, inputs.plan):
+        return "gather"
+    return WRITERS.get(inputs.command, "link")
 
 
 def name_hints(folder, inputs, name):
@@ -154,12 +161,3 @@ def listing_fault(folder, name, why):
     if number == len(lines):
         return "%s:%d: the last line does not end in a line feed" % (shown_name(name), number)
     return "%s:%d: %r is no line of a listing%s; the lines after `%s` are %s" % (shown_name(name), number, line[:60], line_hint(line), head, LINES[head])
-
-
-def line_hint(line):
-    if line != line.strip():
-        return ": it has a blank or a carriage return at an end"
-    digits = line.split()[-1] if line.split() else ""
-    if line.startswith(("data ", "bad ", "control ")) and len(digits) != 16:
-        return ": %d digits, and not 16" % len(digits)
-    return ": digits are upper case" if re.search(r"(^| |=)[0-9A-F]*[a-f][0-9a-fA-F]*$", line) else ""

@@ -1,24 +1,29 @@
 """The command `explain`: runs the program, passes its text and status on, and says on the error output what they mean."""
 
-import errno
 import os
 import shutil
 import subprocess
 import sys
 
-from explaining import causes, stores, usage, warnings
+from explaining import causes, guard, stores, usage, warnings
 from explaining.inputs import Inputs
+from reading.ending import discard
 from reading.files import Folder, is_text, own_program
 
 DONE, STORE_FAULT, USAGE, HELD, PLAN_REFUSED, INPUT_REFUSED, OUT_OF_MEMORY, SINK_FAULT, NO_WORDS, NOT_BUILT = 0, 1, 2, 3, 4, 5, 6, 7, 8, 70
-OPTION = "--program"
+OPTION, OVERWRITE = "--program", "--overwrite"
 
 
-def program_of(words):
-    """The program, and the words that are left for it: by the option, by the environment, or the repository's own."""
-    if words[:1] == [OPTION] and len(words) > 1:
-        return words[1], words[2:]
-    return own_program(sys.argv[0]), words
+def options_of(words):
+    """The program, by the option, by the environment, or the repository's own; whether files may be written over; and the words that are
+    left for the program."""
+    program, overwrite = None, False
+    while words[:1] == [OVERWRITE] or words[:1] == [OPTION] and len(words) > 1:
+        if words[0] == OVERWRITE:
+            overwrite, words = True, words[1:]
+        else:
+            program, words = words[1], words[2:]
+    return program or own_program(sys.argv[0]), overwrite, words
 
 
 def tell(lines):
@@ -43,16 +48,17 @@ def run(program, words):
 
 
 def pass_on(text):
-    """Whether the text could be written."""
+    """Whether the text could be written, or nobody reads it."""
     try:
-        if sys.stdout is None:
-            raise OSError(errno.EBADF, "it is closed")
         sys.stdout.buffer.write(text)
         sys.stdout.buffer.flush()
         return True
+    except BrokenPipeError:
+        discard()
+        return True
     except OSError as error:
         tell(["explain: standard output: %s" % error.strerror])
-        sys.stdout = None
+        discard()
         return False
 
 
@@ -86,11 +92,18 @@ def meaning(folder, words, status, text):
 
 
 def main(words):
-    program, words = program_of(words)
+    if words in (["-h"], ["--help"]):
+        print("\n".join(usage.help_lines()))
+        return DONE
+    program, overwrite, words = options_of(words)
     folder, inputs = Folder(program, os.getcwd()), None
     if len(words) == 2 and usage.fault_of(words) is None and folder.has(words[1]):
         # An output may have the name of an input, so they are read before the run. What comes through a pipe is left to the program.
         inputs = Inputs(folder, *words, False)
+        against = None if overwrite else guard.line_against(inputs)
+        if against:
+            tell(["explain: " + against])
+            return USAGE
         tell(warnings.before(inputs) if not inputs.refused else [])
     status, text, lines = run(program, words)
     tell(lines)

@@ -1,5 +1,6 @@
 """What each command takes and reads, in the program's order, so that the first refusal here is the program's."""
 
+from explaining.commands import listed
 from reading.files import Refused
 from reading.plans import ROWS_LIMIT, Events, Flow, Local, Plan, Schedule, Settings
 from reading.rows import Fault, KeyMissing, RowRefused
@@ -158,26 +159,27 @@ class Inputs:
 class Command:
     """A command: the words after it, what it takes, and how its inputs are read."""
 
-    def __init__(self, words, takes, read):
-        self.words, self.takes, self.read = words, takes, read
+    def __init__(self, listed, read):
+        self.words, self.takes, self.read = listed.words, listed.takes, read
 
 
-COMMANDS = {
-    "burst": Command("FILE", "a capture, or a plan where FILE ends in .plan", Inputs.take_burst),
-    "join": Command("FILE", "a words file, or a plan where FILE ends in .plan", Inputs.take_join),
-    "send": Command("FILE", "a plan", Inputs.take_plan_and_sources),
-    "receive": Command("FILE", "a plan", Inputs.take_receive),
-    "gather": Command("FILE", "a plan", Inputs.take_receive),
-    "inspect": Command("FILE", "a plan", Inputs.take_receive),
-    "link": Command("FILE", "a plan", Inputs.take_link),
-    "generate": Command("NUMBER PREFIX", "a number below 2^64 and the prefix of the files that it writes", Inputs.take_nothing),
-    "duplex": Command("FILE", "the settings of a run of two ends", Inputs.take_duplex),
-    "oobwrite": Command("FILE", "a plan", Inputs.take_oobwrite),
-    "oobread": Command("FILE", "a plan with a row `oob`", Inputs.take_oobread),
-    "resend": Command("FILE", "a plan with a row `events`", Inputs.take_resend),
-    "stripe": Command("FILE", "a plan", Inputs.take_stripe),
-    "damage": Command("FILE", "a plan", Inputs.take_damage),
-    "check": Command("FILE", "a plan", Inputs.take_check),
-    "list": Command("FILE", "a words file where FILE ends in .words, else a lane file", Inputs.take_list),
-    "assemble": Command("FILE", "a listing", Inputs.take_assemble),
+READERS = {
+    "burst": Inputs.take_burst,
+    "join": Inputs.take_join,
+    "send": Inputs.take_plan_and_sources,
+    "receive": Inputs.take_receive,
+    "gather": Inputs.take_receive,
+    "inspect": Inputs.take_receive,
+    "link": Inputs.take_link,
+    "generate": Inputs.take_nothing,
+    "duplex": Inputs.take_duplex,
+    "oobwrite": Inputs.take_oobwrite,
+    "oobread": Inputs.take_oobread,
+    "resend": Inputs.take_resend,
+    "stripe": Inputs.take_stripe,
+    "damage": Inputs.take_damage,
+    "check": Inputs.take_check,
+    "list": Inputs.take_list,
+    "assemble": Inputs.take_assemble,
 }
+COMMANDS = {name: Command(row, READERS[name]) for name, row in listed().items()}

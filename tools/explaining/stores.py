@@ -16,19 +16,19 @@ def line_of(folder, name):
 def reason(path, folder):
     parent = os.path.dirname(path) or "."
     if "\0" in path:
-        return "the name has a zero byte, which no file may have"
+        return "the name has a zero byte, which file names cannot have"
     if os.path.isdir(path):
-        return "it is a folder, and a file is wanted"
+        return "it is a folder, not a file"
     if not os.path.isdir(parent):
         return parent_reason(parent, folder)
     if any(len(os.fsencode(part)) > 255 for part in path.split("/")):
-        return "a part of the name has more than 255 bytes, which no file may have"
+        return "a part of the name has more than 255 bytes, which file names cannot have"
     if os.path.lexists(path) and not os.path.exists(path):
-        return "it is a link to %s, which is not there" % shown_name(os.readlink(path))
+        return "it is a link to %s, which does not exist" % shown_name(os.readlink(path))
     if os.path.exists(path) and not stat.S_ISREG(os.stat(path).st_mode):
-        return "it is %s, which is no file of a disk" % shown_name(os.path.realpath(path))
+        return "it is %s, which is not a regular file" % shown_name(os.path.realpath(path))
     if os.statvfs(parent).f_flag & os.ST_RDONLY:
-        return "the disk of the folder %s may only be read" % shown_name(folder or ".")
+        return "the folder %s is on a read-only disk" % shown_name(folder or ".")
     return access_reason(path, parent, folder) or disk_reason(parent)
 
 
@@ -37,17 +37,17 @@ def parent_reason(parent, folder):
     while not os.path.exists(above):
         above = os.path.dirname(above) or "."
     if not os.path.isdir(above):
-        return "%s is no folder" % shown_name(above if os.path.isabs(folder) else os.path.relpath(above))
-    return "the folder %s is not there; `mkdir -p %s` makes it" % (shown_name(folder), folder)
+        return "%s is not a folder" % shown_name(above if os.path.isabs(folder) else os.path.relpath(above))
+    return "the folder %s does not exist; `mkdir -p %s` creates it" % (shown_name(folder), folder)
 
 
 def access_reason(path, parent, folder):
     if os.path.exists(path):
         wrong = [word for word, way in (("read", os.R_OK), ("written", os.W_OK)) if not os.access(path, way)]
         if wrong:
-            return "the file may not be %s by this user" % " or ".join(wrong)
+            return "permission denied: the file cannot be %s" % " or ".join(wrong)
     elif not os.access(parent, os.W_OK | os.X_OK):
-        return "no file may be made in the folder %s by this user" % shown_name(folder or ".")
+        return "permission denied: cannot create files in %s" % shown_name(folder or ".")
     return None
 
 
@@ -58,4 +58,4 @@ def disk_reason(parent):
     if disk.f_files and disk.f_favail == 0:
         return "the disk has no room for another file"
     free = disk.f_bavail * disk.f_frsize >> 20
-    return "nothing is wrong with its name and folder now, and %d MB are free: perhaps the disk was full during the run, a limit of size was met, or the disk failed" % free
+    return "nothing is wrong with its name and folder now, and %d MB are free: perhaps the disk was full during the run, a size limit was reached, or the disk failed" % free

@@ -8,25 +8,46 @@ from reading.files import shown_name
 FILE_NAME, PREFIX, NUMBER_DIGITS = 255, 180, 20
 
 
+HELP = ["usage: explain [--program PROGRAM] [--overwrite] COMMAND FILE", "       explain [--program PROGRAM] generate NUMBER PREFIX", "",
+        "Runs the program with these words, passes on its text and its status, and explains refusals and warnings on the error output. With",
+        "--overwrite it also runs a command that writes over lanes or words that the program did not make, or over a capture. The commands:", ""]
+
+
+def help_lines():
+    """What `explain --help` prints."""
+    return HELP + table()
+
+
 def lines_of(words):
     """The first fault of the words, and the table of commands."""
+    return ["explain: " + (fault_of(words) or "these words are not accepted")] + table()
+
+
+def table():
+    """A line for each command."""
     width = max(len(name) + len(command.words) for name, command in COMMANDS.items()) + 1
-    table = ["  %-*s  %s" % (width, "%s %s" % (name, command.words), command.takes) for name, command in COMMANDS.items()]
-    return ["explain: " + (fault_of(words) or "these words are not accepted")] + table
+    return ["  %-*s  %s" % (width, "%s %s" % (name, command.words), command.takes) for name, command in COMMANDS.items()]
 
 
 def fault_of(words):
     """The first fault, or None."""
     if not words:
-        return "no words: a command and what it takes are wanted"
+        return "no command given"
     if words[0] not in COMMANDS:
         return unknown_command(words)
     takes = COMMANDS[words[0]].words.split()
     if len(words) - 1 != len(takes):
-        return "`%s` takes %s, and not %d words" % (words[0], " ".join(takes), len(words) - 1)
+        return count_fault(words[0], takes, len(words) - 1)
     if len(takes) == 2:
         return number_fault(words[1]) or name_fault("PREFIX", words[2], PREFIX)
     return name_fault("FILE", words[1], FILE_NAME)
+
+
+def count_fault(command, takes, count):
+    """What is wrong with the number of words after a command."""
+    if takes == ["FILE"]:
+        return "`%s` needs a file name" % command if count == 0 else "`%s` takes one file name, not %d words" % (command, count)
+    return "`%s` needs a number and a prefix, not %d word%s" % (command, count, "s" * (count != 1))
 
 
 def unknown_command(words):
@@ -36,7 +57,7 @@ def unknown_command(words):
         rest = [word for word in words if word != found]
         return "the command comes first: `interlaken %s`" % " ".join([found] + rest)
     if name.lstrip("-") in ("help", "h", "version", "V"):
-        return "there is no text of help or of the version; these are the commands"
+        return "these are the commands; `./interlaken --help` says what each does, and `./interlaken --version` what is run"
     near = difflib.get_close_matches(name.lower(), COMMANDS, 1)
     return "unknown command %s%s" % (shown_name(name), ": `%s`?" % near[0] if near else "")
 

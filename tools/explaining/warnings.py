@@ -5,9 +5,10 @@ from collections import Counter
 
 from reading.files import shown_name
 from reading.lane_bits import FIRST_STATE, bits_of, first_state
+from reading.placing import SentPlaces
 from reading.plans import CODE, MOST_SKEW
 from reading.strikes import spans_struck, strikes_of
-from reading.words import meets, missing_of, read_spans, slots_of
+from reading.words import meets, missing_of, slots_of, span_rows, spans_at
 
 # Rows of one kind that have lines of their own; the others are counted.
 SHOWN = 5
@@ -100,7 +101,7 @@ def beyond_lanes(schedule, lanes):
         if key == "skew" or end <= bits:
             continue
         what = "bits %d to %d go beyond" % (first, end - 1) if key == "dark" else "bit %d is after" % first
-        struck = "it strikes nothing" if first >= bits else "it strikes %d bits of %d" % (bits - first, end - first)
+        struck = "it has no effect" if first >= bits else "it strikes %d bits of %d" % (bits - first, end - first)
         has = "bits 0 to %d" % (bits - 1) if bits else "no bits"
         lines.append(warning(schedule.name, row, "%s: %s the end of lane %d, which has %s: %s" % (key, what, lane, has, struck)))
     return some(lines, "rows are beyond the ends of lanes")
@@ -112,7 +113,7 @@ def vain_strikes(inputs, slots, text):
     plan, schedule, name = inputs.plan, inputs.schedule, inputs.plan.out + ".spans.csv"
     if not schedule.rows or not re.search("^accidents locks=0 groups=0 stretches=0$", text, re.MULTILINE):
         return []
-    spans = read_spans(inputs.folder, name, plan, schedule.skew[0], slots)
+    spans = spans_at(span_rows(inputs.folder, name), SentPlaces(plan, schedule.skew), slots)
     missing, lines = [packet for packet, _ in missing_of(text)], []
     for strike in strikes_of(plan, schedule, plan.sent_bits(slots)):
         struck = [spans[number] for number in spans_struck(strike, spans)]
@@ -182,7 +183,7 @@ def exchanged(inputs):
         state = first_state(bits_of(inputs.folder.beginning(name, seen))) if inputs.folder.has(name) else None
         other = lane if state is None else FIRST_STATE - state
         if other != lane and other < plan.lanes:
-            lines.append("%s: warning: it begins with the scrambler state of lane %d: are the files of lanes exchanged?" % (name, other))
+            lines.append("%s: warning: it begins with the scrambler state of lane %d: are the lane files swapped?" % (name, other))
     return some(lines, "lanes begin with the state of another")
 
 

@@ -5,12 +5,13 @@ never was, so that they are refused.
 """
 
 import re
-import shlex
 from bisect import bisect_left
 from collections import Counter
 
 from reading.files import Refused, shown_name
-from reading.lane_words import has_right_crc
+from reading.lane_words import bits_between, code_at, has_right_crc
+from reading.metaframes import Metaframes
+from reading.outputs import names_captures
 from reading.plans import CODE
 from reading.words import are_joined, is_sent, meets, missing_of, slots_of
 
@@ -18,21 +19,25 @@ HEADER, OTHERS = 3 << 64, (1 << CODE) - 1 & ~(3 << 64)  # the bits of a code
 
 
 def anew(plan):
-    """What is said of files of two runs."""
-    name = shlex.quote(plan.name)
-    return "these files are not of one run: `interlaken link %s` and then `interlaken burst %s` make them anew" % (name, name)
+    """What is said of files of two runs: they are there, so none of them is written over."""
+    told = "these files are not of one run"
+    return told + ": `interlaken link` and then `interlaken burst` of this plan with another `out` make new files" * names_captures(plan)
 
 
 def changed_schedule(plan):
     """What is said of lanes that a schedule did not make."""
-    return "the schedule was changed after the run; `interlaken link %s` makes the lanes anew" % shlex.quote(plan.name)
+    return "the schedule was changed after the run" + "; `interlaken link` of this plan with another `out` makes new lanes" * names_captures(plan)
 
 
 # ---- the words, the spans, the captures and the text
 
-def must_be_of_run(stream, name, plan, spans, came, text):
-    """An error where the words of a stream are not those of the printed text, or not those that the spans and the captures are of."""
-    must_be_of_text(stream, name, plan, spans, text)
+def must_be_of_run(stream, name, plan, spans, came, text, is_gathered=False):
+    """An error where the words of a stream are not those of the printed text, or not those that the spans and the captures are of. Of
+    gathered words the text does not tell."""
+    if is_gathered:
+        must_have_spans(plan, spans, text)
+    else:
+        must_be_of_text(stream, name, plan, spans, text)
     if re.search(r"^accidents (?!locks=0 groups=0 stretches=0$)", text, re.MULTILINE):
         return  # what came may be other than the spans leave
     for channel in plan.channels:
@@ -116,6 +121,35 @@ def must_be_in_lanes(stream, name, plan, lanes, spans):
             if found != wanted and is_trusted[slot] and wanted in "01":
                 told = "slot %d is a %s word, and in %s.lane.%d it is none" % (slot, "control" if wanted == "1" else "data", plan.out, number)
                 raise Refused("%s: %s: %s" % (name, told, anew(plan)))
+
+
+# The payload words of lanes that are compared with a stream; of more metaframes some, the first and the last among them.
+COMPARED = 40000
+
+
+def must_carry(folder, plan, stream, name, places):
+    """An error where lanes carry another word than a stream has, in a metaframe whose CRC32 is right."""
+    frames = stream.count // plan.group
+    step = -(-max(stream.count, 1) // COMPARED)
+    for frame in sorted({*range(0, frames, step), frames - 1} - {-1}):
+        for lane in range(plan.lanes):
+            begin = frame * plan.period + places.skew[lane]
+            lane_name = "%s.lane.%d" % (plan.out, lane)
+            wrong = wrong_slot(plan, stream, frame, lane, bits_between(folder, lane_name, begin, begin + plan.period))
+            if wrong is not None:
+                raise Refused("%s: slot %d is another word than lane %d has, whose Diagnostic word after it is right: %s" % (name, wrong, lane, anew(plan)))
+
+
+def wrong_slot(plan, stream, frame, lane, bits):
+    """The first slot of a metaframe of a lane, given by its bits, that is another word in a stream; None where the CRC32 is wrong."""
+    if len(bits) < plan.period:
+        return None
+    frames = Metaframes(plan)
+    framed = [frames.take(*code_at(bits, bit)[1:]) for bit in range(0, plan.period, CODE)]
+    if framed[-1].wrong:
+        return None
+    slots = range(frame * plan.group + lane, (frame + 1) * plan.group, plan.lanes)
+    return next((slot for slot, word in zip(slots, framed[2 + plan.skips:-1]) if word.word != stream.word(slot)), None)
 
 
 def must_fill_lanes(count, name, plan, sizes, skews):

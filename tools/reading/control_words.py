@@ -20,3 +20,8 @@ def is_reset(word):
 def is_valid_alone(word):
     """Whether a flow row's word counts: a control word with the CRC24 of the word alone."""
     return is_control(word) and word == sealed_alone(word)
+
+
+def entries_of(word):
+    """The sixteen calendar entries of a control word, whether each is on, the first one first."""
+    return [word >> bit & 1 == 1 for bit in range(55, 39, -1)]

@@ -10,11 +10,14 @@ import subprocess
 from collections import namedtuple
 
 MAGICS = {b"\xd4\xc3\xb2\xa1": "little", b"\x4d\x3c\xb2\xa1": "little", b"\xa1\xb2\xc3\xd4": "big", b"\xa1\xb2\x3c\x4d": "big"}
+NANO_MAGICS, NANO = (b"\x4d\x3c\xb2\xa1", b"\xa1\xb2\x3c\x4d"), 10 ** 9
 NG_MAGIC, BYTE_ORDER_MARK = b"\x0a\x0d\x0d\x0a", b"\xef\xbb\xbf"
 MOST_PACKET, WORDS_LIMIT = 262144, 1 << 30
 # A row by its number in the program's count, which leaves empty lines out, its first line in the file, and its fields as texts. A
 # field that is not UTF-8 has a surrogate for each byte that is none.
 Row = namedtuple("Row", "number line fields")
+# A packet of a capture with its stamp in nanoseconds.
+Record = namedtuple("Record", "stamp data")
 
 
 class Refused(Exception):
@@ -66,8 +69,13 @@ class Folder:
 
     def beginning(self, name, most):
         """The first bytes of a file."""
+        return self.part(name, 0, most)
+
+    def part(self, name, first, count):
+        """Bytes of a file from one on, as many as there are."""
         with open(self.path(name), "rb") as file:
-            return file.read(most)
+            file.seek(first)
+            return file.read(max(count, 0))
 
     def size(self, name):
         return os.path.getsize(self.path(name))
@@ -118,10 +126,15 @@ class Folder:
 
     def packets(self, name, most=MOST_PACKET, room=None):
         """The packets of a capture, of at most `most` bytes each, from a file of at most `room` bytes."""
+        return [record.data for record in self.records(name, most, room)]
+
+    def records(self, name, most=MOST_PACKET, room=None):
+        """The packets of a capture with their stamps."""
         data = self.content(name, room)
         order, at, found = order_of(name, data), 24, []
+        unit = 1 if data[:4] in NANO_MAGICS else 1000
         while at < len(data):
-            size = int.from_bytes(data[at + 8:at + 12], order)
+            seconds, part, size = (int.from_bytes(data[at + place:at + place + 4], order) for place in (0, 4, 8))
             is_whole = at + 16 <= len(data)
             if is_whole and size == 0:
                 refuse(name, "empty record %d" % len(found), "a packet of no bytes, at byte %d" % at)
@@ -129,7 +142,7 @@ class Folder:
                 refuse(name, "long record %d length %d" % (len(found), size), "above max_packet, %d bytes; at byte %d" % (most, at))
             if at + 16 + size > len(data) or not is_whole:
                 refuse(name, "short at %d" % at, "record %d is not whole: the file ends at byte %d" % (len(found), len(data)))
-            found.append(data[at + 16:at + 16 + size])
+            found.append(Record(NANO * seconds + unit * part, data[at + 16:at + 16 + size]))
             at += 16 + size
         return found
 

@@ -6,16 +6,11 @@ from collections import Counter
 from reading.agreement import are_sent, must_begin_at
 from reading.intervals import merged
 from reading.files import must_agree
-from reading.lane_words import words_of
+from reading.lane_words import bits_of, words_of
 from reading.metaframes import STATE, STATE_BITS, STATE_MARK, SYNC
 from reading.plans import CODE
 
 FIRST_STATE = STATE  # of lane 0; that of lane i is less by i
-
-
-def bits_of(data):
-    """Bytes as a text of 0 and 1."""
-    return bin(int.from_bytes(b"\1" + data, "big"))[3:]
 
 
 def sync_words(bits):
@@ -98,21 +93,16 @@ class Lane:
         """The damaged bits as (first, last + 1, what they are), in order."""
         return sorted([(bit, bit + 1, "inverted") for bit in self.inverted] + [(a, b, "dark") for a, b in self.dark] + [(bit, bit + 1, "changed") for bit in self.other])
 
-    def damaged_slots(self, plan):
+    def damaged_slots(self, places):
         """The slots of the stream whose words are damaged in this lane, each with the first and the last of its damaged bits."""
+        changed = None if self.changed is None else {places.slot_of(self.number, bit) for bit in self.changed}
         found = {}
         for first, end, _ in self.damaged():
-            for word in range((first - self.front) // CODE, (end - 1 - self.front) // CODE + 1):
-                begin = self.front + CODE * word
+            for slot, begin in places.words_of(self.number, first, end):
                 part = max(first, begin), min(end, begin + CODE) - 1
-                least, most = found.get(word, part)
-                found[word] = min(least, part[0]), max(most, part[1])
-        if self.changed is not None:
-            changed = {(bit - self.front) // CODE for bit in self.changed}
-            found = {word: bits for word, bits in found.items() if word in changed}
-        slots = {plan.slot_of(self.number, CODE * word): bits for word, bits in found.items()}
-        slots.pop(None, None)
-        return slots
+                least, most = found.get(slot, part)
+                found[slot] = min(least, part[0]), max(most, part[1])
+        return found if changed is None else {slot: bits for slot, bits in found.items() if slot in changed}
 
 
 def read_lanes(folder, plan, schedule, sent=None, text=""):

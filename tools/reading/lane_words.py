@@ -14,6 +14,17 @@ HEADERS, ILLEGAL, SEARCHED = 64, 16, 6
 Word = namedtuple("Word", "bit lock header inverted disparity framed")
 
 
+def bits_of(data):
+    """Bytes as a text of 0 and 1."""
+    return bin(int.from_bytes(b"\1" + data, "big"))[3:]
+
+
+def bits_between(folder, name, first, last):
+    """Bits of a lane file, from one up to another."""
+    first = max(first, 0)
+    return bits_of(folder.part(name, first // 8, -(-last // 8) - first // 8))[first % 8:][:max(last - first, 0)]
+
+
 def words_of(bits, syncs, plan):
     """The words of all locks of a lane, in order."""
     legal, found = legal_headers(bits), word_locks(bits)

@@ -5,7 +5,7 @@ from collections import namedtuple
 from reading.checksums import CRC32
 from reading.control_words import is_control
 
-SYNC = 0x78F678F678F678F6
+SYNC, SKIP = 0x78F678F678F678F6, 0x1E1E1E1E1E1E1E1E
 CONTROL = 2
 WORD = (1 << 64) - 1
 STATE_BITS = 58

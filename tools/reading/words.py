@@ -5,6 +5,7 @@ from bisect import bisect_right
 from collections import namedtuple
 
 from reading.files import Refused
+from reading.tables import table_of
 
 
 class Packet(namedtuple("Packet", "channel number first last data end")):
@@ -86,31 +87,30 @@ class Stream:
         return [match.span() for match in re.finditer("[%s]{%d,}" % (letters, least), self.kinds)]
 
 
-def read_spans(folder, name, plan, skew, count=None):
-    """The fault spans of a table, by slots, which are below `count`. A group is named by the bit at which lane 0's Sync word begins;
-    all words of a words file are group 0. Where the groups do not fit the skew of lane 0 and fit none, the lanes were received as they
-    were sent."""
-    rows = folder.rows(name)
-    if not rows or rows[0] != "after_group,after_index,before_group,before_index,why".split(","):
-        raise Refused("%s: no table of fault spans" % name)
-    places = []
-    for number, row in enumerate(rows[1:], 2):
-        if len(row) != 5:
-            raise Refused("%s: row %d: %d fields" % (name, number, len(row)))
-        if row[4] not in REASONS:
-            raise Refused("%s: row %d: %r is no reason of a span" % (name, number, row[4][:20]))
-        places.append([place_of("%s: row %d" % (name, number), part) for part in (row[:2], row[2:4])])
-    begin = begin_of(places, plan, skew)
-    spans = []
-    for number, (pair, row) in enumerate(zip(places, rows[1:]), 2):
-        slots = [slot_of("%s: row %d" % (name, number), place, plan, begin, count) for place in pair]
-        spans.append(Span(*slots, row[4], all(not place or is_sent(place[0], plan, begin) for place in pair), pair))
-    return spans
+SPAN_HEADING = "after_group,after_index,before_group,before_index,why".split(",")
 
 
-def begin_of(places, plan, skew):
-    """The bit of lane 0 at which its first Sync word begins: its skew, or 0 where the groups fit that alone."""
-    groups = [place[0] for pair in places for place in pair if place and place[0]]
+def span_rows(folder, name):
+    """The rows of a table of fault spans: where each stands, its two places, and why. A group is named by the bit at which lane 0's Sync
+    word begins; all words of a words file are group 0."""
+    found = []
+    for where, *places, why in table_of(folder, name, SPAN_HEADING):
+        if why not in REASONS:
+            raise Refused("%s: %r is no reason of a span" % (where, why[:20]))
+        found.append((where, [place_of(where, part) for part in (places[:2], places[2:])], why))
+    return found
+
+
+def spans_at(rows, places, count=None):
+    """The fault spans of a table's rows, by slots, which are below `count`."""
+    return [Span(*(slot_of(where, place, places, count) for place in pair), why, all(not place or places.has_group(place[0]) for place in pair), pair)
+            for where, pair, why in rows]
+
+
+def begin_of(pairs, plan, skew):
+    """The bit of lane 0 at which its first Sync word begins: its skew, or 0 where the groups fit that alone, since the lanes were
+    received as they were sent."""
+    groups = [place[0] for pair in pairs for place in pair if place and place[0]]
     return next((begin for begin in (skew, 0) if all(is_sent(group, plan, begin) for group in groups)), skew)
 
 
@@ -127,12 +127,13 @@ def place_of(where, fields):
     return int(fields[0]), int(fields[1])
 
 
-def slot_of(where, place, plan, begin, count):
-    """The slot of a place, in the group before where its own is none that was sent."""
+def slot_of(where, place, places, count):
+    """The slot of a place."""
     if place is None:
         return None
-    group, index = place
-    slot = max(0, group - begin) // plan.period * plan.group + index if group else index
+    slot = places.slot_at(*place)
+    if slot is None:
+        raise Refused("%s: the table of places has no word %d of group %d: these files are not of one run" % (where, place[1], place[0]))
     if count is not None and slot >= count:
         raise Refused("%s: slot %d, and the words file has %d" % (where, slot, count))
     return slot

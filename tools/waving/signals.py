@@ -37,8 +37,8 @@ class LaneWaves:
     """The signals of a lane; `words` and `locks` count what was read when the changes have been taken. The stream, where there is one,
     has to be that of the lane. `events` are those of the lane by bit, where there is a table of them."""
 
-    def __init__(self, lane, plan, stream, events=None):
-        self.lane, self.plan, self.stream = lane, plan, stream
+    def __init__(self, lane, plan, stream, places, events=None):
+        self.lane, self.plan, self.stream, self.places = lane, plan, stream, places
         self.words = self.locks = 0
         self.received = []
         told = events is not None
@@ -64,15 +64,15 @@ class LaneWaves:
             self.locks += word.lock == "declared" and not was_declared
             was_declared = word.lock == "declared"
             if self.stream and word.framed:
-                self.compare(word.bit - self.lane.front, word.framed)
+                self.compare(word.bit, word.framed)
         yield end, SEARCH
 
     def compare(self, bit, framed):
-        """Compares the payload words of a metaframe, from their sent bits on, with the stream where its Diagnostic word is right."""
+        """Compares the payload words of a metaframe with the stream where its Diagnostic word is right."""
         if framed.place == 0:
             self.received = []
-        slot = self.plan.slot_of(self.lane.number, bit)
-        if slot is not None and 0 <= slot < self.stream.count and bit == self.plan.place_of(slot)[2]:
+        slot = self.places.slot_of(self.lane.number, bit)
+        if slot is not None and slot < self.stream.count and bit == self.places.place(slot)[2]:
             self.received.append((slot, framed.word))
         if framed.role == "diagnostic" and not framed.wrong:
             wrong = next((slot for slot, word in self.received if word != self.stream.word(slot)), None)
@@ -89,10 +89,10 @@ def values_of(word):
 
 class StreamWaves:
     """The signals of the sent stream and of the fault spans, at the words of lane 0: the words of a row, one of each lane, share the
-    67 bits of lane 0's. `front` is the first sent bit of lane 0, and `faults` are the rules that words break, where there are some."""
+    67 bits of lane 0's. `places` says where words stand, and `faults` are the rules that words break, where there are some."""
 
-    def __init__(self, stream, spans, plan, front, faults):
-        self.stream, self.spans, self.plan, self.front = stream, spans, plan, front
+    def __init__(self, stream, spans, plan, places, faults):
+        self.stream, self.spans, self.plan, self.places = stream, spans, plan, places
         changes = together(self.changes(), self.fault_changes(faults), NONE) if faults else self.changes()
         self.scope = Scope("stream", STREAM + [RULE] * bool(faults), changes)
 
@@ -104,8 +104,7 @@ class StreamWaves:
 
     def time(self, slot, after=0):
         """Where a slot begins, or with 1 after it where it ends."""
-        lane, _, bit = self.plan.place_of(slot)
-        return self.front + bit + CODE * (lane + after) // self.plan.lanes
+        return self.places.row_bit(slot) + CODE * (self.places.lane_of(slot) + after) // self.plan.lanes
 
     def changes(self):
         return together(self.word_changes(), self.span_changes(), None)
@@ -115,7 +114,7 @@ class StreamWaves:
         yield 0, NO_SLOT
         for slot in range(self.stream.count):
             yield self.time(slot), self.values_at(slot)
-            if (slot + 1) % self.plan.group == 0:
+            if self.places.ends_piece(slot):
                 yield self.time(slot, after=1), NO_SLOT
 
     def values_at(self, slot):

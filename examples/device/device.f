@@ -1,0 +1,10 @@
+../testbench/lane_pkg.sv
+../testbench/scrambler58.sv
+../testbench/crc.sv
+../testbench/disparity.sv
+device_pkg.sv
+payload_source.sv
+lane_sender.sv
+device.sv
+wires.sv
+tb_device.sv

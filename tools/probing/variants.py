@@ -1,0 +1,175 @@
+"""The known ways in which senders differ from the profile: in CRC24, CRC32, scrambler and Skip words.
+
+A function of one item returns the name of what fits: RIGHT, the changes that make it fit with commas between, or None if nothing
+known fits. The caller counts.
+"""
+
+from collections import namedtuple
+from functools import lru_cache
+from itertools import product
+
+from reading.checksums import CRC24, CRC32
+from reading.metaframes import CONTROL, DIAGNOSTIC_MARK, HALF, SKIP, STATE, STATE_BITS, key_after
+
+RIGHT = "right"
+NOT_COMPLEMENTED, START_0 = "not complemented", "start 0"
+LOWEST_FIRST, STATE_COUNTED = "lowest bit first", "State bits counted in"
+NOT_SCRAMBLED = "not scrambled"
+STATE_REVERSED, RUNS_THROUGH = "State words reversed", "running through Sync and State words"
+STANDS_IN_SKIPS = "standing still in Skip words"
+MOST_STEPS = 64  # State words are tried from so many steps back to so many steps on
+TRIED = 6  # metaframes by which a scrambler is chosen
+REVERSED_BYTES = bytes(int(format(byte, "08b")[::-1], 2) for byte in range(256))
+RESERVED = (1 << 24) - 1  # of the Diagnostic word, bits 57:34 shifted down
+
+
+def named(changes):
+    return ", ".join(changes) or RIGHT
+
+
+# ---- checksums
+
+def crc24_variant(data, word):
+    """How bits 23:0 of a control word follow from the bytes of the data words before it and from itself."""
+    covered = data + (word >> 24 << 24).to_bytes(8, "big")
+    for changes, start in (((), CRC24.ones), ((START_0,), 0)):
+        found = kind_of_end(word & CRC24.ones, CRC24.after(start, covered), CRC24.ones)
+        if found is not None:
+            return named(changes + found)
+    return None
+
+
+def crc32_variant(words):
+    """How bits 31:0 of a metaframe's Diagnostic word follow from its words: their payloads, descrambled, from Sync to Diagnostic. The
+    State word has its 58 bits as they were sent."""
+    for changes in sorted(product((None, LOWEST_FIRST), (None, STATE_COUNTED), (None, START_0)), key=lambda these: sum(map(bool, these))):
+        found = kind_of_end(words[-1] & HALF, crc32_register(words, *map(bool, changes)), HALF)
+        if found is not None:
+            return named(tuple(filter(None, changes)) + found)
+    return None
+
+
+def kind_of_end(checksum, register, ones):
+    """No change if a checksum is the complement of a register, NOT_COMPLEMENTED if it is the register itself, or None."""
+    if checksum == register ^ ones:
+        return ()
+    return (NOT_COMPLEMENTED,) if checksum == register else None
+
+
+def crc32_register(words, is_lowest_first, counts_state, starts_at_0):
+    """The register of a CRC32 after a metaframe, by these changes."""
+    state = words[1] if counts_state else words[1] >> STATE_BITS << STATE_BITS
+    covered = b"".join(word.to_bytes(8, "big") for word in (words[0], state, *words[2:-1], words[-1] & ~HALF))
+    start = 0 if starts_at_0 else CRC32.ones
+    if not is_lowest_first:
+        return CRC32.after(start, covered)
+    # The bytes lowest bit first are those whose bits are reversed, and so is what comes of them.
+    register = CRC32.after(start, covered.translate(REVERSED_BYTES))
+    return int.from_bytes(register.to_bytes(4, "little").translate(REVERSED_BYTES), "big")
+
+
+# ---- the scrambler
+
+def skip_variant(payload, key):
+    """RIGHT if a payload is a Skip word under these 64 key bits, NOT_SCRAMBLED if it is one as it is, or None."""
+    return RIGHT if payload ^ key == SKIP else NOT_SCRAMBLED if payload == SKIP else None
+
+
+def steps_on(state, steps):
+    """A state so many steps on, or back if the number is below 0."""
+    for _ in range(steps):
+        state = (state << 1 | (state >> 38 ^ state >> 57) & 1) & STATE
+    for _ in range(-steps):
+        state = state >> 1 | ((state ^ state >> 39) & 1) << 57
+    return state
+
+
+def reversed_state(state):
+    return int(format(state, "0%db" % STATE_BITS)[::-1], 2)
+
+
+class Scrambler(namedtuple("Scrambler", "is_reversed steps runs plain stands", defaults=(False, 0, False, False, False))):
+    """How the State words of a lane tell the key: whether their 58 bits are reversed; how many steps they are ahead of the state with
+    which the word after them begins; whether the register runs on in Sync and State words; whether Skip words are not scrambled, and
+    whether the register stands still in those. `Scrambler()` is right."""
+
+    def name(self):
+        """RIGHT, or the changes with commas between, as "State words reversed, State words 3 steps on"."""
+        # A register that runs on in the State word itself is 64 steps further after it.
+        steps = 0 if self.runs and self.steps == -MOST_STEPS else self.steps
+        on = ["State words %d steps %s" % (abs(steps), "on" if steps > 0 else "back")] if steps else []
+        return named([RUNS_THROUGH] * self.runs + [STATE_REVERSED] * self.is_reversed + on + [STANDS_IN_SKIPS] * self.stands)
+
+    def start(self, carried):
+        """The state with which the word after a State word begins that carries this one."""
+        return steps_on(reversed_state(carried) if self.is_reversed else carried, -self.steps)
+
+
+@lru_cache(maxsize=None)
+def jump(words):
+    """The states that come so many words after each state of one bit: those of a sum of bits are their sums."""
+    if words == 0:
+        return tuple(1 << bit for bit in range(STATE_BITS))
+    half = jump(words // 2)
+    images = tuple(after(half, image) for image in half)
+    return tuple(key_after(image)[1] for image in images) if words % 2 else images
+
+
+def after(images, state):
+    found = 0
+    while state:
+        low = state & -state
+        found ^= images[low.bit_length() - 1]
+        state ^= low
+    return found
+
+
+def plain_skips(frame):
+    """How many words after the State word are Skip words that are not scrambled."""
+    return next((count for count, payload in enumerate(frame.payloads[2:-1]) if payload != SKIP), len(frame.payloads) - 3)
+
+
+def fits(frame, start, plain, stands):
+    """Whether a key that begins with this state after the State word gives a Skip word at once, or a Diagnostic word at the end."""
+    first, last = frame.payloads[2], frame.payloads[-1]
+    if not plain and frame.headers[2] == CONTROL and skip_variant(first, key_after(start)[0]) == RIGHT:
+        return True
+    before = len(frame.payloads) - 3 - (plain_skips(frame) if stands else 0)
+    word = last ^ key_after(after(jump(before), start))[0]
+    return frame.headers[-1] == CONTROL and word >> STATE_BITS == DIAGNOSTIC_MARK and word >> 34 & RESERVED == 0
+
+
+def candidates(plain):
+    """Scramblers in the order in which they are tried, but for whether they run through Sync and State words."""
+    by_nearness = sorted(range(-MOST_STEPS, MOST_STEPS + 1), key=abs)
+    for stands in (False, True) if plain else (False,):
+        for steps in by_nearness:
+            for is_reversed in (False, True):
+                yield Scrambler(is_reversed, steps, False, plain, stands)
+
+
+def scrambler_of(frames):
+    """The scrambler that fits most of some metaframes (`frames.Frame`), how many it fits, and of how many: (Scrambler or None, fits,
+    tried). The second of two metaframes that follow one another shows whether the register runs on in Sync and State words."""
+    frames = list(frames)
+    plain = 2 * sum(plain_skips(frame) > 0 for frame in frames) > len(frames)
+    some = frames[:TRIED]
+    for found in candidates(plain):
+        if 2 * sum(fits(frame, found.start(frame.payloads[1] & STATE), plain, found.stands) for frame in some) > len(some):
+            found = found._replace(runs=runs_on(frames, found))
+            return found, sum(fits(frame, found.start(frame.payloads[1] & STATE), plain, found.stands) for frame in frames), len(frames)
+    return None, 0, len(frames)
+
+
+def runs_on(frames, scrambler):
+    """Whether in most pairs of metaframes that follow one another the register ran on in the Sync and State words between."""
+    return sum(is_next(*pair, scrambler._replace(runs=True)) for pair in zip(frames, frames[1:])) > sum(is_next(*pair, scrambler) for pair in zip(frames, frames[1:]))
+
+
+def is_next(frame, other, scrambler):
+    """Whether the State word of a metaframe is that of the register of the one before."""
+    count = len(frame.payloads)
+    words = count if scrambler.runs else count - 2
+    words -= plain_skips(frame) if scrambler.stands else 0
+    start, wanted = (scrambler.start(some.payloads[1] & STATE) for some in (frame, other))
+    return other.bit - frame.bit == 67 * count and after(jump(words), start) == wanted
