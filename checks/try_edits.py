@@ -95,7 +95,7 @@ class Trial:
         self.kit, self.name, self.source, self.edits, self.room = kit, name, source, edits, room
         self.kept = os.path.join(room, "kept")
         os.mkdir(self.kept)
-        self.refused, self.wrong = {}, {}
+        self.refused, self.wrong, self.checks = {}, {}, 0
 
     def run(self):
         texts = sources_of(self.source)
@@ -125,6 +125,7 @@ class Trial:
         return status == 0
 
     def check(self, texts, kept, only=()):
+        self.checks += 1
         if kept:
             return self.kit.check(self.name, self.source, texts, kept, only)
         over = tempfile.mktemp(dir=self.room)
@@ -197,7 +198,7 @@ class Book:
             for what, why in trial.wrong.items():
                 self.tally.count("%s/%s" % (trial.name, os.path.basename(what)), why)
             write_rows(self.path, rows)
-            print("%s: %d of %d edits refused" % (trial.name, len(trial.refused), len(trial.edits)), flush=True)
+            print("%s: %d of %d edits refused, by %d checks" % (trial.name, len(trial.refused), len(trial.edits), trial.checks), flush=True)
 
 
 def try_crate(kit, book, name):
