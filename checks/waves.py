@@ -240,12 +240,12 @@ def check_tables(tally, folder):
             tally.expect("signals beside %s of an older run" % end, " %s $end" % signal in file.read(), False)
         for data in (b"no,heading\n", kept[end] + b"9,9,dial\n", kept[end] + b"x,crc,-\n"):
             write_files(folder, {"whole." + end: data})
-            expect_refused(tally, folder, "%s spoiled" % end, ["whole.plan"], "whole.%s: " % end)
+            expect_refused(tally, folder, "%s spoiled" % end, ["whole.plan"], "whole.%s:" % end)
         write_files(folder, {"whole." + end: kept[end]})
     for ends in (("words",), ("words", "places.csv"), ("lane.0", "lane.1", "lane.2"), ("spans.csv",)):
         before = {end: content(os.path.join(folder, "whole." + end)) for end in ends}
         write_files(folder, {"whole." + end: content(os.path.join(folder, "other." + end)).replace(b",end", b",lost") for end in ends})
-        expect_refused(tally, folder, "%s of another dump" % (ends,), ["whole.plan"], "whole.%s" % ("spans.csv is of an older run: `interlaken receive" if ends == ("spans.csv",) else "words: "))
+        expect_refused(tally, folder, "%s of another dump" % (ends,), ["whole.plan"], "whole.%s" % ("spans.csv is of an older run: `interlaken receive" if ends == ("spans.csv",) else "places.csv is not of these lanes and words: "))
         write_files(folder, {"whole." + end: data for end, data in before.items()})
     os.remove(os.path.join(folder, "whole.lane.1"))
     expect_refused(tally, folder, "a dump without a lane", ["whole.plan"], "whole.lane.1 is missing\n")
