@@ -12,7 +12,7 @@ REVERSED_WITHIN, SWAPPED_WITHIN = (8, 16, 20, 32, 40, 64, 66, 67, 80), (16, 32, 
 LEAST_METAFRAME, MOST_METAFRAME = 32, 8192
 LONGEST = CODE * MOST_METAFRAME // 8  # bytes of the longest metaframe
 SHORT = 2 * LONGEST + 2 * CODE  # bytes in which a Sync word is looked for in every order
-LEAST_FRAMES = 5  # metaframes of a lane that are looked at where it has them
+LEAST_FRAMES = 5  # metaframes of a lane that are looked at if it has so many
 ROUND = 16  # the Sync word has a period of so many bits, in every order within it
 PAYLOAD = 64
 
@@ -64,7 +64,7 @@ def in_one_order(bits, order):
 def sync_payloads(bits):
     """By the order of payloads the bits at which the payloads of Sync words begin."""
     number, found = int(bits or "0", 2), {payload: [] for payload in PAYLOADS}
-    # Bit q is 1 where the bits q and q + 16 differ.
+    # Bit q is 1 if the bits q and q + 16 differ.
     differing = as_text(number ^ number << ROUND, len(bits))[:-ROUND]
     for first, last in runs_of_zeros(differing, PAYLOAD - ROUND):
         for at in range(first, min(last - (PAYLOAD - ROUND), first + ROUND) + 1):
@@ -85,18 +85,16 @@ def runs_of_zeros(text, least):
 
 
 def metaframe_of(places, wanted):
-    """The metaframe by the distances of Sync words: the one that is wanted if it is among them, or the most frequent."""
+    """The metaframe by the distances of Sync words: the one that is wanted if it is among the most frequent, or the least of these."""
     distances = Counter()
-    for step in (1, 2):
-        for begin, end in zip(places, places[step:]):
-            length, rest = divmod(end - begin, CODE)
-            if rest == 0 and LEAST_METAFRAME <= length <= MOST_METAFRAME:
-                distances[length] += 1
-    if wanted in distances:
-        return wanted
+    for begin, end in zip(places, places[1:]):
+        length, rest = divmod(end - begin, CODE)
+        if rest == 0 and LEAST_METAFRAME <= length <= MOST_METAFRAME:
+            distances[length] += 1
     most = max(distances.values(), default=0)
     # A Sync word that is not there doubles a distance.
-    return min((length for length, count in distances.items() if 2 * count >= most), default=None)
+    frequent = [length for length, count in distances.items() if 2 * count >= most]
+    return wanted if wanted in frequent else min(frequent, default=None)
 
 
 def phase_of(places, metaframe):
