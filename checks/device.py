@@ -18,7 +18,9 @@ PAGE = "examples/device/README.md"
 # A command has to end by then on an idle machine; a build by verilator takes longest.
 SECONDS = 200
 LANES, CODE, METAFRAME, LOCKS = 4, 67, 32, 3
-CHANNELS = (1, 2, 5)
+# Those that send, and all that are listed.
+CHANNELS, LISTED = (1, 2, 5), (1, 2, 5, 9)
+MENDING = {"lanes_reversed": ("--order", "3,2,1,0"), "lane_inverted": ("--invert", "1"), "payload_reversed": ("--payload-reversed",)}
 CLEAN = "none"
 
 
@@ -27,29 +29,43 @@ def bit_of(metaframe, word):
     return CODE * (METAFRAME * metaframe + word)
 
 
-# By bug: what judge's summary has to say, each text being the beginning of a line; and a row that the table has to have, as (what, lane,
-# bit) with None for what is not asked.
+def row(what, lane=None, bit=None, **more):
+    """What is asked of a row of judge's table."""
+    asked = {"what": what, "lane": lane, "bit": bit, **more}
+    return {column: str(value) for column, value in asked.items() if value is not None}
+
+
+# Where a bug strikes once: a data word of lane 2 whose payload bit 30 is wrong, a code of lane 0, and the code of lane 2 that lacks a bit.
+WRONG_BIT = bit_of(8, 20) + 3 + 63 - 30
+WRONG_HEADER, SLIPPED = bit_of(7, 9), CODE * 276
+MENDED = "tools/lanes --order 3,2,1,0 mends it"
+INVERTED = "inverted, or its header bits are exchanged: 15 of 15 Sync words: tools/lanes --invert 1, or --form hex67 --headers-swapped mends it"
+
+# By bug: lines that judge's summary has, and a row that its table has.
 BUGS = {
-    "crc24_once": (["crc=1"], ("crc", None, None)),
-    "crc24_plain": (["crc: 571 of 571 are right with another CRC24: not complemented"], ("crc", None, None)),
-    "short_burst": (["short=7"], ("short", None, None)),
-    "long_burst": (["max=12"], ("max", None, None)),
-    "calendar_reversed": (["calendar: 572 of 572 are right where the 16 flow bits are reversed"], ("calendar", None, None)),
-    "sop_missing": (["open=1"], ("open", None, None)),
-    "skip_plain": (["skip: 48 of 48 of lanes 0 to 3 are right where they are not scrambled", "diag=48 following=48"], ("skip", 0, bit_of(3, 2))),
-    "skip_bit": (["skip: 12 of 12 differ in bit 17 alone", "skip: 12 of 12 are on lane 3 alone"], ("skip", 3, bit_of(3, 2))),
-    "crc32_state": (["diag: 48 of 48 of lanes 0 to 3 are right with another CRC32: State bits counted in"], ("diag", 0, bit_of(3, 31))),
-    "scrambler_runs": (["state: 16 of 16 of lanes 0 to 3 are right with a scrambler of this kind: running through Sync and State words"], ("state", 0, bit_of(4, 1))),
-    "state_reversed": (["state: 16 of 16 of lanes 0 to 3 are right with a scrambler of this kind: State words reversed"], ("state", 0, bit_of(4, 1))),
-    "never_inverted": (["balance=3"], ("balance", 1, 11725)),
-    "health": (["health: 12 of 12 are on lane 1 alone"], ("health", 1, bit_of(3, 31))),
-    "data_bit": (["diag=1"], ("diag", 2, bit_of(8, 31))),
-    "header": (["bad=1"], ("bad", 0, bit_of(7, 9))),
-    "metaframe_short": ([], ("sync", 0, bit_of(10, 0))),
-    "slip": ([], (None, 2, None)),
-    "lanes_reversed": ([], (None, None, None)),
-    "lane_inverted": ([], ("no-lock", 1, None)),
-    "payload_reversed": ([], ("no-lock", 0, None)),
+    "crc24_once": (["crc=1"], row("crc", expected="331E28", found="331E29")),
+    "crc24_plain": (["crc: 571 of 571 are right with another CRC24: not complemented"], row("crc")),
+    "short_burst": (["short=7"], row("short")),
+    "long_burst": (["max=12"], row("max")),
+    "calendar_reversed": (["calendar: 572 of 572 are right where the 16 flow bits are reversed"], row("calendar")),
+    "sop_missing": (["open=1"], row("open", channel=2)),
+    "skip_plain": (["skip: 48 of 48 of lanes 0 to 3 are right where they are not scrambled", "diag=48 following=48"], row("skip", 0, bit_of(3, 2))),
+    "skip_bit": (["skip: 12 of 12 differ in bit 17 alone", "skip: 12 of 12 are on lane 3 alone"], row("skip", 3, bit_of(3, 2))),
+    "crc32_state": (["diag: 48 of 48 of lanes 0 to 3 are right with another CRC32: State bits counted in"], row("diag", 0, bit_of(3, 31))),
+    "scrambler_runs": (["state: 16 of 16 of lanes 0 to 3 are right with a scrambler of this kind: running through Sync and State words"],
+                       row("state", 0, bit_of(4, 1))),
+    "state_reversed": (["state: 16 of 16 of lanes 0 to 3 are right with a scrambler of this kind: State words reversed"], row("state", 0, bit_of(4, 1))),
+    "never_inverted": (["balance=3"], row("balance", expected="-129 to 129")),
+    "health": (["health: 12 of 12 are on lane 1 alone"], row("health", 1, bit_of(3, 31), expected="11", found="01")),
+    "data_bit": (["diag=1"], row("diag", 2, bit_of(8, 31), note="right with bit %d of the lane inverted" % WRONG_BIT)),
+    "header": (["bad=1", "diag=1 following=1"], row("bad", 0, WRONG_HEADER, found="11")),
+    "metaframe_short": (["slip: lanes 0 to 3: 1 word is missing, by the Sync words at bits %d and %d" % (bit_of(9, 0), bit_of(10, 0) - CODE)],
+                        row("sync", 0, bit_of(10, 0))),
+    "slip": (["slip: lane 2: 1 bit is missing, by the Sync words at bits %d and %d" % (bit_of(8, 0), bit_of(9, 0) - 1)], row("bad", 2, SLIPPED)),
+    "lanes_reversed": (["crc: 36 of 36 control words after data are right with the lanes in the order 3,2,1,0: " + MENDED], row("crc")),
+    "lane_inverted": (["no-lock: lane 1: " + INVERTED], row("no-lock", 1, note=INVERTED)),
+    "payload_reversed": (["no-lock: lanes 0 to 3: payload reversed: 15 of 15 Sync words: tools/lanes --form hex67 --payload-reversed mends it"],
+                         row("no-lock", 0)),
 }
 
 
@@ -125,24 +141,41 @@ def check_clean(tally, dump):
 
 def check_bug(tally, dump):
     """A bug: judge ends with 1, its summary names it, and its table has the place."""
-    lines, (what, lane, bit) = BUGS[dump.bug]
+    lines, wanted = BUGS[dump.bug]
     dump.lanes(tally)
     status, said, rows = dump.judge()
     tally.expect("%s: status of judge" % dump.bug, status, 1)
-    for wanted in lines:
-        tally.count("%s: %s" % (dump.bug, wanted), "" if any(line.startswith(wanted) for line in said) else "judge said %s" % said)
-    fits = [row for row in rows if (what is None or row["what"] == what) and (lane is None or row["lane"] == "%d" % lane) and (bit is None or row["bit"] == "%d" % bit)]
-    tally.count("%s: a row of %s" % (dump.bug, (what, lane, bit)), "" if fits else "the table begins %s" % rows[:3])
+    for line in lines:
+        tally.count("%s: %s" % (dump.bug, line), "" if line in said else "judge said %s" % said)
+    found = [row for row in rows if all(row[column] == value for column, value in wanted.items())]
+    tally.count("%s: a row with %s" % (dump.bug, wanted), "" if found else "the table begins %s" % rows[:3])
+
+
+def check_mended(tally, dump, *mending):
+    """What mends lanes: after it nothing is found."""
+    dump.lanes(tally, "--overwrite", *mending)
+    tally.expect("%s: judge after %s" % (dump.bug, " ".join(mending)), dump.judge()[0::2], (0, []))
 
 
 def check_packets(tally, dump):
     """Bytes that the device counts wrongly break no rule: the packets beside those that were sent show them."""
     dump.lanes(tally)
-    tally.expect("valid_bytes: judge", dump.judge()[0], 0)
+    tally.expect("valid_bytes: judge", dump.judge()[0::2], (0, []))
     run(PROGRAM, "receive", "device.plan", folder=dump.folder)
     status, text = tool("packets", "dump.1.pcap", "device.1.pcap", folder=dump.folder)
-    tally.expect("valid_bytes: status of packets", status, 1)
-    tally.count("valid_bytes: the first difference", "" if "packet" in text else text)
+    tally.expect("valid_bytes: packets", (status, text.splitlines()[1:2]), (1, ["  first: packet 0: 156 bytes and not 155"]))
+
+
+def check_calendar(tally, dump):
+    """A calendar of 16 entries in the other order breaks no rule: the states that it should show are another's."""
+    with open(dump.folder + "/device.plan", "a", encoding="ascii") as file:
+        file.write("".join("entry,%d\n" % channel for channel in LISTED * 4) + "local,device.local\n")
+    with open(dump.folder + "/device.local", "w", encoding="ascii") as file:
+        file.write("0,9,off\n")
+    dump.lanes(tally)
+    status, _, rows = dump.judge()
+    told = "the calendar is not that of device.local, but is where the 16 flow bits are reversed"
+    tally.expect("calendar of 16 entries: judge", (status, [(row["what"], row["note"]) for row in rows]), (1, [("calendar", told)]))
 
 
 def check_page(tally, folder):
@@ -182,6 +215,8 @@ def main():
         check_clean(tally, clean)
         for dump in others:
             check_bug(tally, dump)
+            if dump.bug in MENDING:
+                check_mended(tally, dump, *MENDING[dump.bug])
         check_packets(tally, valid)
         check_calendar(tally, same_calendar)
         check_verilator(tally, device, runs, clean)
