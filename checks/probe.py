@@ -263,6 +263,13 @@ def check_plans(check, link):
     run = probe({**files, "x.plan": b"kept"}, ["--out", "x.plan", "--overwrite"])
     again = probe(files)
     check.tally.expect("--out", (run.status, b"# plan" in run.text, run.files["x.plan"]), (0, False, plan_in(again.text)))
+    named = {"a b": files["three.lane.0"], "c": files["three.lane.1"], "d": files["three.lane.2"]}
+    run = PROBE(list(named), named)
+    made = LANES(shlex.split(run.text.decode().split("the lanes of the plan: tools/lanes ")[-1].split("\n")[0]), named).files
+    check.tally.expect("lanes of other names", (run.status, [made.get("probed.lane.%d" % lane) for lane in range(3)], b"out,probed\n" in run.text), (0, list(named.values()), True))
+    moved = {"w.lane.10": b"", **{name: data for name, data in files.items()}}
+    run = PROBE(sorted(files, reverse=True), moved)
+    check.tally.expect("lanes by the numbers of their names", (run.status, b"out,three\n" in run.text), (0, True))
     check.tally.expect("no other file", sorted(again.files), sorted(files))
 
 
