@@ -90,7 +90,7 @@ extern "C" {
 
 /* The version of the program, the library and the formats of files. The shared library has the
  * first number in its name. */
-#define INTERLAKEN_VERSION "1.4.0"
+#define INTERLAKEN_VERSION "1.4.1"
 
 /* The results of calls. */
 enum interlaken_result {
