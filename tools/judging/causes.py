@@ -7,8 +7,9 @@ from judging.frames import Frames
 from probing.frames import descrambled
 from probing.lanes import MOST_BYTES, is_most, probe_lane, share_of
 from probing.stream import columns_of, order_of, skews_of
-from probing.variants import NOT_SCRAMBLED, RIGHT, Scrambler, crc32_variant, is_next, scrambler_of
+from probing.variants import RIGHT, Scrambler, crc32_variant, is_next, scrambler_of
 from reading.intervals import listed
+from reading.metaframes import SKIP
 from reading.plans import CODE
 from reading.tables import EVENTS, RULES
 
@@ -110,12 +111,8 @@ def is_right_by(frames, finding, scrambler, plan):
         return is_next(before, here, scrambler)
     words = descrambled(here, scrambler)
     if finding.what == "skip":
-        return skip_is_right(words, (finding.bit - begin) // CODE)
+        return words[(finding.bit - begin) // CODE] == SKIP
     return crc32_variant(words) == RIGHT
-
-
-def skip_is_right(words, place):
-    return "%016X" % words[place] == "1E" * 8
 
 
 # ---- the order of lanes

@@ -9,7 +9,7 @@ from reading.plans import CODE
 LOCK, UNFRAMED, BALANCE = "lock", "unframed", "balance"
 MOST_BALANCE = 129
 WELL = 3  # both health bits
-MOST_TRIED = 200000  # words of all lanes in which variants of the CRC32 and inverted bits are tried
+MOST_TRIED = 200000  # words of all lanes in which variants of the CRC32 are tried
 
 
 def event_findings(run):
@@ -92,13 +92,12 @@ def tell_diagnostic(finding, frames, frame):
     if found is None or any(code.header in (0, 3) for code in frame.codes):
         return
     finding.is_mended = found == frame.crc(is_mended=True)
-    if finding.is_mended or frames.tries <= 0:
-        return
-    frames.tries -= len(frame.codes)
-    finding.variant = crc32_variant([word.word for word in frame.words])
-    bit = inverted_bit(frame) if finding.variant is None else None
+    bit = None if finding.is_mended else inverted_bit(frame)
     if bit is not None:
         finding.note = "right with bit %d of the lane inverted" % bit
+    elif not finding.is_mended and frames.tries > 0:
+        frames.tries -= len(frame.codes)
+        finding.variant = crc32_variant([word.word for word in frame.words])
 
 
 TOLD = {"sync": sync_told, "lost-sync": sync_told, "state": state_told, "lost-state": state_told, "skip": skip_told, "diag": diagnostic_told, "health": health_told}

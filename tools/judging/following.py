@@ -48,6 +48,8 @@ class Following:
                 finding.cause = self.first_of(finding, "state")
             elif finding.what in LOSSES:
                 finding.cause = self.cause_of_loss(number, findings, finding)
+            elif finding.what == "balance":
+                finding.cause = self.cause_of_balance(findings, finding)
             elif finding.what == "unframed" and not (self.run.locks[number].firsts and self.run.locks[number].firsts[0] < finding.bit):
                 finding.cause = next((other for other in findings if other.what == "balance"), None)
         locks = self.run.locks[number].locks
@@ -62,6 +64,11 @@ class Following:
     def cause_of_diag(self, finding):
         bad_or_state = self.first_of(finding, "bad", "state")
         return bad_or_state or (self.first_of(finding, "skip", "sync") if finding.is_mended else None)
+
+    def cause_of_balance(self, findings, finding):
+        """The first damage of several bits in the lock of a finding, up to the end of its metaframe; a sender's own disparity has none."""
+        first, end = self.run.locks[finding.lane].lock_at(finding.bit).first, self.begin_of(finding) + self.run.plan.period
+        return next((other for other in findings if first <= other.bit < end and (other.what == "bad" or other.what == "diag" and not (other.is_mended or other.variant or other.note))), None)
 
     def cause_of_loss(self, number, findings, finding):
         """The first of the wrong words in a row for which a lock is lost."""

@@ -1,11 +1,12 @@
 """The metaframe that a word of a declared lock stands in: its words, descrambled, and what its framing words should be."""
 
 from collections import namedtuple
+from functools import lru_cache
 
 from probing import frames as probing_frames
 from probing.variants import after, jump
 from reading.checksums import CRC32
-from reading.metaframes import CONTROL, DIAGNOSTIC_MARK, HALF, SKIP, STATE, STATE_BITS, STATE_MARK, SYNC, crc_after, key_after
+from reading.metaframes import CONTROL, DIAGNOSTIC_MARK, HALF, SKIP, STATE, STATE_BITS, STATE_MARK, SYNC, key_after
 from reading.plans import CODE
 
 SYNC_PLACE, STATE_PLACE, FIRST_SKIP = 0, 1, 2
@@ -22,7 +23,7 @@ class Frame:
     """A metaframe of a lane from its Sync word on, as far as the lane has it; `state` is the running state of its Scrambler State word."""
 
     def __init__(self, lane, begin, state, plan):
-        self.lane, self.begin, self.plan, self.state = lane, begin, plan, state
+        self.lane, self.begin, self.plan, self.state, self.crcs = lane, begin, plan, state, {}
         self.codes = [lane.code(bit) for bit in range(begin, min(begin + plan.period, lane.count - CODE + 1), CODE)]
         self.is_whole = len(self.codes) == plan.metaframe
         self.words = self.words_from(state)
@@ -65,10 +66,9 @@ class Frame:
 
     def crc(self, is_mended=False):
         """The CRC32 of the metaframe."""
-        register = CRC32.ones
-        for value in self.covered(is_mended):
-            register = crc_after(register, value)
-        return register ^ HALF
+        if is_mended not in self.crcs:
+            self.crcs[is_mended] = CRC32.of(b"".join(value.to_bytes(8, "big") for value in self.covered(is_mended)))
+        return self.crcs[is_mended]
 
     def found_crc(self):
         """The CRC32 that the Diagnostic word has, or None where there is no such word."""
@@ -123,20 +123,25 @@ def inverted_bit(frame):
     found = frame.found_crc()
     if found is None or any(code.header in (0, 3) for code in frame.codes):
         return None
-    wanted, last = found ^ frame.crc(), len(frame.codes) - 1
-    # What a wrong bit adds to the CRC32, from the last of the metaframe on: the remainder of a power of two by the polynomial.
-    step = POLYNOMIAL
-    for place in range(last, -1, -1):
+    place = place_by_syndrome(len(frame.codes)).get(found ^ frame.crc())
+    return None if place is None else frame.begin + place
+
+
+@lru_cache(maxsize=1)
+def place_by_syndrome(length):
+    """By what it adds to the CRC32 of a metaframe of so many words, the bit of it that is wrong."""
+    places, step = {}, POLYNOMIAL  # the remainder of a power of two by the polynomial
+    for place in range(length - 1, -1, -1):
         whole = 0
         for bit in range(64):
-            is_covered = place != STATE_PLACE or bit >= STATE_BITS
-            adds = 1 << bit if place == last and bit < 32 else step if is_covered else 0
-            if adds == wanted:
-                return frame.begin + CODE * place + CODE - 1 - bit
+            # The CRC32's own place tells it as it stands; the state is not covered.
+            is_own, is_covered = place == length - 1 and bit < 32, place != STATE_PLACE or bit >= STATE_BITS
+            adds = 1 << bit if is_own else step if is_covered else 0
+            if adds:
+                places.setdefault(adds, CODE * place + CODE - 1 - bit)
             whole, step = whole ^ adds, after_bit(step)
-        if whole == wanted:
-            return frame.begin + CODE * place
-    return None
+        places.setdefault(whole, CODE * place)
+    return places
 
 
 def after_bit(register):

@@ -6,6 +6,7 @@ from collections import namedtuple
 from comparing.differences import byte_told, differences_of
 from judging.faults import place_finding
 from judging.findings import Finding
+from judging.hidden import Hidden
 from judging.pieces import END, Pieces, dropped_of
 from probing.lanes import MOST_BYTES, mend_of, probe_lane, said_of
 from reading.files import Record
@@ -14,6 +15,8 @@ from reading.plans import CODE
 NO_FINDING = ("start", "end")  # spans of the ends of a dump
 # A packet as the words have it, whether it is right or not; its bytes; and the piece that a receiver made of it.
 Seen = namedtuple("Seen", "first last data piece")
+# The packets of a capture between two that came, by their numbers; whether none came before them, or after; and the words between.
+Gap = namedtuple("Gap", "channel numbers is_front is_back ends")
 
 
 class Lost:
@@ -63,30 +66,37 @@ class Lost:
     # ---- missing packets
 
     def missing_of(self, channel, packets):
-        """The packets of a capture that did not come. Those before the first that the words have, and after the last, are cut by the ends
-        of the dump."""
+        """The packets of a capture that did not come, or came as other bytes."""
         seen = self.seen_on(channel)
-        found = differences_of(packets, [Record(0, one.data) for one in seen], ends_at_front=True)
-        pairs = sorted(found.differing + equal_pairs(len(packets), len(seen), found))
-        for (number, its), after in zip(pairs, pairs[1:] + [None]):
-            finding = self.finding_of_pair(channel, number, packets[number], seen[its])
-            if finding:
-                yield finding
-            for between in range(number + 1, after[0] if after else 0):
-                yield Finding("missing", channel=channel, packet=between, expected="%d bytes" % len(packets[between].data), last=(seen[its].first, seen[after[1]].first))
-        extra = [its for its in found.extra if seen[its].piece and not seen[its].piece.why]
-        if extra:
-            self.lines.append("channel %d: %d packets came that its capture does not have" % (channel, len(extra)))
+        came = [one for one in seen if one.piece and not one.piece.why]
+        found = differences_of(packets, [Record(0, one.data) for one in came], ends_at_front=True)
+        anchors = sorted(found.differing + equal_pairs(len(packets), len(came), found))
+        hidden = Hidden(self.run, self.spans, channel, came)
+        marks = [(-1, None)] + anchors + [(len(packets), None)]
+        for (number, its), (after, next_its) in zip(marks, marks[1:]):
+            if its is not None and came[its].data != packets[number].data:
+                yield self.missing_finding(channel, number, packets[number], came[its], "it came as other bytes: " + byte_told(packets[number].data, came[its].data))
+            ends = (0 if its is None else came[its].first, self.run.stream.count if next_its is None else came[next_its].first)
+            gap = Gap(channel, range(number + 1, after), its is None, next_its is None, ends)
+            lost = [one for one in seen if one not in came and ends[0] <= one.first < ends[1]]
+            yield from self.gap_findings(gap, packets, lost, hidden)
+        if found.extra:
+            self.lines.append("channel %d: %d packets came that its capture does not have" % (channel, len(found.extra)))
 
-    def finding_of_pair(self, channel, number, packet, one):
-        """The finding of a packet of a capture that stands for one in the words, if that did not come or came as other bytes."""
-        if one.last is None:
-            return None  # the end of the dump cuts it
-        if one.piece is None or one.piece.why:
-            return self.missing_finding(channel, number, packet, one)
-        if one.data != packet.data:
-            return self.missing_finding(channel, number, packet, one, "it came as other bytes: " + byte_told(packet.data, one.data))
-        return None
+    def gap_findings(self, gap, packets, lost, hidden):
+        """The packets of a capture between two that came. At the ends of the dump those are cut that the words do not show, and that they
+        have no room for."""
+        own = [packets[number] for number in gap.numbers]
+        found = differences_of(own, [Record(0, one.data) for one in lost], ends_at_front=gap.is_front)
+        places = {gap.numbers[number]: lost[its] for number, its in found.differing + equal_pairs(len(own), len(lost), found)}
+        wanted = set(gap.numbers)
+        if gap.is_front or gap.is_back:
+            wanted = {number for number, one in places.items() if one.last is not None} | set(hidden_numbers(gap, own, hidden))
+        for number in sorted(wanted):
+            if number in places:
+                yield self.missing_finding(gap.channel, number, packets[number], places[number])
+            else:
+                yield Finding("missing", channel=gap.channel, packet=number, expected="%d bytes" % len(packets[number].data), last=gap.ends)
 
     def missing_finding(self, channel, number, packet, one, note=None):
         finding = Finding("missing", channel=channel, packet=number, expected="%d bytes" % len(packet.data), note=note, last=one.last)
@@ -102,6 +112,15 @@ class Lost:
         first = next((word for word, kind in enumerate(self.run.stream.kinds) if kind in "bie"), None)
         return [Seen(packet.first, packet.last, packet.data, pieces.get(packet.first)) for packet in self.run.stream.packets
                 if packet.channel == channel and packet.first != first]
+
+
+def hidden_numbers(gap, own, hidden):
+    """The numbers of the packets next to one that came which faults hide at an end of the dump."""
+    if gap.is_back and hidden.ends_quiet() and (not gap.is_front or hidden.begins_quiet()):
+        return gap.numbers[:hidden.count(*gap.ends, own)]
+    if gap.is_front and not gap.is_back and hidden.begins_quiet():
+        return gap.numbers[len(own) - hidden.count(*gap.ends, own[::-1]):]
+    return ()
 
 
 def equal_pairs(ours, theirs, found):

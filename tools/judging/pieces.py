@@ -29,13 +29,14 @@ class Pieces:
         self.open_at, self.ended = {}, set()
 
     def walk(self):
-        before, reason, is_first = None, None, True
+        before, reason, is_first, faults = None, None, True, self.run.faults
         for word, kind in enumerate(self.stream.kinds):
             if word in self.breaks:
                 self.drop_all(word, self.breaks[word].why)
                 before, reason, is_first = None, None, True
                 continue
-            reason = least(reason, self.reason_at(word))
+            if word in faults:
+                reason = least(reason, self.reason_at(word))
             if kind in "bie":
                 before = self.control(before, word, "" if is_first else reason)
                 reason, is_first = None, False
@@ -54,7 +55,7 @@ class Pieces:
 
     def reason_at(self, word):
         """Why the stretch of a word is not trusted, by the word's own faults, or None."""
-        reasons = {UNTRUSTED[rule] for rule, _ in self.run.faults.get(word, ()) if rule in UNTRUSTED}
+        reasons = {UNTRUSTED[rule] for rule, _ in self.run.faults[word] if rule in UNTRUSTED}
         return next((reason for reason in REASONS if reason in reasons), None)
 
     def drop_all(self, word, why):
