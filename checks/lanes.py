@@ -404,6 +404,18 @@ def check_size(tally):
         tally.expect("memory", after.ru_maxrss < MOST_KILOBYTES or after.ru_maxrss, True)
 
 
+def check_terminal(tally):
+    """On a terminal a line says what is done."""
+    with tempfile.TemporaryDirectory() as folder:
+        with open(os.path.join(folder, "d"), "wb") as file:
+            file.write(b"12\n")
+        reader, terminal = os.openpty()
+        done = subprocess.run([TOOL, "import", "--form", "hex:8", "--out", "made", "d"], cwd=folder, stdout=subprocess.PIPE, stderr=terminal)
+        os.close(terminal)
+        tally.expect("on a terminal", (done.returncode, b"MB are read" in os.read(reader, 1000)), (0, True))
+        os.close(reader)
+
+
 def check_pipe(tally):
     with tempfile.TemporaryDirectory() as folder:
         with open(os.path.join(folder, "d"), "wb") as file:
@@ -434,6 +446,7 @@ def main():
     check_wave(check)
     check_size(tally)
     check_pipe(tally)
+    check_terminal(tally)
     return tally.end()
 
 

@@ -6,12 +6,13 @@ import re
 from probing.lanes import CRC_WORDS, MOST_BYTES, NO_OPTION, Share, is_most, lines_of, mend_of, probe_lane, said_of, share_of
 from probing.mends import mends_of
 from probing.plan_rows import differences, rows_of, settings_of
-from probing.stream import columns_of, order_of, skews_of, stream_of
+from probing.stream import DATA, columns_of, order_of, skews_of, stream_of
 from probing.variants import RIGHT
 from reading.ending import Options
 from reading.files import Folder, Refused, shown_name
 from reading.kinds import read_plan
 from reading.plans import CODE, PLAN
+from reading.writing import Outputs, must_be_free
 
 MOST_LANES = PLAN["lanes"].most
 WORDS = 600000  # of all lanes that are looked at, about
@@ -110,21 +111,24 @@ class Probe:
         self.say_words()
 
     def say_order(self):
+        share = share_of(self.share, "control words after data")
         if not self.columns[0]:
             self.say("lanes have no metaframe in common", "not found")
-        elif self.found_order is None and self.share.tried or self.found_order is None and not self.are_quiet():
-            self.say("no order of the lanes that was tried has CRC24 that fit: %s" % share_of(self.share, "control words after data"), "not found")
-        elif self.found_order is None:
+        elif self.found_order is None and self.are_quiet():
             self.texts.append("order of the lanes: no data words, by which it would show")
+        elif self.found_order is None:
+            self.say("no order of the lanes that was tried has CRC24 that fit: %s" % share, "not found")
         else:
-            numbers = ",".join(map(str, self.order))
-            is_same = self.order == sorted(self.order)
-            self.say("order of the lanes %s%s: %s" % (numbers, ", as it is" if is_same else ", %s" % self.found_order.said if self.found_order.said != "another" else "",
-                                                     share_of(self.share, "control words after data")), None if is_same else "tools/lanes --order %s mends it" % numbers)
+            self.say_found_order(share)
+
+    def say_found_order(self, share):
+        numbers, is_same = ",".join(map(str, self.order)), self.order == sorted(self.order)
+        said = ", as it is" if is_same else ", " + self.found_order.said if self.found_order.said else ""
+        self.say("order of the lanes %s%s: %s" % (numbers, said, share), None if is_same else "tools/lanes --order %s mends it" % numbers)
 
     def are_quiet(self):
         """Whether no lane has a data word."""
-        return not any(header == 1 for column in self.columns for header, _ in column)
+        return not any(header == DATA for column in self.columns for header, _ in column)
 
     def say_skews(self):
         behind = [self.skews.behind[lane] for lane in self.order]
@@ -175,12 +179,20 @@ class Probe:
         yield from ("mend: " + mend for mend in self.mends)
 
 
+def give_plan(rows, name):
+    """Writes the plan, or prints it if no file is named."""
+    if name is None:
+        print("# plan\n%s# end" % rows)
+        return
+    with Outputs() as outputs:
+        outputs.open(name).write(rows.encode("utf-8", "surrogateescape"))
+
+
 def main(words):
     options, folder = options_of(words), Folder(None, os.getcwd())
     if len(options.lanes) > MOST_LANES:
         raise Refused("%d lanes, and an interface has 1 to %d" % (len(options.lanes), MOST_LANES))
-    if options.out and not options.overwrite and os.path.lexists(options.out):
-        raise Refused("%s exists: another --out, or --overwrite" % shown_name(options.out))
+    must_be_free([options.out] if options.out else [], options.overwrite)
     names, prefix = in_order(options.lanes)
     for name in names:
         folder.must_have(name, float("inf"))
@@ -190,10 +202,5 @@ def main(words):
     if probe.settings is None:
         print("no plan: no lane has a metaframe")
         return 1
-    rows = rows_of(probe.settings)
-    if options.out:
-        with open(options.out, "w", encoding="utf-8", errors="surrogateescape") as file:
-            file.write("".join(row + "\n" for row in rows))
-    else:
-        print("\n".join(["# plan"] + rows + ["# end"]))
+    give_plan("".join(row + "\n" for row in rows_of(probe.settings)), options.out)
     return 1 if probe.problems else 0

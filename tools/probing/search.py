@@ -85,18 +85,16 @@ def runs_of_zeros(text, least):
 
 
 def metaframe_of(places, wanted):
-    """The metaframe by the distances of Sync words: the one that is wanted if it is among them, or the most frequent."""
+    """The metaframe by the distances of Sync words: the one that is wanted if it is among the most frequent, or the least of these."""
     distances = Counter()
-    for step in (1, 2):
-        for begin, end in zip(places, places[step:]):
-            length, rest = divmod(end - begin, CODE)
-            if rest == 0 and LEAST_METAFRAME <= length <= MOST_METAFRAME:
-                distances[length] += 1
-    if wanted in distances:
-        return wanted
+    for begin, end in zip(places, places[1:]):
+        length, rest = divmod(end - begin, CODE)
+        if rest == 0 and LEAST_METAFRAME <= length <= MOST_METAFRAME:
+            distances[length] += 1
     most = max(distances.values(), default=0)
     # A Sync word that is not there doubles a distance.
-    return min((length for length, count in distances.items() if 2 * count >= most), default=None)
+    frequent = [length for length, count in distances.items() if 2 * count >= most]
+    return wanted if wanted in frequent else min(frequent, default=None)
 
 
 def phase_of(places, metaframe):

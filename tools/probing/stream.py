@@ -63,7 +63,7 @@ def orders_of(count):
     yield LaneOrder("as it is", lanes)
     if count <= ALL_ORDERS:
         for order in list(permutations(lanes))[1:]:
-            yield LaneOrder("another", list(order))
+            yield LaneOrder("", list(order))
         return
     yield LaneOrder("reversed", lanes[::-1])
     for step in lanes[1:]:

@@ -35,7 +35,7 @@ def crc24_variant(data, word):
     for changes, start in (((), CRC24.ones), ((START_0,), 0)):
         found = kind_of_end(word & CRC24.ones, CRC24.after(start, covered), CRC24.ones)
         if found is not None:
-            return named(found + changes)
+            return named(changes + found)
     return None
 
 
