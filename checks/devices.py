@@ -105,8 +105,9 @@ def spoiled(words):
 
 
 def sums(folder):
-    """A sum of each file of a folder and of the folders below it."""
-    return {os.path.relpath(os.path.join(path, name), folder): hashlib.sha256(content(os.path.join(path, name))).hexdigest() for path, _, names in os.walk(folder) for name in names}
+    """A sum of each file of a folder and of the folders below it; a link to a device is none."""
+    paths = (os.path.join(path, name) for path, _, names in os.walk(folder) for name in names)
+    return {os.path.relpath(path, folder): hashlib.sha256(content(path)).hexdigest() for path in paths if os.path.isfile(path)}
 
 
 def changed(before, after):

@@ -25,6 +25,7 @@ EXAMPLES = {"damaged": {"lanes": 2, "packets": 4, "lost": 2, "spans": 3}, "two":
             "wide": {"lanes": 2, "packets": 4, "lost": 0, "spans": 2}, "again": {"lanes": 1, "packets": 2, "lost": 0, "spans": 2},
             "status": {"lanes": 1, "packets": 0, "lost": 0, "spans": 2}}
 CASES = (2, 18, 20)
+NOT_PLACED = "first.places.csv is not of these lanes and words: `interlaken gather first.plan` writes it and the words of these lanes, over first.words: keep that under another name\n"
 # The sizes of packets of another dump, which is as long.
 OTHER_PACKETS = ["%d" % (60 + 37 * (47 - number) % 400) for number in range(48)]
 # Each file that is spoiled, and how; then what is drawn, and what the tool says.
@@ -302,7 +303,7 @@ def check_other_dump(results, folder):
     Device(PROGRAM, folder, "first").run("gather", "receive", "check", "inspect")
     Device(PROGRAM, folder, "second", packets=OTHER_PACKETS).run("gather", "receive", "check", "inspect")
     results.expect("dumps of one length", [len(content(os.path.join(folder, "%s.%s" % (name, "words")))) for name in ("first", "second")], [1863 * 9] * 2)
-    for stolen, told in ((("words",), "first.words: "), (("words", "places.csv"), "first.words: "), (("spans.csv", "1.pcap", "2.pcap"), "first.words: "), (("lane.0", "lane.1", "lane.2"), "first.words: ")):
+    for stolen, told in ((("words",), NOT_PLACED), (("words", "places.csv"), NOT_PLACED), (("spans.csv", "1.pcap", "2.pcap"), "first.words: no span meets 24 packets"), (("lane.0", "lane.1", "lane.2"), NOT_PLACED)):
         kept = {"first." + end: content(os.path.join(folder, "first." + end)) for end in stolen}
         write_files(folder, {"first." + end: content(os.path.join(folder, "second." + end)) for end in stolen})
         expect_refused(results, folder, ["--overwrite", "--only", "stream", "first.plan"], told, [], ("`interlaken link", "`interlaken burst", "`interlaken send"))

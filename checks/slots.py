@@ -315,6 +315,8 @@ class Dump:
             os.remove(path + end)
             self.expect_refused("without %s, %s" % (end, words), words, "%s.%s" % (self.name, end))
             write_files(self.folder, {"%s.%s" % (self.name, end): data})
+        done = subprocess.run([TOOL, self.name + ".plan"], cwd=self.folder, capture_output=True, encoding="utf-8", env={**os.environ, "INTERLAKEN_PROGRAM": "./absent"})
+        self.expect("without a program", (done.returncode, done.stdout, done.stderr), (2, "", "slots: there is no program ./absent; INTERLAKEN_PROGRAM or --program names it\n"))
         for end, data, words in (("places.csv", b"word,group,index,why\n0,x,0,-\n", []), ("places.csv", b"word\n", []), ("faults.csv", b"word,rule,channel\n1,none,-\n", ["--faults"]), ("events.csv", b"lane,bit,event\n9,9,diag\n", ["--events"])):
             kept = content(path + end)
             write_files(self.folder, {"%s.%s" % (self.name, end): data})

@@ -245,7 +245,7 @@ def check_tables(tally, folder):
     for ends in (("words",), ("words", "places.csv"), ("lane.0", "lane.1", "lane.2"), ("spans.csv",)):
         before = {end: content(os.path.join(folder, "whole." + end)) for end in ends}
         write_files(folder, {"whole." + end: content(os.path.join(folder, "other." + end)).replace(b",end", b",lost") for end in ends})
-        expect_refused(tally, folder, "%s of another dump" % (ends,), ["whole.plan"], "whole.%s" % ("spans.csv is of an older run: `interlaken receive" if ends == ("spans.csv",) else "words: "))
+        expect_refused(tally, folder, "%s of another dump" % (ends,), ["whole.plan"], "whole.%s" % ("spans.csv is of an older run: `interlaken receive" if ends == ("spans.csv",) else "places.csv is not of these lanes and words: "))
         write_files(folder, {"whole." + end: data for end, data in before.items()})
     os.remove(os.path.join(folder, "whole.lane.1"))
     expect_refused(tally, folder, "a dump without a lane", ["whole.plan"], "whole.lane.1 is missing\n")

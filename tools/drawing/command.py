@@ -13,7 +13,7 @@ from reading.files import Refused
 from reading.lane_bits import read_lanes
 from reading.kinds import read_plan
 from reading.outputs import PLACES, SPANS, WORDS, capture_names, is_of_device, lane_names, names_captures
-from reading.placing import SentPlaces, gathered_anew, gathered_places, must_have_all
+from reading.placing import SentPlaces, gathered_places, must_have_all, not_placed
 from reading.plans import Plan, Schedule, Settings, are_settings
 from reading.tables import read_events, read_faults
 from reading.words import Stream, are_joined, begin_of, span_rows, spans_at
@@ -218,8 +218,8 @@ def must_be_sent(folder, plan, stream, places):
     try:
         must_fill_lanes(stream.count, name, plan, [folder.size(lane) for lane in lane_names(plan)], places.skew)
         must_carry(folder, plan, stream, name, places)
-    except Refused as refused:
-        raise Refused("%s: %s" % (refused, gathered_anew(folder, plan))) from None
+    except Refused:
+        raise not_placed(folder, plan) from None
 
 
 def main(words):

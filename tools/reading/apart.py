@@ -72,14 +72,16 @@ class Apart(Folder):
 
     def __init__(self, program, path):
         super().__init__(program, path)
-        self.made, self.rooms = {}, []
+        self.made, self.rooms, self.is_found = {}, [], False
 
     def path(self, name):
         return self.made.get(name) or super().path(name)
 
     def must_have_program(self):
         """The program, which is the repository's own if none was named."""
-        self.program = found_program(self.program or own_program(os.path.join(os.path.dirname(os.path.dirname(__file__)), "explain")))
+        if not self.is_found:
+            self.program = found_program(self.program or own_program(os.path.join(os.path.dirname(os.path.dirname(__file__)), "explain")))
+            self.is_found = True
 
     def make(self, command, plan):
         """Has the program run a command of a plan, and keeps what it wrote in place of the files that are here; what it printed."""
@@ -100,6 +102,7 @@ class Apart(Folder):
 
     def makes_the_same(self, command, plan, names):
         """Whether the program makes these files of those that are here, byte for byte. A file that is refused makes nothing."""
+        self.must_have_program()
         try:
             made = self.run_apart(command, plan)[1]
         except Refused:
@@ -124,8 +127,7 @@ class Apart(Folder):
         return text, self.written(room, outputs_of(command, plan.name, plan), plan.out)
 
     def new_room(self):
-        if not self.rooms:
-            self.must_have_program()
+        self.must_have_program()
         self.rooms.append(tempfile.TemporaryDirectory(prefix="interlaken."))
         room = self.rooms[-1].name
         return room, Links(self.folder, room)

@@ -4,6 +4,7 @@ A place is the number of a word in its words file (its slot), the lane that it c
 in the lane file. Both kinds of placing have the same calls.
 """
 
+import shlex
 from bisect import bisect_right
 from collections import Counter, namedtuple
 
@@ -227,7 +228,9 @@ def must_have_all(folder, plan, names, command="link"):
         raise Refused("%s is missing%s" % (missing, way_to(folder, plan, command)))
 
 
-def gathered_anew(folder, plan):
-    """What is said where words and lanes belong together neither by the skews nor by the table of places."""
-    stale = "%s is not of these lanes and words; " % (plan.out + PLACES) if folder.has(plan.out + PLACES) else ""
-    return "%s`interlaken gather` of this plan writes the words of its lanes over %s, and %s" % (stale, plan.out + WORDS, plan.out + PLACES)
+def not_placed(folder, plan):
+    """The error where the words of a device's lanes stand neither by the skews nor by the table of places."""
+    table, words = plan.out + PLACES, plan.out + WORDS
+    why = "%s is not of these lanes and words" % table if folder.has(table) else "%s is missing, by which words are placed" % table
+    over = ", over %s: keep that under another name" % words if folder.has(words) else ""
+    return Refused("%s: `interlaken gather %s` writes it and the words of these lanes%s" % (why, shlex.quote(plan.name), over))

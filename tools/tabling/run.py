@@ -8,7 +8,7 @@ from reading.files import Refused, shown_name
 from reading.kinds import read_plan
 from reading.lane_bits import bits_of, read_lanes, sync_words
 from reading.outputs import is_of_device, lane_names, names_captures
-from reading.placing import SentPlaces, gathered_anew, gathered_places, must_have_all
+from reading.placing import SentPlaces, gathered_places, must_have_all, not_placed
 from reading.plans import MOST_SKEW, Schedule
 from reading.strikes import strikes_of
 from reading.words import Stream, are_joined, begin_of, slots_of, span_rows, spans_at
@@ -81,10 +81,11 @@ class Run:
     def sent_places(self):
         try:
             return self.sums_over_skews()
-        except Refused as refused:
+        except Refused:
             if names_captures(self.plan) or not self.has_lanes or self.table in OF_LINK:
                 raise
-            raise Refused("%s: %s" % (refused, gathered_anew(self.folder, self.plan))) from None
+            must_have_all(self.folder, self.plan, self.names)
+            raise not_placed(self.folder, self.plan) from None
 
     def sums_over_skews(self):
         """The places of words that were sent, whose lanes begin with their skews or, as `send` wrote them, without."""
@@ -108,11 +109,16 @@ class Run:
         """The places, where the lanes have them; where no spans tell of skews, the lanes do."""
         try:
             self.check_lanes(places)
-        except Refused:
-            places = SentPlaces(self.plan, [0] * self.plan.lanes)
+            return places
+        except Refused as refused:
             if self.rows or not any(self.schedule.skew):
                 raise
+            first = refused
+        places = SentPlaces(self.plan, [0] * self.plan.lanes)
+        try:
             self.check_lanes(places)
+        except Refused:
+            raise first from None
         return places
 
     def check_lanes(self, places):

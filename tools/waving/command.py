@@ -9,7 +9,7 @@ from reading.files import Refused
 from reading.kinds import read_plan
 from reading.lane_bits import read_lanes
 from reading.outputs import SPANS, WORDS, lane_names, names_captures
-from reading.placing import SentPlaces, gathered_anew, gathered_places, must_have_all
+from reading.placing import SentPlaces, gathered_places, must_have_all, not_placed
 from reading.plans import Schedule
 from reading.tables import read_events, read_faults
 from reading.words import Stream, span_rows, spans_at
@@ -52,10 +52,10 @@ def sent_places(folder, plan, lanes, stream):
     """The places of words that fill the lanes."""
     try:
         must_fill_lanes(stream.count, plan.out + WORDS, plan, [len(lane.bits) // 8 for lane in lanes], [lane.front for lane in lanes])
-    except Refused as refused:
+    except Refused:
         if names_captures(plan):
             raise
-        raise Refused("%s: %s" % (refused, gathered_anew(folder, plan))) from None
+        raise not_placed(folder, plan) from None
     return SentPlaces(plan, [lane.front for lane in lanes])
 
 
