@@ -17,6 +17,7 @@ from collections import Counter
 from captures import capture
 from devices import changed, sums, text_of
 from planted import BAD, CODE, CONTROL, Bug, Link, reversed_bits, send, to_bytes, with_changed, with_crc24_complemented, with_flow, with_late_reset, with_wrong_crc24
+from machine import patience
 from runs import content, write_files
 from tally import Tally
 
@@ -35,7 +36,7 @@ COLUMNS = ["bit", "lane", "metaframe", "word", "what", "channel", "packet", "exp
 
 
 def run(words, folder, environment=None):
-    return subprocess.run(words, cwd=folder, stdin=subprocess.DEVNULL, capture_output=True, encoding="utf-8", timeout=SECONDS,
+    return subprocess.run(words, cwd=folder, stdin=subprocess.DEVNULL, capture_output=True, encoding="utf-8", timeout=patience(SECONDS),
                           env={**os.environ, "INTERLAKEN_PROGRAM": PROGRAM, **(environment or {})})
 
 
@@ -320,7 +321,7 @@ def shown_in_browser(browser, folder, address):
     """The lines of the rows that a browser shows."""
     with tempfile.TemporaryDirectory(prefix="judge.") as profile:
         done = subprocess.run([browser, "--headless", "--no-sandbox", "--disable-gpu", "--user-data-dir=" + profile, "--dump-dom", "file://%s/%s" % (folder, address)],
-                              stdin=subprocess.DEVNULL, capture_output=True, encoding="utf-8", errors="replace", timeout=SECONDS)
+                              stdin=subprocess.DEVNULL, capture_output=True, encoding="utf-8", errors="replace", timeout=patience(SECONDS))
     return [int(line) for line, more in re.findall(r'<tr id="line-(\d+)"([^>]*)>', done.stdout) if "hidden" not in more]
 
 

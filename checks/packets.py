@@ -9,7 +9,8 @@ import tempfile
 
 from captures import lengths, packet
 from devices import changed, sums, text_of
-from runs import content, copy_files, write_files
+from machine import copy_examples, patience
+from runs import content, write_files
 from tally import Tally
 
 PROGRAM, TOP = os.path.abspath(sys.argv[1]), os.path.abspath(sys.argv[2])
@@ -36,7 +37,7 @@ def capture_of(packets, form=PLAIN, first=0):
 
 
 def run(folder, words):
-    done = subprocess.run([TOOL] + words, cwd=folder, stdin=subprocess.DEVNULL, capture_output=True, encoding="utf-8", timeout=SECONDS)
+    done = subprocess.run([TOOL] + words, cwd=folder, stdin=subprocess.DEVNULL, capture_output=True, encoding="utf-8", timeout=patience(SECONDS))
     return done.returncode, done.stdout, done.stderr
 
 
@@ -107,7 +108,7 @@ def check_words(tally, folder):
 
 def check_plan(tally, folder):
     """The captures of a plan against what came, by what `link` says is missing."""
-    copy_files(os.path.join(TOP, "examples"), folder)
+    copy_examples(TOP, folder)
     text = subprocess.run([PROGRAM, "link", "damaged.plan"], cwd=folder, capture_output=True, encoding="utf-8").stdout
     tally.expect("link", text.count("\nmissing channel="), 2)
     expect(tally, "plan", folder, ["--plan", "damaged.plan"], 1,
