@@ -29,6 +29,7 @@ SHAPES = (Shape("one", 1, 32, 1, "channel,0,a.pcap\n"),
 FILES = {"a.pcap": capture(["60x200", "9x700"]), "b.pcap": capture(["40x77", "12x512"]), "far.local": b"60,300,off\n900,300,on\n"}
 REVERSED, SWAPPED = (8, 16, 20, 32, 40, 64, 66, 67, 80), (16, 32, 64)
 MOST_SECONDS = 20
+DRAWN = 12  # links
 
 
 def bits_of(data):
@@ -62,10 +63,10 @@ def in_codes(bits, change):
 class Link:
     """A link of the program: its plan, the bits of its lanes and its words."""
 
-    def __init__(self, tally, shape):
+    def __init__(self, tally, shape, files=None):
         self.shape = shape
         self.plan = ("lanes,%d\nmetaframe,%d\nskips,%d\nwarmup,4\n%sout,%s\n" % (shape.lanes, shape.metaframe, shape.skips, shape.rows, shape.name)).encode()
-        before = {shape.name + ".plan": self.plan, **FILES}
+        before = {shape.name + ".plan": self.plan, **(files or FILES)}
         sent, words = (left_by(PROGRAM, [command, shape.name + ".plan"], before) for command in ("send", "burst"))
         if sent.status or words.status:
             tally.give_up("send and burst of %s" % shape.name, "status %s and %s: %s" % (sent.status, words.status, sent.text + words.text))
@@ -263,6 +264,13 @@ def check_plans(check, link):
     run = probe({**files, "x.plan": b"kept"}, ["--out", "x.plan", "--overwrite"])
     again = probe(files)
     check.tally.expect("--out", (run.status, b"# plan" in run.text, run.files["x.plan"]), (0, False, plan_in(again.text)))
+    named = {"a b": files["three.lane.0"], "c": files["three.lane.1"], "d": files["three.lane.2"]}
+    run = PROBE(list(named), named)
+    made = LANES(shlex.split(run.text.decode().split("the lanes of the plan: tools/lanes ")[-1].split("\n")[0]), named).files
+    check.tally.expect("lanes of other names", (run.status, [made.get("probed.lane.%d" % lane) for lane in range(3)], b"out,probed\n" in run.text), (0, list(named.values()), True))
+    moved = {"w.lane.10": b"", **{name: data for name, data in files.items()}}
+    run = PROBE(sorted(files, reverse=True), moved)
+    check.tally.expect("lanes by the numbers of their names", (run.status, b"out,three\n" in run.text), (0, True))
     check.tally.expect("no other file", sorted(again.files), sorted(files))
 
 
@@ -286,6 +294,32 @@ def check_faults(check, link):
         bits.append(some)
     run = probe(files_of(bits))
     check.tally.expect("single faults", (run.status, b"nothing has to be changed" in run.text), (0, True))
+
+
+def drawn_link(tally, draws):
+    """A link of which all that a plan says is drawn."""
+    is_wide, most, files = draws.random() < 0.3, 64 * draws.randint(1, 8), {"l.local": b""}
+    channels = draws.sample(range(600 if is_wide else 256), draws.randint(1, 5))
+    rows = ["burst_max,%d" % most, "burst_short,%d" % (8 * draws.randint(4, min(most // 8, 24))), "burst_min,%d" % (32 * draws.randint(0, most // 64)), "wide,%d" % is_wide, "local,l.local"]
+    for channel in channels:
+        files["%d.pcap" % channel] = capture(["%dx%d" % (draws.randint(1, 25), draws.randint(1, 900)) for _ in range(draws.randint(1, 4))])
+        rows.append("channel,%d,%d.pcap" % (channel, channel))
+    rows += ["entry,%d" % draws.choice(channels) for _ in range(draws.choice([0, 0, 7, 40]))]
+    slots = sorted(draws.randrange(4000) for _ in range(20))
+    files["l.local"] = "".join("%d,%d,%s\n" % (slot, draws.choice(channels), draws.choice(["on", "off"])) for slot in slots).encode()
+    return Link(tally, Shape("drawn", draws.randint(1, 7), draws.randint(32, 90), draws.randint(1, 4), "\n".join(rows) + "\n"), files)
+
+
+def check_drawn(check):
+    """Clean lanes of links that are drawn, from anywhere in their traffic."""
+    for seed in range(DRAWN):
+        draws = random.Random(seed)
+        link = drawn_link(check.tally, draws)
+        cut = draws.randrange(max(1, min(map(len, link.bits)) - 10 * link.period))
+        files = files_of([some[cut + draws.randrange(67 * 7):] for some in link.bits], "y")
+        run = probe(files)
+        judged = JUDGE(["y.plan"], {**files, "y.plan": plan_in(run.text)})
+        check.tally.expect("drawn link %d from bit %d" % (seed, cut), (run.status, judged.status, judged.text.endswith(b"rows=0\n") or judged.text), (0, 0, True))
 
 
 def check_quiet(check, link):
@@ -334,6 +368,7 @@ def main():
     check_refused(check)
     check_faults(check, three)
     check_quiet(check, three)
+    check_drawn(check)
     check_seconds(tally)
     return tally.end()
 

@@ -35,7 +35,7 @@ def parser_of():
     parser.add_argument("--drop", metavar="A,B,..", help="for lane 0, 1, .. the bits that are left out in front")
     parser.add_argument("--signal", action="append", default=[], metavar="NAME", help="vcd: the vector of a lane, once for each lane")
     parser.add_argument("--clock", metavar="NAME", help="vcd: the signal whose changes from 0 to 1 sample")
-    parser.add_argument("--valid", metavar="NAME", help="vcd: the signal that is 1 where a word is sampled")
+    parser.add_argument("--valid", metavar="NAME", help="vcd: the signal that is 1 while words are sampled")
     return parser
 
 
@@ -67,7 +67,7 @@ def form_of(parser, text):
 
 
 def must_fit(parser, given, form, width):
-    """An error where an option is not one of the form, or one is missing."""
+    """An error if an option is not one of the form, or one is missing."""
     for name in OF_CODES:
         if getattr(given, name) and form != HEX67:
             parser.error("--%s is of --form hex67 alone" % name.replace("_", "-"))
@@ -106,7 +106,7 @@ def numbers_of(parser, name, text):
 
 
 def lanes_of(settings, count):
-    """For each lane the number of its dump, of so many; an error where an option names another."""
+    """For each lane the number of its dump, of so many; an error if an option names another."""
     error, most = parser_of().error, PLAN["lanes"].most
     order = list(range(count)) if settings.order is None else settings.order
     for number in order:

@@ -5,7 +5,7 @@ import re
 from reading.files import Refused, shown_name
 
 BLOCK = 1 << 18
-LONGEST = 1 << 24  # a line is refused that has more bytes, where lines count
+LONGEST = 1 << 24  # a line is refused that has more bytes, if lines count
 HEX, BINARY = b"0123456789abcdefABCDEF", b"01"
 COMMENT, AT, PREFIX = re.compile(rb"(?:#|//)[^\n]*"), re.compile(rb"^@[^\n]*", re.MULTILINE), re.compile(rb"(?<![0-9A-Za-z])0[xX](?=[0-9a-zA-Z])")
 LONE = re.compile(rb"(?<![0-9A-Za-z_])_|_(?![0-9A-Za-z_])")
@@ -124,7 +124,7 @@ class Text:
         """The bits of lines with a word each, of any number of digits."""
         column = piece.split()
         lines = piece.count(b"\n") + 1 - piece.endswith(b"\n")
-        # Where there are as many words as lines are not blank, a line has one.
+        # If there are as many words as lines that are not blank, each of these has one.
         if len(column) != lines and len(column) != len(piece.translate(None, b" \t\v\f").split()):
             self.refuse_count(line, rows_in(piece), 1, "one is expected; --columns takes a column for each lane")
         return self.bits_of(line, lambda: rows_in(piece), column, words)

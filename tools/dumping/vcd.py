@@ -94,7 +94,7 @@ class Dump:
 
     def samples(self, parts, clock, valid):
         """The values of parts at each change of the clock from 0 to 1, as they were before the changes of that time; for each a list of
-        bits by part. Where there is a valid part, only while it is 1."""
+        bits by part. With a valid part, only while it is 1."""
         now = {part.signal.short: b"x" for part in [*parts, clock, *([valid] if valid else [])]}
         widths = {part.signal.short: part.signal.width for part in [*parts, clock, *([valid] if valid else [])]}
         before, time = {}, 0

@@ -4,7 +4,7 @@ import os
 import re
 
 from probing.lanes import CRC_WORDS, MOST_BYTES, NO_OPTION, Share, is_most, lines_of, mend_of, probe_lane, said_of, share_of
-from probing.mends import mends_of
+from probing.mends import import_of, mends_of
 from probing.plan_rows import differences, rows_of, settings_of
 from probing.stream import DATA, columns_of, order_of, skews_of, stream_of
 from probing.variants import RIGHT
@@ -16,7 +16,7 @@ from reading.writing import Outputs, must_be_free
 
 MOST_LANES = PLAN["lanes"].most
 WORDS = 600000  # of all lanes that are looked at, about
-NAMED = re.compile(r"(.+)\.lane\.(\d+)")
+NAMED = re.compile(r"(.+)\.lane\.(0|[1-9]\d*)")
 OTHER_NAME = "probed"  # the prefix of lanes that have other names
 
 
@@ -50,6 +50,7 @@ class Probe:
             self.probe_stream()
         self.say_lanes()
         self.say_stream()
+        self.is_named = prefix is not None
         self.mends = mends_of(self.findings, names, self.order, self.drops, (prefix or OTHER_NAME) + ".mended")
         if known:
             out = (prefix or OTHER_NAME) + (".mended" if self.problems and self.mends else "")
@@ -172,11 +173,12 @@ class Probe:
 
     def lines(self):
         yield from self.texts
-        if not self.problems:
-            yield "nothing has to be changed"
-            return
         yield from ("change: " + problem for problem in self.problems)
         yield from ("mend: " + mend for mend in self.mends)
+        if not self.problems:
+            yield "nothing has to be changed"
+        if self.settings and not self.is_named and not self.mends:
+            yield "the lanes of the plan: " + import_of("--form raw", self.settings.out, self.names)
 
 
 def give_plan(rows, name):

@@ -12,7 +12,7 @@ REVERSED_WITHIN, SWAPPED_WITHIN = (8, 16, 20, 32, 40, 64, 66, 67, 80), (16, 32, 
 LEAST_METAFRAME, MOST_METAFRAME = 32, 8192
 LONGEST = CODE * MOST_METAFRAME // 8  # bytes of the longest metaframe
 SHORT = 2 * LONGEST + 2 * CODE  # bytes in which a Sync word is looked for in every order
-LEAST_FRAMES = 5  # metaframes of a lane that are looked at where it has them
+LEAST_FRAMES = 5  # metaframes of a lane that are looked at if it has so many
 ROUND = 16  # the Sync word has a period of so many bits, in every order within it
 PAYLOAD = 64
 
@@ -64,7 +64,7 @@ def in_one_order(bits, order):
 def sync_payloads(bits):
     """By the order of payloads the bits at which the payloads of Sync words begin."""
     number, found = int(bits or "0", 2), {payload: [] for payload in PAYLOADS}
-    # Bit q is 1 where the bits q and q + 16 differ.
+    # Bit q is 1 if the bits q and q + 16 differ.
     differing = as_text(number ^ number << ROUND, len(bits))[:-ROUND]
     for first, last in runs_of_zeros(differing, PAYLOAD - ROUND):
         for at in range(first, min(last - (PAYLOAD - ROUND), first + ROUND) + 1):
