@@ -303,12 +303,12 @@ def check_each(tally, folder):
     tally.expect("a command that fails", (status, lines[0], lines[1].split()[:2]), (1, "number 2: status 7: it went wrong", ["numbers=3", "not_done=1"]))
     failures = [(case.get("name"), part.text) for case in xml.parse(os.path.join(folder, "fails.xml")).getroot() for part in case]
     tally.expect("a command that fails, JUnit", failures, [("number 2", "it went wrong")])
-    for name, command, told in (("half", 'cp "$INTERLAKEN_LANES_IN.lane.0" "$INTERLAKEN_LANES_OUT.lane.0"', "number 1: no run: it left case.left.lane.0, and not all 2 lanes"),
-                                ("late", "sleep 60", "number 1: status 124: no end after 1 seconds")):
+    for name, command, told in (("half_each", 'cp "$INTERLAKEN_LANES_IN.lane.0" "$INTERLAKEN_LANES_OUT.lane.0"', "number 1: no run: it left case.left.lane.0, and not all 2 lanes"),
+                                ("late_each", "sleep 60", "number 1: status 124: no end after 1 seconds")):
         status, lines = campaign(folder, 1, 1, name, "--plan", "damaged.plan", "--each", command, "--timeout", 1)
         tally.expect("a command that is %s" % name, (status, lines[0]), (1, told))
-    other = campaign(folder, 1, 1, "half", "--plan", "damaged.plan", "--each", "true")
-    tally.expect("another command", (other[0], other[1][0][:len("campaign: half/1-1.results is of another")]), (2, "campaign: half/1-1.results is of another"))
+    other = campaign(folder, 1, 1, "half_each", "--plan", "damaged.plan", "--each", "true")
+    tally.expect("another command", (other[0], other[1][0][:len("campaign: half_each/1-1.results is of another")]), (2, "campaign: half_each/1-1.results is of another"))
 
 
 def check_each_others(tally, folder):

@@ -32,6 +32,7 @@ ROWS = {"lanes": LANES, "metaframe": METAFRAME, "burst_max": 256, "burst_short":
 CUT, FIRST, SKEWS = 1000, 1, (0, 13, 77, 250)
 # The metaframe that declares the locks: that of the fourth Sync word.
 DECLARED = FIRST + 3
+LINKS = 12
 COLUMNS = ["bit", "lane", "metaframe", "word", "what", "channel", "packet", "expected", "found", "note"]
 
 
@@ -282,6 +283,27 @@ def check_missing(tally, sent):
     tally.expect("missing packets", (missing, bool(wanted)), (wanted, True))
 
 
+def check_links(tally, sent):
+    """Links with drawn damage: the packets that `link` prints as missing are those that are found, and each row follows from damage."""
+    folder = sent.folder
+    for number in range(LINKS):
+        draws = random.Random(number)
+        lanes = draws.choice((1, 2, 3))
+        rows = ["skew,%d,%d" % (lane, draws.randrange(400)) for lane in range(lanes)]
+        rows += ["flip,%d,%d" % (draws.randrange(lanes), draws.randrange(9000, 60000 // lanes)) for _ in range(draws.choice((1, 2, 5)))]
+        rows += ["dark,%d,%d,%d" % (draws.randrange(lanes), draws.randrange(9000, 40000 // lanes), draws.randrange(1, 3000))] * (number % 2)
+        plan = ["lanes,%d" % lanes, "metaframe,32", "warmup,4"] + ["channel,%d,sent.in.%d" % (channel, channel) for channel in range(3)] + ["schedule,linked.schedule", "out,linked"]
+        write_files(folder, {"linked.schedule": text_of(rows), "linked.plan": text_of(plan)})
+        printed = run([PROGRAM, "link", "linked.plan"], folder).stdout
+        status, text, error = judge(folder, "linked.plan")
+        rows = rows_in(folder, "linked.judged.csv")
+        missing = sorted((int(row["channel"]), int(row["packet"])) for row in rows if row["what"] == "missing")
+        wanted = sorted((int(channel), int(packet)) for channel, packet in re.findall(r"^missing channel=(\d+) packet=(\d+)", printed, re.MULTILINE))
+        tally.expect("link %d, missing" % number, (missing, error), (wanted, ""))
+        own = {row["what"] for row in rows if "follows from" not in row["note"]}
+        tally.expect("link %d, kinds that follow from no other" % number, own - {"bad", "diag", "state", "sync", "skip"}, set())
+
+
 def records(data):
     at = 24
     while at < len(data):
@@ -392,6 +414,7 @@ def main():
             check_case(tally, sent, case)
         check_calendars(tally, sent)
         check_missing(tally, sent)
+        check_links(tally, sent)
         check_page(tally, sent)
         check_options(tally, sent)
         check_refused(tally, sent)

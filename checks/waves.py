@@ -240,7 +240,7 @@ def check_tables(tally, folder):
             tally.expect("signals beside %s of an older run" % end, " %s $end" % signal in file.read(), False)
         for data in (b"no,heading\n", kept[end] + b"9,9,dial\n", kept[end] + b"x,crc,-\n"):
             write_files(folder, {"whole." + end: data})
-            expect_refused(tally, folder, "%s spoiled" % end, ["whole.plan"], "whole.%s: " % end)
+            expect_refused(tally, folder, "%s spoiled" % end, ["whole.plan"], "whole.%s:" % end)
         write_files(folder, {"whole." + end: kept[end]})
     for ends in (("words",), ("words", "places.csv"), ("lane.0", "lane.1", "lane.2"), ("spans.csv",)):
         before = {end: content(os.path.join(folder, "whole." + end)) for end in ends}

@@ -39,7 +39,7 @@ class Hidden:
         return at >= 0 and slot < self.delivered[at].last
 
     def room_of(self, span):
-        """The data and bad words of a span that are of no burst that is seen, and those that did not come where it has breaks."""
+        """The data and bad words of a span that are of no burst of a listed channel, and those that did not come where it has breaks."""
         kinds = self.stream.kinds
         here = sum(kinds[word] in "dx" and not self.is_in_burst(word) for word in range(span.word, min(span.last, self.stream.count)))
         return here + sum(self.not_there(word) for word in self.run.breaks if span.word <= word <= span.last)
@@ -54,4 +54,4 @@ class Hidden:
 
     def is_in_burst(self, word):
         burst = self.stream.burst_at(word)
-        return burst is not None and word <= burst[0] + burst[1]
+        return burst is not None and word <= burst[0] + burst[1] and burst[2] in self.run.plan.captures
