@@ -112,10 +112,12 @@ for command in $names; do
   holds "$command --help" "$status $(sed -E "1s/^usage: interlaken $command (FILE|NUMBER PREFIX)$/usage/; 2s/^[A-Z ]+: .+/words/; 3s/.+/does/" <<<"$text")" $'0 usage\nwords\ndoes'
 done
 ran 'help of what is no command' '5 release' without lnik --help
-# What --version says: the program, the kit, the sum of the sources and that of the release.
+# What --version says: the program, the number of the release, its kit, the sum of the sources and that of the release.
+echo 1.2.3 >"$tree/release/VERSION"
 tells_version() { # WHAT PROGRAM SOURCES
   launch without --version
   holds "$1" "$status $text" "0 program: $2
+release: 1.2.3
 kit of the release: a kit of old
 sources: $3
 sources of the release: $(cat "$tree/release/sources.sha256")"
