@@ -245,6 +245,14 @@ def check_senders(check, link):
         check.names("%s, %s" % (shape.name, told), make_lanes(words, *args[1:]), ["%s: %s" % (told, none)], mends=False)
 
 
+def check_standing(check, link):
+    """With one Skip word that is not scrambled, State words 64 steps on and a register that stands still there are told apart."""
+    args = (link.words, link.shape.lanes, link.shape.metaframe, link.shape.skips)
+    for sender, told in ((Sender(plain=True, stands=True), "scrambler standing still in Skip words"), (Sender(plain=True, steps=64), "scrambler State words 64 steps on")):
+        wanted = ["skips 1, not scrambled: no option of tools/lanes mends it", "%s: no option of tools/lanes mends it" % told]
+        check.names("%s, %s" % (link.shape.name, told), make_lanes(*args, sender), wanted, mends=False)
+
+
 # ---- the call
 
 def check_plans(check, link):
@@ -364,6 +372,7 @@ def main():
     check_lane_orders(check, three)
     check_lane_orders(check, eight)
     check_senders(check, three)
+    check_standing(check, one)
     check_plans(check, three)
     check_refused(check)
     check_faults(check, three)

@@ -150,20 +150,34 @@ def candidates(plain):
 
 def scrambler_of(frames):
     """The scrambler that fits most of some metaframes (`frames.Frame`), how many it fits, and of how many: (Scrambler or None, fits,
-    tried). The second of two metaframes that follow one another shows whether the register runs on in Sync and State words."""
+    tried). Of those that fit it is the first by which most State words follow from the metaframe before: with one Skip word that is
+    not scrambled, a register that stands still there fits a metaframe by itself as State words 64 steps on do."""
     frames = list(frames)
     plain = 2 * sum(plain_skips(frame) > 0 for frame in frames) > len(frames)
-    some = frames[:TRIED]
-    for found in candidates(plain):
-        if 2 * sum(fits(frame, found.start(frame.payloads[1] & STATE), plain, found.stands) for frame in some) > len(some):
-            found = found._replace(runs=runs_on(frames, found))
-            return found, sum(fits(frame, found.start(frame.payloads[1] & STATE), plain, found.stands) for frame in frames), len(frames)
-    return None, 0, len(frames)
+    found = None
+    for scrambler in candidates(plain):
+        if 2 * fitting(frames[:TRIED], scrambler) > len(frames[:TRIED]):
+            scrambler = scrambler._replace(runs=runs_on(frames, scrambler))
+            found = found or scrambler
+            if not plain or 2 * following(frames, scrambler) >= len(frames) - 1:
+                found = scrambler
+                break
+    return found, fitting(frames, found) if found else 0, len(frames)
+
+
+def fitting(frames, scrambler):
+    """How many metaframes a scrambler fits."""
+    return sum(fits(frame, scrambler.start(frame.payloads[1] & STATE), scrambler.plain, scrambler.stands) for frame in frames)
+
+
+def following(frames, scrambler):
+    """How many State words follow from the metaframe before."""
+    return sum(is_next(*pair, scrambler) for pair in zip(frames, frames[1:]))
 
 
 def runs_on(frames, scrambler):
     """Whether in most pairs of metaframes that follow one another the register ran on in the Sync and State words between."""
-    return sum(is_next(*pair, scrambler._replace(runs=True)) for pair in zip(frames, frames[1:])) > sum(is_next(*pair, scrambler) for pair in zip(frames, frames[1:]))
+    return following(frames, scrambler._replace(runs=True)) > following(frames, scrambler)
 
 
 def is_next(frame, other, scrambler):
