@@ -18,6 +18,7 @@ cp "$top/.ci/run" "$tree/.ci/"
 chmod -R u+w "$tree" # a checkout may be one that is only read
 printf '%s\n' 'low:' 'interlaken: low' 'interlaken_main: interlaken low' 'beside: low' 'interlaken_c staticlib: beside core' >"$tree/crates.txt"
 echo 'Handles allowed: none.' >"$tree/HANDLES"
+echo 1.2.3 >"$tree/release/VERSION"
 for crate in low interlaken interlaken_main beside interlaken_c; do
   echo "$crate as released" >"$tree/crates/$crate/src/lib.rt"
 done
@@ -113,7 +114,6 @@ for command in $names; do
 done
 ran 'help of what is no command' '5 release' without lnik --help
 # What --version says: the program, the number of the release, its kit, the sum of the sources and that of the release.
-echo 1.2.3 >"$tree/release/VERSION"
 tells_version() { # WHAT PROGRAM SOURCES
   launch without --version
   holds "$1" "$status $text" "0 program: $2
