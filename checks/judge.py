@@ -247,10 +247,11 @@ def check_clean(tally, sent):
 
 
 def check_calendars(tally, sent):
-    """What breaks no rule shows beside the local file alone: sixteen entries in the other order, and a reset bit that is late."""
+    """What breaks no rule shows beside the local file alone: four or sixteen entries in the other order, and a reset bit that is late."""
     folder = sent.folder
     write_files(folder, {"some.local": b"0,1,off\n"})
-    for entries, change, told in ((16, lambda words: with_flow(words, lambda flow: reversed_bits(flow, 16)), "where the 16 flow bits are reversed"),
+    for entries, change, told in ((4, lambda words: with_flow(words, lambda flow: reversed_bits(flow >> 12, 4) << 12 | flow & 0xFFF), "where the 4 entries are reversed"),
+                                  (16, lambda words: with_flow(words, lambda flow: reversed_bits(flow, 16)), "where the 16 flow bits are reversed"),
                                   (20, lambda words: with_late_reset(words, 1, 2), "where Reset Calendar comes 1 word late")):
         # An entry says the state of a channel of its number, of so many channels.
         channels = ["channel,%d" % channel for channel in range(CHANNELS, entries)]

@@ -4,4 +4,4 @@
 set -u
 . "$(dirname "$0")/program.bash"
 wants python3 python3
-exec python3 -B "$top/checks/lanes.py" "$program" "$top"
+exec python3 -B "$top/checks/lane_dumps.py" "$program" "$top"

@@ -64,6 +64,12 @@ def reversed_bits(flow):
     return int(format(flow, "016b")[::-1], 2)
 
 
+def reversed_entries(flow, count):
+    """Flow bits whose first ones, so many, are in the other order."""
+    text = format(flow, "016b")
+    return int(text[:count][::-1] + text[count:], 2)
+
+
 def shifted(flow, count):
     """Flow bits so many places towards the first entry, or away from it, with ones where none came."""
     ones = (1 << abs(count)) - 1
@@ -74,6 +80,8 @@ def changes(entries):
     """The ways in which a sender's flow bits differ, each as a name and what turns them into the right ones. A shift by which no bit past
     the last entry is left tells nothing."""
     yield "where the 16 flow bits are reversed", reversed_bits
+    if 1 < len(entries) < BITS:
+        yield "where the %d entries are reversed" % len(entries), lambda flow: reversed_entries(flow, len(entries))
     for count in range(1, BITS):
         if count < -len(entries) % BITS:
             yield "where the flow bits are shifted by %d towards the last entry" % count, lambda flow, count=count: shifted(flow, count)
