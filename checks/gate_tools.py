@@ -1,6 +1,7 @@
 """What checks/gate_tools.sh does, with the repository as its word."""
 
 import os
+import subprocess
 import sys
 import tempfile
 
@@ -157,6 +158,18 @@ def costs(tally, room):
     tally.expect("the owner of a module of another crate", owner_of("Rattle-other-proofs.a.Lts", "small"), (None, "specs"))
 
 
+def helps(tally, room):
+    """Each tool says what it does, in a folder in which nothing may be written."""
+    folder = os.path.join(TOP, "tools")
+    os.mkdir(os.path.join(room, "empty"))
+    for name in sorted(os.listdir(folder)):
+        tool = os.path.join(folder, name)
+        if os.path.isfile(tool) and os.access(tool, os.X_OK):
+            ran = subprocess.run([tool, "--help"], cwd=os.path.join(room, "empty"), capture_output=True, text=True)
+            tally.count(name + " --help", "" if ran.returncode == 0 and len(ran.stdout) > 40 else "status %d: %s" % (ran.returncode, ran.stderr))
+    tally.expect("what --help wrote", os.listdir(os.path.join(room, "empty")), [])
+
+
 def main():
     tally = Tally("gate_tools")
     with tempfile.TemporaryDirectory() as room:
@@ -166,6 +179,7 @@ def main():
         rows(tally, room)
         memory(tally, room)
         costs(tally, room)
+        helps(tally, room)
     return tally.end()
 
 
