@@ -200,6 +200,15 @@ def check_verilator(tally, device, folder, clean):
     tally.expect("dumps of verilator", same.has(*names), clean.has(*names))
 
 
+def check_program(tally, folder):
+    """The program sends. The rest takes minutes, and is not tried without it."""
+    status, printed = run(PROGRAM, "send", "damaged.plan", folder=folder)
+    if status or not os.path.exists(folder + "/damaged.lane.0"):
+        tally.give_up("the program", "send ended with status %d and made no lane: %s" % (status, printed))
+    for lane in range(2):
+        os.remove(folder + "/damaged.lane.%d" % lane)
+
+
 def main():
     tally = Tally("device")
     with tempfile.TemporaryDirectory(prefix="device.") as folder:
@@ -207,6 +216,7 @@ def main():
         os.symlink(PROGRAM, folder + "/interlaken")
         os.symlink(TOP + "/tools", folder + "/tools")
         device, runs = folder + "/examples/device", folder + "/runs"
+        check_program(tally, folder + "/examples")
         check_page(tally, device)
         if not os.path.exists(device + "/device"):
             tally.give_up("the device", "it is not compiled")

@@ -5,4 +5,5 @@ set -u
 top=$(cd "$(dirname "${BASH_SOURCE[0]}")/.." && pwd)
 . "$top/checks/tally.bash"
 wants python3 python3
+[ -d "$top/tools/building" ] || gives_up 'there is no tools/building'
 exec python3 -B "$top/checks/gate_tools.py" "$top"

@@ -82,7 +82,7 @@ class Sent:
         write_files(self.folder, {name + ".plan": plan_rows(name, more=["local,off.local"], **how)})
         done = run([PROGRAM, "burst", name + ".plan"], self.folder)
         if done.returncode:
-            tally.give_up("burst of " + name, done.stdout + done.stderr)
+            tally.give_up("burst of " + name, "status %d: %s" % (done.returncode, done.stdout + done.stderr))
         return words_of(content(os.path.join(self.folder, name + ".words")))
 
     def of(self, is_wanted, number):
