@@ -1,5 +1,7 @@
 """What checks/gate_tools.sh does, with the repository as its word."""
 
+import contextlib
+import io
 import os
 import subprocess
 import sys
@@ -14,7 +16,7 @@ from edit_files import BadEdit, replaced
 from edit_rounds import Crate, functions_in, outline, rounds_of
 from tally import Tally
 from tried import COLUMNS, fault_of_row, rows_in, sum_below, sum_of_crate, write_rows
-from try_edits import functions_of, refusals_in, refused_by
+from try_edits import Book, functions_of, refusals_in, refused_by
 
 SOURCE = """//! A crate.
 
@@ -133,6 +135,45 @@ def rows(tally, room):
     tally.count("a contract below", "" if sum_below(os.path.join(room, "crates"), ["small"]) != now["below_sum"] else "its sum is as before")
 
 
+class Uses:
+    """A kit of which only the crates below are asked."""
+
+    uses = {"small": []}
+
+
+class Tried:
+    """A crate whose edits were tried, with what was said of them."""
+
+    def __init__(self, source, edits, refused, wrong):
+        self.kit, self.name, self.source, self.edits = Uses(), "small", source, edits
+        self.refused, self.wrong, self.checks = refused, wrong, 1
+
+
+class Counted:
+    """A tally that keeps what it is told."""
+
+    def __init__(self):
+        self.told = []
+
+    def count(self, what, wrong=""):
+        self.told.append((what, wrong))
+
+
+def book(tally, room):
+    top = os.path.join(room, "book")
+    source = os.path.join(top, "crates", "small")
+    write(source, "src/lib.rt", SOURCE)
+    edit = write(top, "checks/edits/small/good.edit", "file: src/lib.rt\nold:     n / 2\nnew:     n / 3\n")
+    counted = Counted()
+    kept = Book(top, "l", counted)
+    with contextlib.redirect_stdout(io.StringIO()):
+        for refused, wrong, rows in (({edit: "a goal"}, {}, [("small", "good")]), ({}, {edit: "NOT REFUSED"}, [])):
+            trial = Tried(source, [edit], refused, wrong)
+            kept.add(trial, kept.sums_of(trial))
+            tally.expect("the rows after a try", list(rows_in(kept.path)), rows)
+    tally.expect("what the tries counted", counted.told, [("small/good", ""), ("small/good.edit", "NOT REFUSED")])
+
+
 def memory(tally, room):
     for processors, free, wanted in ((4, 4 * BYTES, 4), (4, 4 * BYTES - 1, 3), (4, 0, 1), (2, 40 * BYTES, 2)):
         tally.expect("crates at once, %d processors, %d bytes" % (processors, free), at_once(processors, free), wanted)
@@ -177,6 +218,7 @@ def main():
         edits(tally, room)
         refusals(tally)
         rows(tally, room)
+        book(tally, room)
         memory(tally, room)
         costs(tally, room)
         helps(tally, room)

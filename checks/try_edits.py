@@ -178,8 +178,8 @@ class Trial:
 class Book:
     """The rows of tried.csv, kept as each crate is done, and the count of what was tried."""
 
-    def __init__(self, top, logic):
-        self.top, self.logic, self.tally, self.lock = top, logic, Tally("edits"), threading.Lock()
+    def __init__(self, top, logic, tally):
+        self.top, self.logic, self.tally, self.lock = top, logic, tally, threading.Lock()
         self.path = os.path.join(top, "checks", "edits", "tried.csv")
 
     def sums_of(self, trial):
@@ -196,6 +196,8 @@ class Book:
                 rows[trial.name, name] = {"crate": trial.name, "edit": name, "edit_sum": sum_of_file(edit), **sums, "refused_by": said}
                 self.tally.count("%s/%s" % (trial.name, name_of(edit)))
             for what, why in trial.wrong.items():
+                # What an earlier try said of it no longer counts.
+                rows.pop((trial.name, name_of(what)), None)
                 self.tally.count("%s/%s" % (trial.name, os.path.basename(what)), why)
             write_rows(self.path, rows)
             print("%s: %d of %d edits refused, by %d checks" % (trial.name, len(trial.refused), len(trial.edits), trial.checks), flush=True)
@@ -219,7 +221,7 @@ def main():
     given = words.parse_args()
     kit = Kit(kit_folder(), os.path.abspath(given.proved))
     version = subprocess.run(["rt", "version"], capture_output=True, text=True, check=True).stdout
-    book = Book(os.path.abspath(given.top), logic_of(version))
+    book = Book(os.path.abspath(given.top), logic_of(version), Tally("edits"))
     with concurrent.futures.ThreadPoolExecutor(given.jobs) as pool:
         for done in [pool.submit(try_crate, kit, book, name) for name in given.crates]:
             done.result()
