@@ -1,5 +1,5 @@
 use Rattle.oob_flow.specs.Sending.{showing, one_given}
-use Rattle.part_calls.proofs.samples.append_samples.Goals as goal
+use Rattle.word_calls.proofs.samples.append_samples.Goals as goal
 
 pub loop-sample-preserved : goal.loop-sample-preserved
 loop-sample-preserved c =

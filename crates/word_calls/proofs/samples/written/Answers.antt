@@ -2,7 +2,7 @@
 use Rattle.std.proofs.Common.{◌<◌, ◌^◌, [], ◌∷◌, arith}
 use Rattle.oob_flow.specs.Frames.{frame_length, block_sizes}
 use Rattle.oob_flow.specs.Written.{frame_begin}
-use Rattle.part_calls.proofs.samples.written.Goals as goal
+use Rattle.word_calls.proofs.samples.written.Goals as goal
 
 first_begin : frame_begin (1 ∷ []) 0 < 2 ^ 32
 unfolding frame_length block_sizes

@@ -1,5 +1,5 @@
 -- A state was set after some samples.
-use Rattle.part_calls.proofs.samples.turned_off_within.Goals as goal
+use Rattle.word_calls.proofs.samples.turned_off_within.Goals as goal
 
 pub append_samples-requires-2 : goal.append_samples-requires-2
 append_samples-requires-2 c =

@@ -1,0 +1,28 @@
+//! Calls public functions of the crates of captures, rows, plans, texts, files and inputs once each, and prints what they gave.
+#![tactic(auto)]
+
+mod captures;
+mod cases;
+mod inputs;
+mod listings;
+mod machine;
+mod plans;
+mod row_files;
+mod runs;
+mod stores;
+mod texts;
+
+use std::io;
+
+fn main(rt: HostRuntime) -> io::Result<()> {
+    captures::tell_all(&rt)?;
+    row_files::tell_all(&rt)?;
+    plans::tell_all(&rt)?;
+    runs::tell_all(&rt)?;
+    cases::tell_all(&rt)?;
+    listings::tell_all(&rt)?;
+    texts::tell_all(&rt)?;
+    stores::tell_all(&rt)?;
+    machine::tell_all(&rt)?;
+    inputs::tell_all(&rt)
+}
