@@ -112,6 +112,8 @@ impl LiveTransmitter {
     pub fn close_packets(&mut self)
         ensures { IsPacketsClose self.old self.new }
     {
+        // proof: the words that are right stay the same
+        live_stream::laws::closed_packets_change_no_word();
         self.scheduler.close_packets();
     }
 
