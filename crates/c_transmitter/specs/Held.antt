@@ -1,5 +1,6 @@
 -- What a call does by a handle of a transmitter.
 use Rattle.std.specs.Prelude.{ℕ, ◌≡◌, ◌<◌, ◌≤◌, ◌⊎◌, ◌==◌, not, List, length, Option, Some, None, Result, Ok, Err}
+use Rattle.lk_base.specs.Checksum.{digit}
 use Rattle.lk_base.specs.declared.shape.Shape.{Shape}
 use Rattle.csv_rows.specs.Rows.{rows_of}
 use Rattle.plan_errors.specs.declared.error.PlanError.{PlanError}
@@ -11,16 +12,19 @@ use Rattle.tx_end.specs.Whole.{IsShapeOf}
 use Rattle.duplex_model.specs.DuplexRun.{heard_word}
 use Rattle.live_stream.specs.declared.counts.Counts.{Counts}
 use Rattle.live_stream.specs.declared.refused.Closed.{Closed}
+use Rattle.live_stream.specs.declared.refused.LocalRefused.{LocalRefused}
 use Rattle.live_stream.specs.declared.refused.Refused.{Refused}
 use Rattle.live_end.specs.States.{State}
 use Rattle.live_end.specs.Sending.{Sends, nothing_sent}
-use Rattle.live_end.specs.Calls.{AreCounted, AreMade, IsClose, IsFlow, IsLocal, IsPacket, IsTake}
+use Rattle.live_end.specs.Calls.{AreCounted, AreMade, IsClose, IsFlow, IsLocal, IsPacket, IsPacketsClose, IsStatusOf, IsTake}
+use Rattle.live_end.specs.declared.status.Status.{Status}
 use Rattle.c_parts.specs.Codes.{done, finished, in_use, no_channel, no_lane, no_transmitter, plan_code}
-use Rattle.c_transmitter.specs.Codes.{packet_code}
+use Rattle.c_transmitter.specs.Codes.{local_code, packet_code}
 use Rattle.c_parts.specs.OnHeld.{OnHeld}
 use Rattle.c_parts.specs.Refusals.{IsRefused, of_row, refusal_of}
 use Rattle.c_parts.specs.declared.refusal.Refusal.{Refusal}
 use Rattle.c_transmitter.specs.declared.counts.CCounts.{CCounts}
+use Rattle.c_transmitter.specs.declared.status.CStatus.{CStatus}
 
 -- a transmitter of a plan, which was given nothing and made no word
 abbrev pub IsSenderOf : Plan → State → Type 0
@@ -53,6 +57,10 @@ abbrev pub GivesRowResult : Result (Unit {0}) Closed → ℕ → Type 0
 GivesRowResult (Ok u) code = code ≡ done
 GivesRowResult (Err why) code = code ≡ finished
 
+abbrev pub GivesLocalResult : Result (Unit {0}) LocalRefused → ℕ → Type 0
+GivesLocalResult (Ok u) code = code ≡ done
+GivesLocalResult (Err why) code = code ≡ local_code why
+
 abbrev pub GivesPacket : Option State → Option State → ℕ → List ℕ → ℕ → Type 0
 GivesPacket old new channel bytes code = OnHeld (code ≡ no_transmitter) (λ (t u : State). (result : Result (Unit {0}) Refused) × IsPacket t u channel bytes result × GivesPacketResult result code) old new
 
@@ -61,7 +69,7 @@ abbrev pub GivesFlow : Option State → Option State → ℕ → ℕ → Type 0
 GivesFlow old new word code = OnHeld (code ≡ no_transmitter) (λ (t u : State). (result : Result (Unit {0}) Closed) × IsFlow t u (heard_word word) result × GivesRowResult result code) old new
 
 abbrev pub GivesLocal : Option State → Option State → ℕ → ℕ → ℕ → Type 0
-GivesLocal old new channel on code = OnHeld (code ≡ no_transmitter) (λ (t u : State). (result : Result (Unit {0}) Closed) × IsLocal t u channel (not (on == 0)) result × GivesRowResult result code) old new
+GivesLocal old new channel on code = OnHeld (code ≡ no_transmitter) (λ (t u : State). (result : Result (Unit {0}) LocalRefused) × IsLocal t u channel (not (on == 0)) result × GivesLocalResult result code) old new
 
 -- a lane that is there is taken of; else nothing changes
 abbrev pub TakesOf : State → State → ℕ → List ℕ → List ℕ → ℕ → ℕ → Type 0
@@ -71,6 +79,11 @@ TakesOf t u lane before after code taken =
 abbrev pub TakesBytes : Option State → Option State → ℕ → List ℕ → List ℕ → ℕ → ℕ → Type 0
 TakesBytes old new lane before after code taken = OnHeld ((code ≡ no_transmitter) × (taken ≡ 0) × (after ≡ before)) (λ (t u : State). TakesOf t u lane before after code taken) old new
 
+-- no packet is taken from now on
+abbrev pub ClosesPackets : Option State → Option State → ℕ → Type 0
+ClosesPackets old new code = OnHeld (code ≡ no_transmitter) (λ (t u : State). IsPacketsClose t u × (code ≡ done)) old new
+
+-- nothing is taken from now on
 abbrev pub ClosesTransmitter : Option State → Option State → ℕ → Type 0
 ClosesTransmitter old new code = OnHeld (code ≡ no_transmitter) (λ (t u : State). IsClose t u × (code ≡ done)) old new
 
@@ -91,6 +104,16 @@ abbrev pub GivesCounts : Option Counts → ℕ → CCounts → Type 0
 GivesCounts (Some counts) code told = (code ≡ done) × (told ≡ as_counts counts)
 GivesCounts None code told = (code ≡ no_channel) × (told ≡ no_counts)
 
+abbrev pub as_status : Status → CStatus
+as_status status = record { waiting = status.waiting; left = status.left; ended = digit status.ended; held = digit status.held }
+
+abbrev pub no_status : CStatus
+no_status = record { waiting = 0; left = 0; ended = 0; held = 0 }
+
+abbrev pub GivesStatus : Option Status → ℕ → CStatus → Type 0
+GivesStatus (Some status) code told = (code ≡ done) × (told ≡ as_status status)
+GivesStatus None code told = (code ≡ no_lane) × (told ≡ no_status)
+
 -- the transmitter stays as it is
 abbrev pub TellsSent : Option State → Option State → ℕ → ℕ → CCounts → Type 0
 TellsSent old new channel code told =
@@ -98,3 +121,7 @@ TellsSent old new channel code told =
 
 abbrev pub TellsSlots : Option State → Option State → ℕ → ℕ → Type 0
 TellsSlots old new code slots = OnHeld ((code ≡ no_transmitter) × (slots ≡ 0)) (λ (t u : State). (u ≡ t) × AreMade t slots × (code ≡ done)) old new
+
+abbrev pub TellsStatus : Option State → Option State → ℕ → ℕ → CStatus → Type 0
+TellsStatus old new lane code told =
+    OnHeld ((code ≡ no_transmitter) × (told ≡ no_status)) (λ (t u : State). (u ≡ t) × ((result : Option Status) × IsStatusOf t lane result × GivesStatus result code told)) old new

@@ -1,16 +1,17 @@
 //! The calls on a transmitter.
 ghost use Rattle.std.specs.Prelude.{◌≡◌, IfOk, IfErr};
 ghost use Rattle.c_parts.specs.Refusals.{IsRefused};
-ghost use Rattle.c_transmitter.specs.Held.{ClosesTransmitter, FreesTransmitter, GivesCounts, GivesFlow, GivesLocal, GivesPacket, GivesPacketResult, GivesRowResult, IsSenderOf, IsSenderOfPlan, MakesTransmitter, TakesBytes, TakesOf, TellsSent, TellsSlots, no_counts};
+ghost use Rattle.c_transmitter.specs.Held.{ClosesPackets, ClosesTransmitter, FreesTransmitter, GivesCounts, GivesFlow, GivesLocal, GivesLocalResult, GivesPacket, GivesPacketResult, GivesRowResult, GivesStatus, IsSenderOf, IsSenderOfPlan, MakesTransmitter, TakesBytes, TakesOf, TellsSent, TellsSlots, TellsStatus, no_counts, no_status};
 
-use crate::codes::packet_code;
+use crate::codes::{local_code, packet_code};
 use crate::counts::{CCounts, as_counts, no_counts};
 use crate::handle::TransmitterHandle;
+use crate::status::{CStatus, as_status, no_status};
 use c_parts::codes::{DONE, FINISHED, IN_USE, NO_CHANNEL, NO_LANE, NO_TRANSMITTER, plan_code};
 use c_parts::refusal::{Refusal, no_refusal, refusal_of};
 use duplex::heard;
 use link_plan::{Plan, PlanError, channels_in_order, read_plan};
-use live_end::{Closed, Counts, LiveTransmitter, Refused};
+use live_end::{Closed, Counts, LiveTransmitter, LocalRefused, Refused, Status};
 use lk_base::OutOfMemory;
 use std::alloc::Global;
 
@@ -120,7 +121,7 @@ pub fn packet(alloc: Global, transmitter: &mut TransmitterHandle, channel: u16, 
     packet_ended(answer)
 }
 
-// The result of a call that gives a row.
+// The result of a call that gives a flow row.
 fn row_ended(answer: Result<(), Closed>) -> u32
     ensures { GivesRowResult answer result }
 {
@@ -143,7 +144,18 @@ pub fn flow(alloc: Global, transmitter: &mut TransmitterHandle, word: u64) -> u3
     row_ended(answer)
 }
 
-/// Says whether the far end may send on a channel: it may where `on` is not 0. It is `DONE`, `FINISHED` or `NO_TRANSMITTER`.
+// The result of a call that gives a state of this end's own.
+fn local_ended(answer: Result<(), LocalRefused>) -> u32
+    ensures { GivesLocalResult answer result }
+{
+    match answer {
+        Ok(()) => DONE,
+        Err(why) => local_code(why),
+    }
+}
+
+/// Says whether the far end may send on a channel: it may where `on` is not 0. It is `DONE`, `FINISHED`, `NO_CHANNEL` or
+/// `NO_TRANSMITTER`.
 pub fn local(alloc: Global, transmitter: &mut TransmitterHandle, channel: u16, on: u32) -> u32
     ensures { GivesLocal transmitter.old.at.transmitter transmitter.new.at.transmitter channel on result }
 {
@@ -152,7 +164,7 @@ pub fn local(alloc: Global, transmitter: &mut TransmitterHandle, channel: u16, o
     };
     let answer = there.local(channel, on != 0);
     transmitter.put(there);
-    row_ended(answer)
+    local_ended(answer)
 }
 
 // Takes the next bytes of a lane, if it is there; none are taken so far.
@@ -185,6 +197,18 @@ pub fn take(
     let result = take_of(&mut there, lane, bytes, taken);
     transmitter.put(there);
     result
+}
+
+/// No further packet comes. It is `DONE` or `NO_TRANSMITTER`.
+pub fn close(alloc: Global, transmitter: &mut TransmitterHandle) -> u32
+    ensures { ClosesPackets transmitter.old.at.transmitter transmitter.new.at.transmitter result }
+{
+    let Some(mut there) = transmitter.take(alloc) else {
+        return NO_TRANSMITTER;
+    };
+    there.close_packets();
+    transmitter.put(there);
+    DONE
 }
 
 /// No further packet and no further row comes. It is `DONE` or `NO_TRANSMITTER`.
@@ -242,4 +266,36 @@ pub fn slots(alloc: Global, transmitter: &mut TransmitterHandle, slots: &mut u64
     *slots = there.slots();
     transmitter.put(there);
     DONE
+}
+
+// The result of a call that gives the status of a lane; all is 0 so far.
+fn stands(answer: Option<Status>, status: &mut CStatus) -> u32
+    requires { status.old ≡ no_status }
+    ensures { GivesStatus answer result status.new }
+{
+    match answer {
+        Some(found) => {
+            *status = as_status(found);
+            DONE
+        }
+        None => NO_LANE,
+    }
+}
+
+/// Writes how a lane stands, and what is left to send. It is `DONE`, `NO_LANE` or `NO_TRANSMITTER`.
+pub fn status_of(
+    alloc: Global,
+    transmitter: &mut TransmitterHandle,
+    lane: u32,
+    status: &mut CStatus,
+) -> u32
+    ensures { TellsStatus transmitter.old.at.transmitter transmitter.new.at.transmitter lane result status.new }
+{
+    *status = no_status();
+    let Some(there) = transmitter.take(alloc) else {
+        return NO_TRANSMITTER;
+    };
+    let answer = there.status(lane);
+    transmitter.put(there);
+    stands(answer, status)
 }

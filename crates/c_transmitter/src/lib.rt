@@ -6,7 +6,9 @@ mod calls;
 mod codes;
 mod counts;
 mod handle;
+mod status;
 
-pub use calls::{finish, flow, free, local, new, packet, sent, slots, take};
+pub use calls::{close, finish, flow, free, local, new, packet, sent, slots, status_of, take};
 pub use counts::CCounts;
 pub use handle::TransmitterHandle;
+pub use status::CStatus;

@@ -1,8 +1,8 @@
 //! The calls on a transmitter.
-ghost use Rattle.c_transmitter.specs.Held.{ClosesTransmitter, FreesTransmitter, GivesFlow, GivesLocal, GivesPacket, MakesTransmitter, TakesBytes, TellsSent, TellsSlots};
+ghost use Rattle.c_transmitter.specs.Held.{ClosesPackets, ClosesTransmitter, FreesTransmitter, GivesFlow, GivesLocal, GivesPacket, MakesTransmitter, TakesBytes, TellsSent, TellsSlots, TellsStatus};
 
 use c_parts::Refusal;
-use c_transmitter::{CCounts, TransmitterHandle};
+use c_transmitter::{CCounts, CStatus, TransmitterHandle};
 use std::alloc::Global;
 
 /// Opens a transmitter of the plan of these bytes behind a handle that has none, and writes why a plan is refused. It is `DONE`,
@@ -57,7 +57,8 @@ pub extern "C" fn interlaken_transmitter_flow(
     c_transmitter::flow(alloc, transmitter, word)
 }
 
-/// Says whether the far end may send on a channel: it may where `on` is not 0. It is `DONE`, `FINISHED` or `NO_TRANSMITTER`.
+/// Says whether the far end may send on a channel: it may where `on` is not 0. It is `DONE`, `FINISHED`, `NO_CHANNEL` or
+/// `NO_TRANSMITTER`.
 #[unsafe(no_mangle)]
 pub extern "C" fn interlaken_transmitter_local(
     alloc: Global,
@@ -83,6 +84,17 @@ pub extern "C" fn interlaken_transmitter_take(
     ensures { TakesBytes transmitter.old.at.transmitter transmitter.new.at.transmitter lane bytes.old bytes.new result taken.new }
 {
     c_transmitter::take(alloc, transmitter, lane, bytes, taken)
+}
+
+/// No further packet comes. It is `DONE` or `NO_TRANSMITTER`.
+#[unsafe(no_mangle)]
+pub extern "C" fn interlaken_transmitter_close(
+    alloc: Global,
+    transmitter: &mut TransmitterHandle,
+) -> u32
+    ensures { ClosesPackets transmitter.old.at.transmitter transmitter.new.at.transmitter result }
+{
+    c_transmitter::close(alloc, transmitter)
 }
 
 /// No further packet and no further row comes. It is `DONE` or `NO_TRANSMITTER`.
@@ -119,4 +131,17 @@ pub extern "C" fn interlaken_transmitter_slots(
     ensures { TellsSlots transmitter.old.at.transmitter transmitter.new.at.transmitter result slots.new }
 {
     c_transmitter::slots(alloc, transmitter, slots)
+}
+
+/// Writes how a lane stands, and what is left to send. It is `DONE`, `NO_LANE` or `NO_TRANSMITTER`.
+#[unsafe(no_mangle)]
+pub extern "C" fn interlaken_transmitter_status_of(
+    alloc: Global,
+    transmitter: &mut TransmitterHandle,
+    lane: u32,
+    status: &mut CStatus,
+) -> u32
+    ensures { TellsStatus transmitter.old.at.transmitter transmitter.new.at.transmitter lane result status.new }
+{
+    c_transmitter::status_of(alloc, transmitter, lane, status)
 }

@@ -1,4 +1,4 @@
--- A state is given, or the transmitter was closed.
+-- A state is given, or refused.
 use Rattle.std.specs.Prelude.{◌==◌, not}
 use Rattle.std.proofs.Common.{subst}
 use Rattle.live_end.specs.States.{State}
@@ -11,4 +11,4 @@ returns c =
     let s = c.in-Some.there.value in
     let t = c.local-answer.new.self in
     let told = subst (λ (v : State). IsLocal v t c.args.channel (not (c.args.on == 0)) c.local-answer.result) c.deref_mut.ensures.value c.local-answer.ensures in
-    on_held _ _ _ _ s t c.in-Some.ensures.some c.put.ensures (c.local-answer.result, told, c.row_ended.ensures)
+    on_held _ _ _ _ s t c.in-Some.ensures.some c.put.ensures (c.local-answer.result, told, c.local_ended.ensures)
