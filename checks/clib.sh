@@ -6,7 +6,7 @@
 set -u
 . "$(dirname "$0")/program.bash"
 wants_cc
-crate=$top/crates/interlaken_c
+crate=$top/crates/c_parts
 . "$top/tools/archive.bash"
 if ! archive=$(find_archive "$top"); then
   echo "$name: skipped, no archive of these sources (rt lib in crates/interlaken_c makes it)"
@@ -216,9 +216,12 @@ with i.Transmitter(plan, library) as near, i.Transmitter(plan, library) as far, 
     far.local(1, True)
     go_on()
     print(near.sent(1).bytes_sent, all([event.data for event in came if event.channel == c] == [data for channel, data in packets if channel == c] for c in (1, 2)))
+    near.close_packets()
+    near.flow(0)
+    print(near.status(0).left, near.status(0).ended, near.status(1).held)
     near.finish()
-    print([len(data) for data in near.take_all(2)].count(0), near.take(0, 9))
-    for wrong in (lambda: near.packet(1, b"a"), lambda: near.flow(0), lambda: near.local(1, True), lambda: far.packet(3, b"a"), lambda: far.packet(1, b""),
+    print([len(data) for data in near.take_all(2)].count(0), near.take(0, 9), near.status(1))
+    for wrong in (lambda: far.local(3, True), lambda: far.status(2), lambda: far.take_all(2), lambda: near.take_all(1), lambda: near.packet(1, b"a"), lambda: near.flow(0), lambda: near.local(1, True), lambda: far.packet(3, b"a"), lambda: far.packet(1, b""),
                   lambda: far.packet(2, bytes(262145)), lambda: far.take(2, 1), lambda: far.take(-1, 1), lambda: far.sent(3), far.close, lambda: far.slots(),
                   lambda: far.sent(1), far.finish, lambda: near.take(0, -1), lambda: near.packet(65536, b"a"), lambda: near.flow(1 << 64),
                   lambda: i.Transmitter(b"lanes,0", library)):
@@ -232,7 +235,12 @@ Counts(packets_given=10, packets_sent=0, bytes_given=1090, bytes_sent=0)
 Counts(packets_given=10, packets_sent=10, bytes_given=1100, bytes_sent=1100)
 True 20
 1090 True
-0 b''
+0 False False
+0 b'' Status(waiting=0, left=0, ended=True, held=False)
+NO_CHANNEL
+NO_LANE
+the transmitter was not finished
+the plan has 2 lanes, not 1
 $(printf '%s\n' FINISHED FINISHED FINISHED NO_CHANNEL BAD_LENGTH BAD_LENGTH NO_LANE NO_LANE NO_CHANNEL NO_TRANSMITTER NO_TRANSMITTER NO_TRANSMITTER)
 no count: -1
 no channel number: 65536

@@ -24,8 +24,9 @@
  *
  * - A receiver: INTERLAKEN_ENDED, once, after all lanes are finished. INTERLAKEN_NONE before that
  *   means that at least one unfinished lane has an empty ring: feed or finish that lane.
- * - A transmitter: after `finish`, a turn in which `take` returns 0 bytes of every lane. If `take`
- *   returns 0 bytes of one lane before, take the others: too many of their bytes wait.
+ * - A transmitter: for each lane, `ended` is 1 and `waiting` is 0 in what
+ *   `interlaken_transmitter_status_of` writes. That comes after `finish`. If `take` returns fewer
+ *   bytes before, take the other lanes: too many of their bytes wait.
  *
  * Threads
  *
@@ -98,7 +99,8 @@ enum interlaken_result {
   INTERLAKEN_OUT_OF_MEMORY = 1,   /* memory ran out: no handle was opened, no row or packet added */
   INTERLAKEN_BAD_PLAN = 2,        /* the plan is refused: no receiver or transmitter was opened */
   INTERLAKEN_NO_LANE = 3,         /* no lane has this number */
-  INTERLAKEN_FINISHED = 4,        /* the lane, or the transmitter, was finished before */
+  INTERLAKEN_FINISHED = 4,        /* the lane, or the transmitter, was finished before; or its
+                                     packets were closed */
   INTERLAKEN_TOO_MANY = 5,        /* the lane or the piece has 2^40 bytes or more, or the channel
                                      would be given more than 2^60 */
   INTERLAKEN_NO_PACKET = 6,       /* the last event was no packet */
@@ -109,7 +111,11 @@ enum interlaken_result {
   INTERLAKEN_PASSED = 11,         /* all named bits have passed: nothing happens to them any more */
   INTERLAKEN_NO_TRANSMITTER = 12, /* the handle has no transmitter: it is all zeros, or was freed */
   INTERLAKEN_NO_CHANNEL = 13,     /* the plan does not list the channel */
-  INTERLAKEN_BAD_LENGTH = 14      /* the packet has no bytes, or more than 262,144 */
+  INTERLAKEN_BAD_LENGTH = 14,     /* the packet has no bytes, or more than the plan's
+                                     `max_packet` */
+  INTERLAKEN_NO_INSPECTOR = 15,   /* the handle has no inspector: it is all zeros, or was freed */
+  INTERLAKEN_NO_CHECKER = 16,     /* the handle has no checker: it is all zeros, or was freed */
+  INTERLAKEN_WAITING = 17         /* faults wait that `next` has not returned: nothing was taken */
 };
 
 /* A handle of a receiver, or of none. All zeros is a handle of none, as in
@@ -135,6 +141,16 @@ typedef struct interlaken_counts {
   uint64_t bytes_given; /* 2^60 at most */
   uint64_t bytes_sent;
 } interlaken_counts;
+
+/* How a lane of a transmitter stands, and what is left to send. */
+typedef struct interlaken_transmitter_status {
+  uint64_t waiting; /* bytes of the lane that were made and not taken */
+  uint64_t left;    /* packets of all channels that were given and are not sent: their last burst
+                       was not; 2^64 - 1 at most */
+  uint32_t ended;   /* 1 if the lanes have ended, so that no byte more is made; otherwise 0 */
+  uint32_t held;    /* 1 if 4,088 bytes or more of some lane wait, so that no word is made before
+                       some of them are taken; otherwise 0 */
+} interlaken_transmitter_status;
 
 /* A handle of the damage of lanes, or of none. All zeros is a handle of none. Both members belong
  * to the library. */
@@ -323,9 +339,10 @@ uint32_t interlaken_transmitter_new(interlaken_transmitter *transmitter, const u
  * Results: DONE, NO_TRANSMITTER. */
 uint32_t interlaken_transmitter_free(interlaken_transmitter *transmitter);
 
-/* Queues a packet of 1 to 262,144 bytes on a channel that the plan lists, after the packets that
- * were given on this channel before. Its bytes are copied. It may begin with the next word that is
- * made. The plan's `max_packet` is not looked at: a receiver of that plan drops a longer packet.
+/* Queues a packet on a channel that the plan lists, after the packets that were given on this
+ * channel before. It has 1 byte to the plan's `max_packet` bytes: 262,144 if the plan has no such
+ * row. Its bytes are copied. It may begin with the next word that is made. The result is FINISHED
+ * after `close` or `finish`.
  * Results: DONE, OUT_OF_MEMORY, FINISHED, TOO_MANY, NO_TRANSMITTER, NO_CHANNEL, BAD_LENGTH; the
  * packet is not queued if it is not DONE. */
 uint32_t interlaken_transmitter_packet(interlaken_transmitter *transmitter, uint16_t channel,
@@ -339,29 +356,38 @@ uint32_t interlaken_transmitter_packet(interlaken_transmitter *transmitter, uint
  * All channels are on, and no word counts, until one with Reset Calendar. After a fault span, in
  * which words may be missing, pass a word that is no control word, such as 0. It turns no channel,
  * and after it no word counts up to the next with Reset Calendar.
- * Results: DONE, FINISHED, NO_TRANSMITTER. */
+ * Results: DONE, FINISHED (after `finish`), NO_TRANSMITTER. */
 uint32_t interlaken_transmitter_flow(interlaken_transmitter *transmitter, uint64_t word);
 
 /* Says whether the far end may send on a channel: it may if `on` is not 0. The control words carry
  * this by the plan's calendar, from the next control word on that is made. A channel is on until a
- * call turns it off. A channel without an entry in the calendar is accepted, and nothing carries
- * its state.
- * Results: DONE, FINISHED, NO_TRANSMITTER. */
+ * call turns it off. The plan must list the channel by a row `channel`; each entry of a calendar is
+ * of such a channel. A listed channel without an entry is accepted, and nothing carries its state.
+ * Results: DONE, FINISHED (after `finish`), NO_TRANSMITTER, NO_CHANNEL. */
 uint32_t interlaken_transmitter_local(interlaken_transmitter *transmitter, uint16_t channel,
                                       uint32_t on);
 
 /* Takes the next bytes of a lane, counted from 0, first bit first: `taken` is how many. While fewer
- * than `count` bytes wait, the next word of each lane is made, as long as every lane's waiting
- * bytes leave room for it. So it returns fewer than `count` bytes in two cases: another lane has
- * too many bytes that were not taken, or a finished transmitter has no further byte. It returns at
- * least one byte of a lane with waiting bytes. The rest of `bytes` stays unchanged.
+ * than `count` bytes wait, the next word of each lane is made. No word is made if a lane is full,
+ * with 4,088 bytes or more that wait, or if the lanes have ended. So fewer than `count` bytes are
+ * taken if another lane is full, after the last byte of a finished transmitter, and, of any lane,
+ * if `count` is above 4,088. Fewer never mean the end by themselves: `status_of` tells it. At least
+ * one byte is taken of a lane with waiting bytes, if `count` is not 0. The rest of `bytes` stays
+ * unchanged.
  * Results: DONE, NO_LANE, NO_TRANSMITTER; `taken` is 0 if it is not DONE. */
 uint32_t interlaken_transmitter_take(interlaken_transmitter *transmitter, uint32_t lane,
                                      uint8_t *bytes, size_t count, size_t *taken);
 
+/* Closes the packets: none may follow. `flow` and `local` count as before, and the lanes go on, so
+ * that what waits on a channel that is off can still be sent: go on until `status_of` says that no
+ * packet is left, then `finish`. A second call changes nothing, and a call after `finish` does not
+ * either.
+ * Results: DONE, NO_TRANSMITTER. */
+uint32_t interlaken_transmitter_close(interlaken_transmitter *transmitter);
+
 /* Ends the input: no packet or flow control may follow. Queued packets are sent on channels that
- * are on; packets on a channel that is off are not sent. The lanes end a few metaframes later, and
- * `take` then returns 0 bytes. A second call changes nothing.
+ * are on; packets on a channel that is off are not sent. The lanes end a few metaframes later: then
+ * `status_of` says so. A second call changes nothing.
  * Results: DONE, NO_TRANSMITTER. */
 uint32_t interlaken_transmitter_finish(interlaken_transmitter *transmitter);
 
@@ -370,6 +396,13 @@ uint32_t interlaken_transmitter_finish(interlaken_transmitter *transmitter);
  * Results: DONE, NO_TRANSMITTER, NO_CHANNEL; all of `counts` is 0 if it is not DONE. */
 uint32_t interlaken_transmitter_sent(interlaken_transmitter *transmitter, uint16_t channel,
                                      interlaken_counts *counts);
+
+/* Writes how a lane, counted from 0, stands, and how many packets are left. If `ended` is 1 and
+ * `waiting` is 0, all bytes of the lane were taken. The lanes end in a call of `take`. A call takes
+ * time for each channel of the plan.
+ * Results: DONE, NO_LANE, NO_TRANSMITTER; all of `status` is 0 if it is not DONE. */
+uint32_t interlaken_transmitter_status_of(interlaken_transmitter *transmitter, uint32_t lane,
+                                          interlaken_transmitter_status *status);
 
 /* Writes how many payload words of all lanes were made so far: the number of the next one, counted
  * from 0. What is given now counts from that word on.

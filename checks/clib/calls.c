@@ -64,6 +64,16 @@ static struct bytes load(const char *name) {
   return file;
 }
 
+/* The same rows and one more. */
+static struct bytes with_row(struct bytes rows, const char *row) {
+  struct bytes more;
+  more.count = rows.count + strlen(row);
+  more.at = (uint8_t *)malloc(more.count);
+  memcpy(more.at, rows.at, rows.count);
+  memcpy(more.at + rows.count, row, strlen(row));
+  return more;
+}
+
 static uint64_t state;
 
 static uint32_t below(uint32_t bound) {
@@ -85,7 +95,7 @@ struct known {
 };
 
 static struct known absent;
-static struct bytes plan, lanes[2];
+static struct bytes plan, sender_plan, lanes[2];
 static const uint8_t *long_piece; /* LONG_PIECE bytes, or NULL where no address space is left for so many */
 
 static uint32_t lane_result(const struct known *k, uint32_t lane) {
@@ -397,7 +407,9 @@ static void damage_sequence(void) {
 #define GIVEN 30
 #define SENT_BYTES 300
 #define TAKEN_BYTES 400000
+#define MAX_PACKET 250 /* of the plan of the transmitter */
 #define TOO_LONG 262145
+#define FULL 4088 /* a lane of which so many bytes wait holds the others */
 #define TOLD 300
 #define GROUP (2 * 28) /* slots of a group: 32 words of each lane, less 4 */
 #define GROUP_BITS (32 * 67)
@@ -409,11 +421,11 @@ struct told {
   interlaken_counts counts;
 };
 
-/* A handle of a transmitter, the packets that it took, the words that it was told by the far end, and the bytes that were taken of its
+/* A handle of a transmitter, whether its packets were closed and it was finished, the packets that it took, the words that it was told by the far end, and the bytes that were taken of its
  * lanes. */
 struct sender {
   interlaken_transmitter transmitter;
-  int has, finished;
+  int has, closed, finished, ended;
   uint32_t given, channel[GIVEN], length[GIVEN];
   uint8_t bytes[GIVEN][SENT_BYTES], lane[2][TAKEN_BYTES];
   size_t taken[2];
@@ -422,7 +434,7 @@ struct sender {
   uint64_t turned_at[TOLD];
   int turned[TOLD][3];
   struct told told[TOLD];
-  uint64_t slots;
+  uint64_t slots, whole; /* the bytes of each lane, once they have ended */
 };
 
 static uint32_t sender_result(const struct sender *k) {
@@ -443,12 +455,12 @@ static void try_sender_new(struct sender *k) {
   interlaken_refusal refusal;
   int bad = below(4) == 0, fails = may_fail();
   uint32_t wanted = k->has ? INTERLAKEN_IN_USE : bad ? INTERLAKEN_BAD_PLAN : INTERLAKEN_DONE, result;
-  result = interlaken_transmitter_new(&k->transmitter, bad ? (const uint8_t *)"lanes,x\n" : plan.at, bad ? 8 : plan.count, &refusal);
+  result = interlaken_transmitter_new(&k->transmitter, bad ? (const uint8_t *)"lanes,x\n" : sender_plan.at, bad ? 8 : sender_plan.count, &refusal);
   failing = -1;
   want("transmitter new", result == wanted || (fails && !k->has && result == INTERLAKEN_OUT_OF_MEMORY));
   want("transmitter refusal", (refusal.cause != 0) == (result == INTERLAKEN_BAD_PLAN));
   if (result == INTERLAKEN_DONE) {
-    k->has = 1, k->finished = 0, k->given = 0, k->taken[0] = k->taken[1] = 0, k->off[1] = k->off[2] = 0;
+    k->has = 1, k->closed = k->finished = k->ended = 0, k->given = 0, k->taken[0] = k->taken[1] = 0, k->off[1] = k->off[2] = 0;
     k->turns = k->counted = 0, k->slots = 0;
     want("no word is made yet", slots_of(k) == 0);
   }
@@ -458,15 +470,16 @@ static void try_sender_new(struct sender *k) {
 static void try_packet(struct sender *k) {
   static const uint16_t few[] = {1, 2, 1, 2, 1, 2, 0, 3, 258, 0xffff};
   static uint8_t zeros[TOO_LONG];
-  uint32_t wanted = sender_result(k), length = below(SENT_BYTES), n, result;
+  uint32_t wanted = sender_result(k), length = below(20) == 0 ? MAX_PACKET : below(SENT_BYTES), n, result;
   uint16_t channel = few[below(10)];
   int is_long = below(20) == 0, fails;
   uint8_t *bytes = is_long ? zeros : k->bytes[k->given % GIVEN];
   if (k->given == GIVEN) return;
   for (n = 0; n < length && !is_long; n++) bytes[n] = (uint8_t)below(256);
   if (is_long) length = TOO_LONG;
+  if (wanted == INTERLAKEN_DONE && k->closed) wanted = INTERLAKEN_FINISHED;
   if (wanted == INTERLAKEN_DONE && channel != 1 && channel != 2) wanted = INTERLAKEN_NO_CHANNEL;
-  if (wanted == INTERLAKEN_DONE && (length == 0 || is_long)) wanted = INTERLAKEN_BAD_LENGTH;
+  if (wanted == INTERLAKEN_DONE && (length == 0 || length > MAX_PACKET)) wanted = INTERLAKEN_BAD_LENGTH;
   fails = may_fail();
   result = interlaken_transmitter_packet(&k->transmitter, channel, bytes, length);
   want("packet", result == settled(result, wanted, fails));
@@ -474,13 +487,8 @@ static void try_packet(struct sender *k) {
 }
 
 /* The word's checksum is not looked at. One without Reset Calendar goes on after the two entries, so it tells of none. */
-static void try_flow(struct sender *k) {
-  uint64_t word = (uint64_t)below(0xffff) << 48 | (uint64_t)below(0xffff) << 32 | below(0xffff) << 8 | below(256);
+static void give_flow(struct sender *k, uint64_t word) {
   uint32_t format, channel;
-  if (below(4) > 0) word |= (uint64_t)1 << 63 | (uint64_t)1 << 60;
-  if (below(3) > 0) word |= (uint64_t)3 << 54;
-  if (below(8) == 0) word = 0;
-  if (k->turns == TOLD) return;
   want("flow", interlaken_transmitter_flow(&k->transmitter, word) == sender_result(k));
   format = (uint32_t)(word >> 57) & 15;
   if (sender_result(k) != INTERLAKEN_DONE || !(word >> 63) || (format > 1 && format < 8) || !(word >> 56 & 1)) return;
@@ -489,8 +497,19 @@ static void try_flow(struct sender *k) {
   k->turned_at[k->turns++] = slots_of(k);
 }
 
+static void try_flow(struct sender *k) {
+  uint64_t word = (uint64_t)below(0xffff) << 48 | (uint64_t)below(0xffff) << 32 | below(0xffff) << 8 | below(256);
+  if (below(4) > 0) word |= (uint64_t)1 << 63 | (uint64_t)1 << 60;
+  if (below(3) > 0) word |= (uint64_t)3 << 54;
+  if (below(8) == 0) word = 0;
+  if (k->turns < TOLD) give_flow(k, word);
+}
+
 static void try_local(struct sender *k) {
-  want("local", interlaken_transmitter_local(&k->transmitter, (uint16_t)below(4), below(3)) == sender_result(k));
+  uint16_t channel = (uint16_t)(below(10) == 0 ? 0xffff : below(4));
+  uint32_t wanted = sender_result(k);
+  if (wanted == INTERLAKEN_DONE && channel != 1 && channel != 2) wanted = INTERLAKEN_NO_CHANNEL;
+  want("local", interlaken_transmitter_local(&k->transmitter, channel, below(3)) == wanted);
 }
 
 static void try_sent(struct sender *k) {
@@ -510,15 +529,58 @@ static void try_sent(struct sender *k) {
   k->told[k->counted].slot = slots_of(k), k->told[k->counted].channel = channel, k->told[k->counted++].counts = counts;
 }
 
+/* The packets given and not sent, by `sent`. */
+static uint64_t left_of(struct sender *k) {
+  interlaken_counts counts;
+  uint64_t left = 0;
+  uint16_t channel;
+  for (channel = 1; channel <= 2; channel++)
+    if (interlaken_transmitter_sent(&k->transmitter, channel, &counts) == INTERLAKEN_DONE) left += counts.packets_given - counts.packets_sent;
+  return left;
+}
+
+/* How many bytes of each lane were made so far. Lanes are in step, so those that wait of one tell those that wait of the other. */
+static uint64_t try_status(struct sender *k, uint32_t lane) {
+  interlaken_transmitter_status status, other;
+  uint32_t wanted = !k->has ? INTERLAKEN_NO_TRANSMITTER : lane >= 2 ? INTERLAKEN_NO_LANE : INTERLAKEN_DONE;
+  uint64_t made;
+  memset(&status, 0xa5, sizeof status);
+  want("status", interlaken_transmitter_status_of(&k->transmitter, lane, &status) == wanted);
+  if (wanted != INTERLAKEN_DONE) {
+    want("no status", status.waiting == 0 && status.left == 0 && status.ended == 0 && status.held == 0);
+    return 0;
+  }
+  want("status of the other lane", interlaken_transmitter_status_of(&k->transmitter, 1 - lane, &other) == INTERLAKEN_DONE);
+  made = k->taken[lane] + status.waiting;
+  want("lanes are in step", made == k->taken[1 - lane] + other.waiting);
+  want("packets left", status.left == left_of(k) && other.left == status.left);
+  want("held", status.held == (uint32_t)(status.waiting >= FULL || other.waiting >= FULL) && other.held == status.held);
+  want("ended", status.ended <= (uint32_t)k->finished && other.ended == status.ended && status.ended >= (uint32_t)k->ended);
+  want("no byte is made after the end", !k->ended || made == k->whole);
+  want("ended after whole metaframes", !status.ended || made == (slots_of(k) / GROUP * GROUP_BITS + 7) / 8);
+  k->ended = (int)status.ended, k->whole = made;
+  return made;
+}
+
+/* How many bytes of a lane a transmitter that is not finished gives, where so many of each were made. */
+static size_t foretold(const struct sender *k, uint32_t lane, size_t count, uint64_t made) {
+  uint64_t words = (8 * made + 66) / 67;
+  want("bytes of whole words", 67 * words / 8 == made);
+  while (made - k->taken[lane] < count && made - k->taken[0] < FULL && made - k->taken[1] < FULL) words++, made = 67 * words / 8;
+  return made - k->taken[lane] < count ? (size_t)(made - k->taken[lane]) : count;
+}
+
 static size_t try_take(struct sender *k, uint32_t lane, size_t count) {
   uint32_t from = lane < 2 ? lane : 0, result;
   uint32_t wanted = !k->has ? INTERLAKEN_NO_TRANSMITTER : lane >= 2 ? INTERLAKEN_NO_LANE : INTERLAKEN_DONE;
-  size_t taken = 99;
+  size_t taken = 99, most;
   if (count > TAKEN_BYTES - k->taken[from]) count = TAKEN_BYTES - k->taken[from];
+  most = wanted == INTERLAKEN_DONE && !k->finished ? foretold(k, lane, count, try_status(k, lane)) : count;
   result = interlaken_transmitter_take(&k->transmitter, lane, k->lane[from] + k->taken[from], count, &taken);
   want("take", result == wanted);
   want("taken of a lane", result == INTERLAKEN_DONE ? taken <= count && taken <= 4096 : taken == 0);
-  if (result == INTERLAKEN_DONE && !k->finished && count <= 2000 && k->taken[lane] <= k->taken[1 - lane]) want("all that is asked of the lane behind", taken == count);
+  if (result == INTERLAKEN_DONE && !k->finished) want("as many as the words that were made give", taken == most);
+  if (result == INTERLAKEN_DONE && !k->finished && count <= FULL && k->taken[lane] <= k->taken[1 - lane]) want("all that is asked of the lane behind", taken == count);
   if (result == INTERLAKEN_DONE) k->taken[lane] += taken;
   return result == INTERLAKEN_DONE ? taken : 0;
 }
@@ -572,7 +634,7 @@ static void decode(struct sender *k, struct decoded *d) {
   interlaken_event event;
   size_t fed[2] = {0, 0}, taken;
   uint32_t lane;
-  want("receiver", interlaken_receiver_new(&receiver, plan.at, plan.count, &refusal) == INTERLAKEN_DONE);
+  want("receiver", interlaken_receiver_new(&receiver, sender_plan.at, sender_plan.count, &refusal) == INTERLAKEN_DONE);
   do {
     for (lane = 0; lane < 2; lane++) {
       if (fed[lane] > k->taken[lane]) continue;
@@ -598,6 +660,7 @@ static void try_delivery(struct sender *k) {
   uint16_t channel;
   while (try_take(k, 0, 3000) + try_take(k, 1, 3000) > 0) {}
   want("it ends", k->taken[0] == k->taken[1] && k->taken[0] < TAKEN_BYTES);
+  want("all bytes were taken", try_status(k, 0) == k->taken[0] && k->ended);
   want("all words are on the lanes", slots_of(k) == 8 * (uint64_t)k->taken[0] / GROUP_BITS * GROUP);
   memset(&decoded, 0, sizeof decoded);
   decode(k, &decoded);
@@ -624,6 +687,41 @@ static void try_sender_finish(struct sender *k) {
   k->finished = k->has;
 }
 
+static void try_sender_close(struct sender *k) {
+  want("transmitter close", interlaken_transmitter_close(&k->transmitter) == (uint32_t)(k->has ? INTERLAKEN_DONE : INTERLAKEN_NO_TRANSMITTER));
+  k->closed = k->has;
+}
+
+/* The packets are closed, and all are sent before the end, since the far end turns its channels on. */
+static void try_drain(struct sender *k) {
+  uint32_t rounds = 0;
+  if (k->finished || k->turns == TOLD) return;
+  try_sender_close(k);
+  give_flow(k, (uint64_t)1 << 63 | (uint64_t)1 << 60 | (uint64_t)1 << 56 | (uint64_t)3 << 54);
+  while (left_of(k) > 0 && rounds++ < 400) try_take(k, 0, 300), try_take(k, 1, 300);
+  want("all are sent before the end", left_of(k) == 0 && !k->ended);
+  try_packet(k);
+}
+
+/* One lane alone: up to so many bytes are given as asked for, and fewer of more do not mean the end. */
+static void one_lane(void) {
+  static const char *text = "lanes,1\nmetaframe,32\nchannel,1,a\nout,b\n";
+  static uint8_t bytes[10000];
+  interlaken_transmitter transmitter = {0, 0};
+  interlaken_transmitter_status status;
+  interlaken_refusal refusal;
+  size_t taken, count;
+  int turn;
+  want("one lane", interlaken_transmitter_new(&transmitter, (const uint8_t *)text, strlen(text), &refusal) == INTERLAKEN_DONE);
+  for (turn = 0; turn < 300; turn++) {
+    count = turn % 3 == 0 ? 10000 : turn % 3 == 1 ? FULL : below(FULL + 1);
+    want("take of one lane", interlaken_transmitter_take(&transmitter, 0, bytes, count, &taken) == INTERLAKEN_DONE);
+    want("as many as one lane has", count <= FULL ? taken == count : taken >= FULL && taken <= 4096);
+    want("status of one lane", interlaken_transmitter_status_of(&transmitter, 0, &status) == INTERLAKEN_DONE && status.ended == 0);
+  }
+  interlaken_transmitter_free(&transmitter);
+}
+
 static void sender_sequence(void) {
   static struct sender one;
   uint32_t calls = 20 + below(200);
@@ -633,17 +731,18 @@ static void sender_sequence(void) {
     switch (below(40)) {
       case 0: case 1: try_sender_new(&one), takes_memory = 1; break;
       case 2: if (below(8) == 0) try_sender_free(&one); break;
-      case 3: if (below(8) == 0) try_sender_finish(&one); break;
+      case 3: if (below(8) == 0) try_sender_finish(&one); else if (below(8) == 0) try_sender_close(&one); break;
       case 4: case 5: case 6: try_flow(&one); break;
       case 7: try_local(&one); break;
       case 8: case 9: case 10: try_sent(&one); break;
-      case 11: slots_of(&one); break;
+      case 11: slots_of(&one); try_status(&one, some_lane()); break;
       case 12: case 13: case 14: case 15: case 16: case 17: case 18: try_packet(&one), takes_memory = 1; break;
       default: try_take(&one, some_lane(), below(below(3) == 0 ? 5000 : 300)); break;
     }
     want("no allocation but of new and packet", takes_memory || allocations == before);
   }
   if (one.has) {
+    if (below(2)) try_drain(&one);
     try_sender_finish(&one);
     try_delivery(&one);
   }
@@ -658,7 +757,9 @@ int main(int argc, char **argv) {
   if (many != MAP_FAILED) long_piece = (const uint8_t *)many;
   else printf("not tried, no address space: a piece of 2^40 bytes\n");
   plan = load(argv[1]), lanes[0] = load(argv[2]), lanes[1] = load(argv[3]);
+  sender_plan = with_row(plan, "max_packet,250\n"); /* MAX_PACKET */
   each_allocation();
+  one_lane();
   for (left = atol(argv[4]); left > 0; left--) {
     state = (uint64_t)left * 2654435761u + 88172645463325252u;
     sequence();
@@ -666,6 +767,6 @@ int main(int argc, char **argv) {
     sender_sequence();
   }
   printf("%ld tried, %ld wrong\n", tries, wrong);
-  free(plan.at), free(lanes[0].at), free(lanes[1].at);
+  free(plan.at), free(sender_plan.at), free(lanes[0].at), free(lanes[1].at);
   return wrong != 0;
 }

@@ -49,6 +49,9 @@ class Result(enum.IntEnum):
     NO_TRANSMITTER = 12
     NO_CHANNEL = 13
     BAD_LENGTH = 14
+    NO_INSPECTOR = 15
+    NO_CHECKER = 16
+    WAITING = 17
 
 
 class Cause(enum.IntEnum):
@@ -211,6 +214,18 @@ class Counts:
     bytes_sent: int
 
 
+@dataclass(frozen=True)
+class Status:
+    """How a lane of a transmitter stands: how many of its bytes wait until they are taken, whether the lanes have ended, so that no byte more
+    is made, and whether 4,088 bytes or more of some lane wait, so that no word is made before some of them are taken. And how many packets
+    of all channels are left, whose last burst was not sent."""
+
+    waiting: int
+    left: int
+    ended: bool
+    held: bool
+
+
 class _Handle(ctypes.Structure):
     _fields_ = [("at", ctypes.c_void_p), ("live", ctypes.c_uint8)]
 
@@ -245,6 +260,15 @@ class _Counts(ctypes.Structure):
     _fields_ = [(name, ctypes.c_uint64) for name in ("packets_given", "packets_sent", "bytes_given", "bytes_sent")]
 
 
+class _Status(ctypes.Structure):
+    _fields_ = [
+        ("waiting", ctypes.c_uint64),
+        ("left", ctypes.c_uint64),
+        ("ended", ctypes.c_uint32),
+        ("held", ctypes.c_uint32),
+    ]
+
+
 _size = ctypes.c_size_t
 _u32 = ctypes.c_uint32
 _u64 = ctypes.c_uint64
@@ -270,7 +294,9 @@ _TRANSMITTER_CALLS = {
     "local": (_handle, ctypes.c_uint16, _u32),
     "take": (_handle, _u32, ctypes.c_char_p, _size, ctypes.POINTER(_size)),
     "finish": (_handle,),
+    "close": (_handle,),
     "sent": (_handle, ctypes.c_uint16, ctypes.POINTER(_Counts)),
+    "status_of": (_handle, _u32, ctypes.POINTER(_Status)),
     "slots": (_handle, ctypes.POINTER(_u64)),
 }
 _DAMAGE_CALLS = {
@@ -446,9 +472,10 @@ class Transmitter(_OfPlan):
     def __init__(self, plan: bytes, library: str = "libinterlaken.so"):
         """`plan` is the text of a plan file, and `library` the path of the shared library."""
         super().__init__(plan, library, "interlaken_transmitter_", _TRANSMITTER_CALLS)
+        self._finished = False
 
     def packet(self, channel: int, data: bytes) -> None:
-        """Gives a packet of 1 to 262,144 bytes to be sent on a channel that the plan lists."""
+        """Gives a packet of 1 byte to the plan's `max_packet` bytes to be sent on a channel that the plan lists."""
         self._call("packet", _channel(channel), data, len(data))
 
     def flow(self, word: int) -> None:
@@ -457,24 +484,37 @@ class Transmitter(_OfPlan):
         self._call("flow", _within(word, 64, "word"))
 
     def local(self, channel: int, on: bool) -> None:
-        """Says whether the far end may send on a channel, which the control words tell it."""
+        """Says whether the far end may send on a channel that the plan lists, which the control words tell it."""
         self._call("local", _channel(channel), on)
 
     def take(self, lane: int, count: int) -> bytes:
-        """The next bytes of a lane, at most so many: fewer where another lane has too many that were not taken, none after the end."""
+        """The next bytes of a lane, at most so many. They are fewer if 4,088 bytes or more of another lane wait, after the end, and, of
+        any lane, if `count` is above 4,088. Fewer never mean the end by themselves: `status` tells it."""
         data, taken = ctypes.create_string_buffer(max(_within(count, 63, "count"), 1)), _size()
         self._call("take", _lane(lane), data, count, taken)
         return data.raw[: taken.value]
 
+    def close_packets(self) -> None:
+        """No further packet comes; `flow` and `local` still count. Go on until `status` has no packet left, then `finish`. (`close` frees
+        the transmitter.)"""
+        self._call("close")
+
     def finish(self) -> None:
         """No further packet and no further row comes: what may be sent is sent, and then the lanes end."""
         self._call("finish")
+        self._finished = True
 
     def sent(self, channel: int) -> Counts:
         """What was given on a channel that the plan lists, and what was sent of it."""
         counts = _Counts()
         self._call("sent", _channel(channel), counts)
         return Counts(counts.packets_given, counts.packets_sent, counts.bytes_given, counts.bytes_sent)
+
+    def status(self, lane: int) -> Status:
+        """How a lane stands, and how many packets are left to send."""
+        status = _Status()
+        self._call("status_of", _lane(lane), status)
+        return Status(status.waiting, status.left, bool(status.ended), bool(status.held))
 
     def slots(self) -> int:
         """How many payload words were made so far: the number of the next one, from which on counts what is given now."""
@@ -483,14 +523,28 @@ class Transmitter(_OfPlan):
         return slots.value
 
     def take_all(self, lanes: int) -> list[bytes]:
-        """The bytes of all lanes of a transmitter that was finished, from what was taken of them on to their ends."""
+        """The bytes of all lanes of a transmitter that was finished, from what was taken of them on to their ends. `lanes` is how many the
+        plan has. If they are more or fewer, or if the transmitter was not finished, it raises ValueError, and nothing is taken."""
+        if not self._finished:
+            raise ValueError("the transmitter was not finished")
+        if lanes != (there := self._lane_count()):
+            raise ValueError("the plan has %d lanes, not %d" % (there, lanes))
         taken = [bytearray() for _ in range(lanes)]
-        while True:
-            pieces = [self.take(lane, 2048) for lane in range(lanes)]
-            if not any(pieces):
-                return [bytes(data) for data in taken]
-            for data, piece in zip(taken, pieces):
-                data += piece
+        while not all(self._has_ended(lane) for lane in range(lanes)):
+            for lane, data in enumerate(taken):
+                data += self.take(lane, 2048)
+        return [bytes(data) for data in taken]
+
+    def _lane_count(self) -> int:
+        lane = 0
+        while (result := self._result("status_of", lane, _Status())) is not Result.NO_LANE:
+            self._check(result)
+            lane += 1
+        return lane
+
+    def _has_ended(self, lane: int) -> bool:
+        status = self.status(lane)
+        return status.ended and status.waiting == 0
 
 
 class Damage(_Opened):

@@ -1,5 +1,5 @@
 -- How a live transmitter goes on.
-use Rattle.std.proofs.Common.{ℕ, zero, suc, ◌≡◌, ◌⊎◌, ◌↔◌, inl, inr, refl, sym, ap, ◌∙◌, subst, ◌+◌, ◌-◌, ◌*◌, ◌/◌, ◌%◌, ◌<◌, ◌≤◌, Bool, true, false, if◌then◌else◌, nat_le, List, [], ◌∷◌, ◌++◌, length, map, get_or, arith, append_assoc, append-nil, length-append, Option, Some, None, is_some, Result, Ok, Err, OnOk, OnErr, is_err, MatchOption}
+use Rattle.std.proofs.Common.{ℕ, zero, suc, ◌≡◌, ◌⊎◌, ◌↔◌, inl, inr, refl, sym, ap, ◌∙◌, subst, ◌+◌, ◌-◌, ◌*◌, ◌/◌, ◌%◌, ◌<◌, ◌≤◌, Bool, true, false, ◌||◌, if◌then◌else◌, nat_le, List, [], ◌∷◌, ◌++◌, length, map, get_or, arith, append_assoc, append-nil, length-append, Option, Some, None, is_some, Result, Ok, Err, OnOk, OnErr, is_err, MatchOption}
 use Rattle.std.specs.Option.{option_or}
 use Rattle.std.proofs.Math.Nat.{mod-add-mod, mod-eq_of_lt, mod-lt, mod_self, mul-le-mul}
 use Rattle.std.proofs.lemmas.Bool.{cases_lt, false≢true}
@@ -16,8 +16,10 @@ use Rattle.metaframe.specs.Writing.{is_payload, payload_place}
 use Rattle.metaframe.proofs.Places.{stands as stands_at}
 use Rattle.tx_end.proofs.LanePlaces.{payload_there}
 use Rattle.live_stream.specs.LiveStream.{Given, IsWholeLiveStream}
-use Rattle.live_stream.specs.Gives.{Gives, closed_at, most_words, packet_added, refusal_of}
+use Rattle.live_stream.specs.Gives.{Gives, closed_at, flow_added, local_added, local_refusal_of, most_words, packet_added, packets_closed_in, refusal_of}
 use Rattle.live_stream.specs.declared.refused.Closed.{Closed}
+use Rattle.live_stream.specs.declared.refused.LocalRefused.{LocalRefused}
+use Rattle.live_stream.specs.declared.refused.LocalRefused.TheVariants as local_refused
 use Rattle.live_stream.specs.declared.refused.Refused.{Refused}
 use Rattle.live_stream.specs.declared.refused.Refused.TheVariants as refused
 use Rattle.live_stream.specs.declared.scheduler.LiveScheduler.{LiveScheduler}
@@ -27,8 +29,8 @@ use Rattle.live_lanes.specs.Standing.{Progress, Stands, framed, progress, took, 
 use Rattle.live_lanes.proofs.Places.{lane_of, waiting_is}
 use Rattle.live_lanes.proofs.Taken.{are_whole_bytes}
 use Rattle.live_end.specs.States.{State, state}
-use Rattle.live_end.specs.Calls.{AreMore, GoesOn, IsPacket, IsRow, IsStill, MakesRow, MakesWords, Rests}
-use Rattle.live_end.specs.Sending.{IsOver, Sends, Sent, progress_of, sent, with_close, with_columns, with_given, with_packet, with_taken}
+use Rattle.live_end.specs.Calls.{AreMore, GoesOn, IsFlow, IsLocal, IsPacket, IsStill, MakesRow, MakesWords, Rests}
+use Rattle.live_end.specs.Sending.{IsOver, Sends, Sent, progress_of, sent, with_close, with_columns, with_flow, with_given, with_local, with_packet, with_packets_closed, with_taken}
 
 -- ---- words more
 
@@ -67,7 +69,7 @@ never_whole : (g : Given) (w : List Word) → g.closed ≡ None → IsWholeLiveS
 never_whole g w none k = (let (closed, z, is, _, _) = k.finish in absurd (cc))
 
 given_of : Given → Option ℕ → Given
-given_of g closed = record { shape = g.shape; channels = g.channels; entries = g.entries; packets = g.packets; flow = g.flow; local = g.local; closed = closed }
+given_of g closed = record g { closed = closed }
 
 same_some : (a b : ℕ) → ◌≡◌ {A = Option ℕ} (Some a) (Some b) → a ≡ b
 same_some a b e = cc
@@ -87,29 +89,33 @@ unfolding given_of
 closed_same g w c is = ap (given_of g) (ap (λ (o : Option ℕ). option_or o (Some (length w))) is ∙ sym is)
 
 module _ (sch now : LiveScheduler) (lanes : Lanes) (row : List Word) (x : Sent) (k : Sends (state sch lanes row) x) where
-  given_sends : (g : Given) → Gives now g x.words → g.shape.group ≡ x.given.shape.group → (IsWholeLiveStream g x.words → IsWholeLiveStream x.given x.words) → (IsWholeLiveStream x.given x.words → IsWholeLiveStream g x.words) →
+  given_sends : (g : Given) → Gives now g x.words → g.shape.group ≡ x.given.shape.group → g.max_packet ≡ x.given.max_packet → (IsWholeLiveStream g x.words → IsWholeLiveStream x.given x.words) → (IsWholeLiveStream x.given x.words → IsWholeLiveStream g x.words) →
       Sends (state now lanes row) (with_given g x)
-  given_sends g gives same back forth = record {
+  given_sends g gives same long back forth = record {
     gives = gives;
     stands = k.stands;
     row = k.row;
     group = same ∙ k.group;
+    longest = long ∙ k.longest;
     goes = λ a b w. k.goes a b (back w);
     whole = λ e. forth (k.whole e);
   }
 
   -- something that a stream takes only before it is closed
-  pub more_sends : (g : Given) → Gives now g x.words → g.shape.group ≡ x.given.shape.group → g.closed ≡ x.given.closed → x.given.closed ≡ None → Sends (state now lanes row) (with_given g x)
-  more_sends g gives same closed none = given_sends g gives same (λ w. absurd (never_whole g x.words (closed ∙ none) w)) (λ w. absurd (never_whole x.given x.words none w))
+  pub more_sends : (g : Given) → Gives now g x.words → g.shape.group ≡ x.given.shape.group → g.max_packet ≡ x.given.max_packet → g.closed ≡ x.given.closed → x.given.closed ≡ None → Sends (state now lanes row) (with_given g x)
+  more_sends g gives same long closed none = given_sends g gives same long (λ w. absurd (never_whole g x.words (closed ∙ none) w)) (λ w. absurd (never_whole x.given x.words none w))
 
   pub same_sends : Gives now x.given x.words → Sends (state now lanes row) x
-  same_sends gives = record { gives = gives; stands = k.stands; row = k.row; group = k.group; goes = k.goes; whole = k.whole }
+  same_sends gives = record { gives = gives; stands = k.stands; row = k.row; group = k.group; longest = k.longest; goes = k.goes; whole = k.whole }
 
   close_by : (o : Option ℕ) → x.given.closed ≡ o → Gives now (closed_at x.given x.words) x.words → Sends (state now lanes row) (with_close x)
-  close_by None none gives = given_sends (closed_at x.given x.words) gives refl (λ w. absurd (closing_goes x.given x.words none w)) (λ w. absurd (never_whole x.given x.words none w))
+  close_by None none gives = given_sends (closed_at x.given x.words) gives refl refl (λ w. absurd (closing_goes x.given x.words none w)) (λ w. absurd (never_whole x.given x.words none w))
   close_by (Some c) is gives =
       let same = closed_same x.given x.words c is in
-      given_sends (closed_at x.given x.words) gives refl (subst (λ (g : Given). IsWholeLiveStream g x.words) same) (subst (λ (g : Given). IsWholeLiveStream g x.words) (sym same))
+      given_sends (closed_at x.given x.words) gives refl refl (subst (λ (g : Given). IsWholeLiveStream g x.words) same) (subst (λ (g : Given). IsWholeLiveStream g x.words) (sym same))
+
+  pub packets_sends : ((g : Given) (w : List Word) → IsWholeLiveStream g w ↔ IsWholeLiveStream (packets_closed_in g) w) → Gives now (packets_closed_in x.given) x.words → Sends (state now lanes row) (with_packets_closed x)
+  packets_sends either gives = given_sends (packets_closed_in x.given) gives refl refl (λ w. (either x.given x.words).1 w) (λ w. (either x.given x.words).0 w)
 
   pub close_sends : Gives now (closed_at x.given x.words) x.words → Sends (state now lanes row) (with_close x)
   close_sends gives = close_by x.given.closed refl gives
@@ -124,20 +130,21 @@ err_why None e (inl h) = absurd (cc)
 err_why None e (inr h) = inr (refl, cc)
 err_why (Some why) e h = inl (cc)
 
-not_closed : (o : Option ℕ) (rest : Option Refused) → (if is_some o then Some refused.Closed else rest) ≡ None → o ≡ None
-not_closed None rest e = refl
-not_closed (Some c) rest e = absurd (cc)
+not_closed : (b : Bool) (o : Option ℕ) (rest : Option Refused) → (if b || is_some o then Some refused.Closed else rest) ≡ None → o ≡ None
+not_closed b None rest e = refl
+not_closed true (Some c) rest e = absurd (cc)
+not_closed false (Some c) rest e = absurd (cc)
 
 -- a packet that is not refused comes before the stream is closed
 not_refused : (g : Given) (channel : ℕ) (bytes : List ℕ) → refusal_of g channel bytes ≡ None → g.closed ≡ None
-not_refused g channel bytes e = not_closed g.closed _ e
+not_refused g channel bytes e = not_closed g.packets_closed g.closed _ e
 
 pub packet_is : (sch now : LiveScheduler) (lanes : Lanes) (row : List Word) (channel : ℕ) (bytes : List ℕ) (r : Result (Unit {0}) Refused) →
     OnOk r ((g : Given) (w : List Word) → Gives sch g w → Gives now (packet_added g w channel bytes) w) → OnErr r ((g : Given) (w : List Word) → Gives sch g w → Gives now g w) →
     ((g : Given) (w : List Word) → Gives sch g w → MatchOption (refusal_of g channel bytes) ((r ≡ Ok tt) ⊎ (r ≡ Err refused.OutOfMemory)) (λ why. r ≡ Err why)) → IsPacket (state sch lanes row) (state now lanes row) channel bytes r
 packet_is sch now lanes row channel bytes (Ok done) ok err why = λ x k.
     let none = ok_none (refusal_of x.given channel bytes) done (why x.given x.words k.gives) in
-    (none, more_sends sch now lanes row x k (packet_added x.given x.words channel bytes) (ok x.given x.words k.gives) refl refl (not_refused x.given channel bytes none))
+    (none, more_sends sch now lanes row x k (packet_added x.given x.words channel bytes) (ok x.given x.words k.gives) refl refl refl (not_refused x.given channel bytes none))
 packet_is sch now lanes row channel bytes (Err e) ok err why = λ x k.
     (err_why (refusal_of x.given channel bytes) e (why x.given x.words k.gives), same_sends sch now lanes row x k (err x.given x.words k.gives))
 
@@ -149,22 +156,52 @@ by_closed : (o : Option ℕ) → (o ≡ None) ⊎ ((c : ℕ) × (o ≡ Some c))
 by_closed None = inl refl
 by_closed (Some c) = inr (c, refl)
 
-pub row_is : (sch now : LiveScheduler) (lanes : Lanes) (row : List Word) (add : Given → List Word → Given) (r : Result (Unit {0}) Closed) →
-    ((g : Given) (w : List Word) → (add g w).shape.group ≡ g.shape.group) → ((g : Given) (w : List Word) → (add g w).closed ≡ g.closed) →
-    ((g : Given) (w : List Word) → Gives sch g w → g.closed ≡ None → (r ≡ Ok tt) × Gives now (add g w) w) → ((g : Given) (w : List Word) (slot : ℕ) → Gives sch g w → g.closed ≡ Some slot → (is_err r ≡ true) × Gives now g w) →
-    IsRow (λ x. with_given (add x.given x.words) x) (state sch lanes row) (state now lanes row) r
-row_is sch now lanes row add (Ok done) shape closed going past = λ x k. elim (by_closed x.given.closed) [
-  | inl none ↦ (none, more_sends sch now lanes row x k (add x.given x.words) (going x.given x.words k.gives none).1 (shape x.given x.words) (closed x.given x.words) none)
+pub flow_is : (sch now : LiveScheduler) (lanes : Lanes) (row : List Word) (word : ℕ) (r : Result (Unit {0}) Closed) →
+    ((g : Given) (w : List Word) → Gives sch g w → g.closed ≡ None → (r ≡ Ok tt) × Gives now (flow_added g w word) w) → ((g : Given) (w : List Word) (slot : ℕ) → Gives sch g w → g.closed ≡ Some slot → (is_err r ≡ true) × Gives now g w) →
+    IsFlow (state sch lanes row) (state now lanes row) word r
+flow_is sch now lanes row word (Ok done) going past = λ x k. elim (by_closed x.given.closed) [
+  | inl none ↦ (none, more_sends sch now lanes row x k (flow_added x.given x.words word) (going x.given x.words k.gives none).1 refl refl refl none)
   | inr some ↦ absurd (false≢true (past x.given x.words some.0 k.gives some.1).0)
 ]
-row_is sch now lanes row add (Err why) shape closed going past = λ x k. elim (by_closed x.given.closed) [
+flow_is sch now lanes row word (Err why) going past = λ x k. elim (by_closed x.given.closed) [
   | inl none ↦ (let e = (going x.given x.words k.gives none).0 in absurd (cc))
   | inr some ↦ (ap (λ (o : Option ℕ). is_some o) some.1, same_sends sch now lanes row x k (past x.given x.words some.0 k.gives some.1).1)
 ]
 
-pub row_keeps : (t u : State) (with_row : Sent → Sent) (r : Result (Unit {0}) Closed) → IsRow with_row t u r → (x : Sent) → Sends t x → (y : Sent) × Sends u y
-row_keeps t u with_row (Ok done) h x k = (with_row x, (h x k).1)
-row_keeps t u with_row (Err why) h x k = (x, (h x k).1)
+pub flow_keeps : (t u : State) (word : ℕ) (r : Result (Unit {0}) Closed) → IsFlow t u word r → (x : Sent) → Sends t x → (y : Sent) × Sends u y
+flow_keeps t u word (Ok done) h x k = (with_flow word x, (h x k).1)
+flow_keeps t u word (Err why) h x k = (x, (h x k).1)
+
+-- ---- a state of this end's own
+
+local_none : (o : Option LocalRefused) (done : Unit {0}) → MatchOption o (Path (Result (Unit {0}) LocalRefused) (Ok done) (Ok tt)) (λ why. Path (Result (Unit {0}) LocalRefused) (Ok done) (Err why)) → o ≡ None
+local_none None done h = refl
+local_none (Some why) done h = absurd (cc)
+
+local_why : (o : Option LocalRefused) (e : LocalRefused) → MatchOption o (Path (Result (Unit {0}) LocalRefused) (Err e) (Ok tt)) (λ why. Path (Result (Unit {0}) LocalRefused) (Err e) (Err why)) → o ≡ Some e
+local_why None e h = absurd (cc)
+local_why (Some why) e h = cc
+
+local_not_closed : (o : Option ℕ) (rest : Option LocalRefused) → (if is_some o then Some local_refused.Closed else rest) ≡ None → o ≡ None
+local_not_closed None rest e = refl
+local_not_closed (Some c) rest e = absurd (cc)
+
+-- a state that is not refused comes before the stream is closed
+local_open : (g : Given) (channel : ℕ) → local_refusal_of g channel ≡ None → g.closed ≡ None
+local_open g channel e = local_not_closed g.closed _ e
+
+pub local_is : (sch now : LiveScheduler) (lanes : Lanes) (row : List Word) (channel : ℕ) (on : Bool) (r : Result (Unit {0}) LocalRefused) →
+    OnOk r ((g : Given) (w : List Word) → Gives sch g w → Gives now (local_added g w channel on) w) → OnErr r ((g : Given) (w : List Word) → Gives sch g w → Gives now g w) →
+    ((g : Given) (w : List Word) → Gives sch g w → MatchOption (local_refusal_of g channel) (r ≡ Ok tt) (λ why. r ≡ Err why)) → IsLocal (state sch lanes row) (state now lanes row) channel on r
+local_is sch now lanes row channel on (Ok done) ok err why = λ x k.
+    let none = local_none (local_refusal_of x.given channel) done (why x.given x.words k.gives) in
+    (none, more_sends sch now lanes row x k (local_added x.given x.words channel on) (ok x.given x.words k.gives) refl refl refl (local_open x.given channel none))
+local_is sch now lanes row channel on (Err e) ok err why = λ x k.
+    (local_why (local_refusal_of x.given channel) e (why x.given x.words k.gives), same_sends sch now lanes row x k (err x.given x.words k.gives))
+
+pub local_keeps : (t u : State) (channel : ℕ) (on : Bool) (r : Result (Unit {0}) LocalRefused) → IsLocal t u channel on r → (x : Sent) → Sends t x → (y : Sent) × Sends u y
+local_keeps t u channel on (Ok done) h x k = (with_local channel on x, (h x k).1)
+local_keeps t u channel on (Err why) h x k = (x, (h x k).1)
 
 -- ---- words more of each lane
 
@@ -220,6 +257,7 @@ module _ (sch : LiveScheduler) (lanes : Lanes) (row : List Word) (x : Sent) (k :
         stands = subst (λ (w : List Word). Stands next (progress s w (x.columns + 1) x.taken)) (sym same) q;
         row = k.row;
         group = k.group;
+        longest = k.longest;
         goes = λ a b w.
             let whole = subst (IsWholeLiveStream x.given) same w in
             let at = next_at next (framed (progress_of x)) refl refl q a in
@@ -262,6 +300,7 @@ module _ (sch : LiveScheduler) (lanes : Lanes) (row : List Word) (x : Sent) (k :
     stands = q;
     row = long ∙ k.row;
     group = k.group;
+    longest = k.longest;
     goes = λ a b w.
         let at = wants_at wants in
         let here = next_at next (with_row new (progress_of x)) refl refl q a in
@@ -281,6 +320,7 @@ module _ (sch : LiveScheduler) (lanes : Lanes) (row : List Word) (x : Sent) (k :
     stands = q;
     row = k.row;
     group = k.group;
+    longest = k.longest;
     goes = λ a b w. k.goes (let e = k.stands.place in let f = q.place in omega (arith, a, e, f)) (let e = k.stands.place in let f = q.place in omega (arith, b, e, f)) w;
     whole = λ e. whole;
   }
@@ -292,6 +332,7 @@ module _ (sch : LiveScheduler) (lanes : Lanes) (row : List Word) (x : Sent) (k :
     stands = q;
     row = k.row;
     group = k.group;
+    longest = k.longest;
     goes = λ a b w. k.goes (let e = k.stands.place in let f = q.place in omega (arith, a, e, f)) (let e = k.stands.place in let f = q.place in omega (arith, b, e, f)) w;
     whole = λ e. k.whole (sym same ∙ e);
   }

@@ -1,15 +1,17 @@
 -- What the calls on a live transmitter do.
-use Rattle.std.specs.Prelude.{ℕ, ◌≡◌, ◌⊎◌, ◌+◌, ◌*◌, ◌/◌, ◌<◌, Bool, true, false, List, ◌++◌, length, min, take, drop, Contains, MatchOption, Option, Some, None, is_some, Result, Ok, Err}
+use Rattle.std.specs.Prelude.{ℕ, ◌≡◌, ◌⊎◌, ◌+◌, ◌*◌, ◌/◌, ◌<◌, ◌≤◌, Bool, true, false, not, List, ◌++◌, length, min, take, drop, Contains, MatchOption, Option, Some, None, is_some, Result, Ok, Err}
 use Rattle.lk_base.specs.declared.word.Word.{Word}
 use Rattle.live_stream.specs.LiveStream.{Given, IsWholeLiveStream}
-use Rattle.live_stream.specs.Gives.{AreCountsOf, most_words, refusal_of}
+use Rattle.live_stream.specs.Gives.{AreCountsOf, left_in_all, local_refusal_of, most_words, refusal_of}
 use Rattle.live_stream.specs.declared.counts.Counts.{Counts}
 use Rattle.live_stream.specs.declared.refused.Closed.{Closed}
+use Rattle.live_stream.specs.declared.refused.LocalRefused.{LocalRefused}
 use Rattle.live_stream.specs.declared.refused.Refused.{Refused}
 use Rattle.live_stream.specs.declared.refused.Refused.TheVariants as refused
 use Rattle.live_lanes.specs.Lanes.{has_room, waiting_on}
 use Rattle.live_end.specs.States.{State}
-use Rattle.live_end.specs.Sending.{IsOver, Sends, Sent, with_close, with_columns, with_flow, with_local, with_packet, with_taken}
+use Rattle.live_end.specs.Sending.{IsOver, Sends, Sent, with_close, with_columns, with_flow, with_local, with_packet, with_packets_closed, with_taken}
+use Rattle.live_end.specs.declared.status.Status.{Status}
 
 -- ---- what is given
 
@@ -19,16 +21,19 @@ IsPacket t u channel bytes (Ok done) = (x : Sent) → Sends t x → (refusal_of 
 IsPacket t u channel bytes (Err why) =
     (x : Sent) → Sends t x → ((refusal_of x.given channel bytes ≡ Some why) ⊎ ((refusal_of x.given channel bytes ≡ None) × (why ≡ refused.OutOfMemory))) × Sends u x
 
--- a row is taken; or the transmitter was closed, and nothing has changed
-abbrev pub IsRow : (Sent → Sent) → State → State → Result (Unit {0}) Closed → Type 0
-IsRow with_row t u (Ok done) = (x : Sent) → Sends t x → (x.given.closed ≡ None) × Sends u (with_row x)
-IsRow with_row t u (Err why) = (x : Sent) → Sends t x → (is_some x.given.closed ≡ true) × Sends u x
-
+-- a flow row is taken; or the transmitter was closed, and nothing has changed
 abbrev pub IsFlow : State → State → ℕ → Result (Unit {0}) Closed → Type 0
-IsFlow t u word result = IsRow (with_flow word) t u result
+IsFlow t u word (Ok done) = (x : Sent) → Sends t x → (x.given.closed ≡ None) × Sends u (with_flow word x)
+IsFlow t u word (Err why) = (x : Sent) → Sends t x → (is_some x.given.closed ≡ true) × Sends u x
 
-abbrev pub IsLocal : State → State → ℕ → Bool → Result (Unit {0}) Closed → Type 0
-IsLocal t u channel on result = IsRow (with_local channel on) t u result
+-- a state of this end's own is taken; or it is refused so, and nothing has changed
+abbrev pub IsLocal : State → State → ℕ → Bool → Result (Unit {0}) LocalRefused → Type 0
+IsLocal t u channel on (Ok done) = (x : Sent) → Sends t x → (local_refusal_of x.given channel ≡ None) × Sends u (with_local channel on x)
+IsLocal t u channel on (Err why) = (x : Sent) → Sends t x → (local_refusal_of x.given channel ≡ Some why) × Sends u x
+
+-- no packet is taken from now on
+abbrev pub IsPacketsClose : State → State → Type 0
+IsPacketsClose t u = (x : Sent) → Sends t x → Sends u (with_packets_closed x)
 
 abbrev pub IsClose : State → State → Type 0
 IsClose t u = (x : Sent) → Sends t x → Sends u (with_close x)
@@ -43,6 +48,21 @@ AreCounted t channel result =
 -- so many payload words were made: what is given counts from the word of this number on
 abbrev pub AreMade : State → ℕ → Type 0
 AreMade t n = (x : Sent) → Sends t x → n ≡ length x.words
+
+-- how a lane of a transmitter stands, and what is left to send
+pub record IsStatus (t : State) (lane : ℕ) (status : Status) : Type 0 where
+  -- the bytes of the lane that were made and not taken
+  pub waiting : status.waiting ≡ length (waiting_on lane t.lanes)
+  -- the lanes have ended: no byte more is made
+  pub ended : status.ended ≡ t.lanes.ended
+  -- the ring of some lane has no room, so that no word is made
+  pub held : status.held ≡ not (has_room t.lanes)
+  -- the packets given whose last burst was not sent
+  pub left : (x : Sent) → Sends t x → status.left ≡ left_in_all x.given x.words
+
+-- a lane that is there has a status, and no other has
+abbrev pub IsStatusOf : State → ℕ → Option Status → Type 0
+IsStatusOf t lane result = MatchOption result (length t.lanes.lanes ≤ lane) (λ status. (lane < length t.lanes.lanes) × IsStatus t lane status)
 
 -- ---- what is made
 

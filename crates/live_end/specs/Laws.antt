@@ -1,9 +1,10 @@
 -- The laws on what a live transmitter sends.
-use Rattle.std.specs.Prelude.{ℕ, ◌≡◌, ◌<◌, ◌≤◌, ◌*◌, ◌/◌, true, List, [], ◌++◌, length, take}
+use Rattle.std.specs.Prelude.{ℕ, ◌≡◌, ◌<◌, ◌≤◌, ◌*◌, ◌/◌, true, List, [], ◌++◌, length, take, All}
 use Rattle.lk_base.specs.declared.word.Word.{Word}
 use Rattle.lk_base.specs.Link.{group_of}
 use Rattle.lane_model.specs.LaneBits.{IsFileOf, stream_lane_bits}
-use Rattle.live_stream.specs.LiveStream.{IsLiveStream, IsWholeLiveStream}
+use Rattle.live_stream.specs.Gives.{IsAccepted}
+use Rattle.live_stream.specs.LiveStream.{IsLiveStream, IsWholeLiveStream, LivePacket}
 use Rattle.live_lanes.specs.Lanes.{waiting_on}
 use Rattle.live_end.specs.States.{State}
 use Rattle.live_end.specs.Sending.{Sends, Sent}
@@ -11,6 +12,10 @@ use Rattle.live_end.specs.Sending.{Sends, Sent}
 -- the words that were made are the live stream of what was given
 abbrev pub WordsAreLive : Type 0
 WordsAreLive = (t : State) (x : Sent) → Sends t x → IsLiveStream x.given x.words
+
+-- each packet that was given is one of a listed channel, and has 1 to max_packet bytes by the settings of the link
+abbrev pub PacketsAreOfTheLink : Type 0
+PacketsAreOfTheLink = (t : State) (x : Sent) → Sends t x → All (λ (p : LivePacket). IsAccepted x.given.channels x.settings.max_packet p) x.given.packets
 
 -- What was taken of a lane is the first of its file, whatever words follow: where all words fill the metaframes that were begun. Once the
 -- lanes have ended none follow.

@@ -4,7 +4,7 @@ use Rattle.lk_base.specs.declared.word.Word.{Word}
 use Rattle.lk_base.specs.declared.shape.Shape.{Shape}
 use Rattle.lk_base.specs.Link.{Settings, group_of}
 use Rattle.live_stream.specs.LiveStream.{Given, IsWholeLiveStream}
-use Rattle.live_stream.specs.Gives.{Gives, closed_at, flow_added, local_added, most_words, nothing_given, packet_added}
+use Rattle.live_stream.specs.Gives.{Gives, closed_at, flow_added, local_added, most_words, nothing_given, packet_added, packets_closed_in}
 use Rattle.live_lanes.specs.Standing.{Progress, Stands, progress, took}
 use Rattle.live_end.specs.States.{State}
 
@@ -25,7 +25,7 @@ abbrev pub progress_of : Sent → Progress
 progress_of x = progress x.settings x.words x.columns x.taken
 
 abbrev pub nothing_sent : Settings → Shape → List ℕ → List ℕ → Sent
-nothing_sent settings shape channels entries = sent settings (nothing_given shape channels entries) [] 0 (λ i. [])
+nothing_sent settings shape channels entries = sent settings (nothing_given shape settings.max_packet channels entries) [] 0 (λ i. [])
 
 -- something more is given
 abbrev pub with_given : Given → Sent → Sent
@@ -40,6 +40,11 @@ with_flow word x = with_given (flow_added x.given x.words word) x
 abbrev pub with_local : ℕ → Bool → Sent → Sent
 with_local channel on x = with_given (local_added x.given x.words channel on) x
 
+-- no packet is given any more
+abbrev pub with_packets_closed : Sent → Sent
+with_packets_closed x = with_given (packets_closed_in x.given) x
+
+-- nothing is given any more
 abbrev pub with_close : Sent → Sent
 with_close x = with_given (closed_at x.given x.words) x
 
@@ -60,6 +65,8 @@ pub record Sends (t : State) (x : Sent) : Type 0 where
   pub stands : Stands t.lanes (progress_of x)
   pub row : length t.row ≡ x.settings.lanes
   pub group : x.given.shape.group ≡ group_of x.settings
+  -- the longest packet that is accepted is that of the link
+  pub longest : x.given.max_packet ≡ x.settings.max_packet
   -- as long as payload words of a metaframe are to come, the stream is not whole
   pub goes : 1 ≤ t.lanes.place → t.lanes.place + 1 < x.settings.metaframe → IsWholeLiveStream x.given x.words → ⊥
   -- the lanes end with the stream

@@ -1,5 +1,5 @@
 //! The laws on what a live transmitter sends.
-ghost use Rattle.live_end.specs.Laws.{AllTakenAreTheFile, TakenAreFirst, WordsAreLive};
+ghost use Rattle.live_end.specs.Laws.{AllTakenAreTheFile, PacketsAreOfTheLink, TakenAreFirst, WordsAreLive};
 
 /// The words that are made are the live stream of what was given: each is right by what was given before it.
 pub fn words_are_live()
@@ -24,3 +24,8 @@ pub fn all_taken_are_the_file()
     // proof: it is that of the lanes
     live_lanes::laws::all_taken_are_the_file();
 }
+
+/// Each packet that was given is one of a listed channel, and has 1 to `max_packet` bytes by the settings of the link.
+pub fn packets_are_of_the_link()
+    ensures { PacketsAreOfTheLink }
+{}

@@ -3,7 +3,9 @@
 
 pub mod laws;
 mod row;
+mod status;
 mod transmitter;
 
-pub use live_stream::{Closed, Counts, Refused};
+pub use live_stream::{Closed, Counts, LocalRefused, Refused};
+pub use status::Status;
 pub use transmitter::LiveTransmitter;

@@ -5,12 +5,13 @@ ghost use Rattle.live_stream.specs.LiveStream.{IsWholeLiveStream};
 ghost use Rattle.live_stream.specs.Gives.{most_words};
 ghost use Rattle.live_lanes.specs.Lanes.{AreLonger, has_room, waiting_on, wants_payload};
 ghost use Rattle.tx_end.specs.Whole.{IsShapeOf};
-ghost use Rattle.live_end.specs.Calls.{AreCounted, AreMade, IsClose, IsFilled, IsFlow, IsLocal, IsPacket, IsStill, IsTake, MakesRow, MakesWords, Rests};
+ghost use Rattle.live_end.specs.Calls.{AreCounted, AreMade, IsClose, IsFilled, IsFlow, IsLocal, IsPacket, IsPacketsClose, IsStatusOf, IsStill, IsTake, MakesRow, MakesWords, Rests};
 ghost use Rattle.live_end.specs.Sending.{IsOver, Sends, Sent, nothing_sent, with_columns};
 
 use crate::row::next_row;
+use crate::status::Status;
 use live_lanes::LiveLanes;
-use live_stream::{Closed, Counts, LiveScheduler, MOST_WORDS, Refused};
+use live_stream::{Closed, Counts, LiveScheduler, LocalRefused, MOST_WORDS, Refused};
 use lk_base::{Link, OutOfMemory, Shape, Word};
 use std::alloc::Global;
 use std::marker::Model;
@@ -56,7 +57,7 @@ impl LiveTransmitter {
         requires distinct { AllPairs (λ x y. x ≡ y → ⊥) channels.now }
         ensures { IfOk result (λ t. Sends t (nothing_sent link.now shape channels.now entries.now) × (t.lanes.ended ≡ false)) }
     {
-        let scheduler = LiveScheduler::new(alloc, shape, channels, entries)?;
+        let scheduler = LiveScheduler::new(alloc, shape, link.max_packet(), channels, entries)?;
         let lanes = LiveLanes::new(alloc, link)?;
         let row = vec![in alloc; Word::Data(0); link.lanes() as usize]?;
         Ok(LiveTransmitter {
@@ -77,8 +78,8 @@ impl LiveTransmitter {
     ///
     /// # Errors
     ///
-    /// In this order: it was closed, the channel is not listed, the packet has no bytes or more than `LONGEST_PACKET`, the channel would be
-    /// given more than `MOST_BYTES`, memory ran out. Nothing has changed then.
+    /// In this order: it was closed, or its packets, the channel is not listed, the packet has no bytes or more than the link's
+    /// `max_packet`, the channel would be given more than `MOST_BYTES`, memory ran out. Nothing has changed then.
     pub fn packet(&mut self, channel: u16, bytes: &[u8]) -> Result<(), Refused>
         ensures { IsPacket self.old self.new channel bytes.now result }
     {
@@ -96,18 +97,27 @@ impl LiveTransmitter {
         self.scheduler.flow(word)
     }
 
-    /// Gives a state of this end's own. The control words tell it, from the next one on.
+    /// Gives a state of this end's own. The control words tell it, from the next one on, if the channel has an entry in the calendar.
     ///
     /// # Errors
     ///
-    /// It was closed. Nothing has changed then.
-    pub fn local(&mut self, channel: u16, on: bool) -> Result<(), Closed>
+    /// In this order: it was closed, the channel is not listed. Nothing has changed then.
+    pub fn local(&mut self, channel: u16, on: bool) -> Result<(), LocalRefused>
         ensures { IsLocal self.old self.new channel on result }
     {
         self.scheduler.local(channel, on)
     }
 
-    /// Closes it: no packet and no row is taken from now on, and the lanes end once what may be sent is sent. Of one that was closed
+    /// Closes its packets: none is accepted from now on. Rows are, and the lanes go on. Of packets that were closed it changes nothing.
+    pub fn close_packets(&mut self)
+        ensures { IsPacketsClose self.old self.new }
+    {
+        // proof: the words that are right stay the same
+        live_stream::laws::closed_packets_change_no_word();
+        self.scheduler.close_packets();
+    }
+
+    /// Closes it: no packet and no row is accepted from now on, and the lanes end once what may be sent is sent. Of one that was closed
     /// it changes nothing.
     pub fn finish(&mut self)
         ensures { IsClose self.old self.new }
@@ -128,6 +138,21 @@ impl LiveTransmitter {
         ensures { AreMade self.now result }
     {
         self.scheduler.slot()
+    }
+
+    /// How a lane stands, and what is left to send, or `None` where the lane is not there. It takes time for each channel.
+    pub fn status(&self, lane: u32) -> Option<Status>
+        ensures { IsStatusOf self.now lane result }
+    {
+        if lane as usize >= self.lanes.count() {
+            return None;
+        }
+        Some(Status {
+            waiting: self.lanes.waiting(lane) as u64,
+            left: self.scheduler.left(),
+            ended: self.lanes.has_ended(),
+            held: !self.lanes.has_room(),
+        })
     }
 
     // Makes the next word of each lane, a payload word.

@@ -172,7 +172,7 @@ data_step s range g w d h going below is =
           packets = λ i p r. let b = k.given_by.packets i p r in omega (arith, b, l);
           flow = λ i p r. let b = k.given_by.flow i p r in omega (arith, b, l);
           local = λ i p r. let b = k.given_by.local i p r in omega (arith, b, l);
-          listed = k.given_by.listed;
+          accepted = k.given_by.accepted;
         };
         slot = ap (λ n. n + 1) k.slot ∙ sym l;
         right = subst (AreRight g) (sym same) k.right;
@@ -188,6 +188,9 @@ data_step s range g w d h going below is =
         end = k.end ∙ ap (end_format (source_of g)) (sym same);
         spaces = subst (SpacesFit s.free s.short) (sym same) k.spaces;
       };
+      distinct = h.distinct;
+      longest = h.longest;
+      packets_closed = h.packets_closed;
       closed = h.closed;
       closed_by = λ c e. let b = h.closed_by c e in omega (arith, b, l);
       finish = subst (λ (n : ℕ). HasEnd s.finish g n (planned new (w ++ Data d ∷ []))) (sym l) (subst (HasEnd s.finish g (length w + 1)) (sym same) (end_data s.finish g (length w) (planned s w) (not_last s g w h going) h.finish));
@@ -239,12 +242,15 @@ module _ (s mid new : LiveScheduler) (g : Given) (w : List Word) (x : ℕ) (h : 
       by None e end = by_ready e next refl
 
   -- the scheduler after a block, the ending being known before it
-  pub control_step : IsFirstReady (told_back g.entries g.flow) s.turns.items next → mid.closed ≡ s.closed → mid.finish ≡ f → Holds new g (w ++ Control x ∷ []) × AddsBlock mid new w x → Gives new g (w ++ Control x ∷ [])
-  control_step first same_closed found adds =
+  pub control_step : IsFirstReady (told_back g.entries g.flow) s.turns.items next → mid.max_packet ≡ s.max_packet → mid.packets_closed ≡ s.packets_closed → mid.closed ≡ s.closed → mid.finish ≡ f → Holds new g (w ++ Control x ∷ []) × AddsBlock mid new w x → Gives new g (w ++ Control x ∷ [])
+  control_step first same_longest same_packets same_closed found adds =
       let l : length (w ++ Control x ∷ []) ≡ length w + 1 = length_push w (Control x) in
       let a = adds.1 in
       record {
         words = adds.0;
+        distinct = h.distinct;
+        longest = a.accepts.0 ∙ same_longest ∙ h.longest;
+        packets_closed = a.accepts.1 ∙ same_packets ∙ h.packets_closed;
         closed = a.end.0 ∙ same_closed ∙ h.closed;
         closed_by = λ c e. let b = h.closed_by c e in omega (arith, b, l);
         finish = subst (λ (o : Option ℕ). HasEnd o g (length (w ++ Control x ∷ [])) (planned new (w ++ Control x ∷ []))) (sym (a.end.1 ∙ found))

@@ -100,10 +100,10 @@ module _ (channels : List ℕ) (told : List Told) (w : List Word) (x : ℕ) (ds 
 pub apart : (channels : List ℕ) (told : List Told) (w : List Word) (line : List ℕ) → AreInTurn channels told w line → AllPairs (λ (a b : ℕ). a ≡ b → ⊥) line
 apart channels told w line h i j d l k e = not_itself (key_by told w (get_or line j d)) (ap (λ n. mark_cmp (key_by told w n) (key_by told w (get_or line j d))) (sym e) ∙ h.ordered i j d l k)
 
-not_first : (x : ℕ) (xs : List ℕ) → AllPairs (λ (a b : ℕ). a ≡ b → ⊥) (x ∷ xs) → Contains xs x → ⊥
+pub not_first : (x : ℕ) (xs : List ℕ) → AllPairs (λ (a b : ℕ). a ≡ b → ⊥) (x ∷ xs) → Contains xs x → ⊥
 not_first x xs d i = let k : ℕ = i.0 in let low : 0 < suc k = omega arith in let high : suc k < length (x ∷ xs) = omega (arith, i.1) in d 0 (suc k) x low high (sym i.2)
 
-rest_apart : (x : ℕ) (xs : List ℕ) → AllPairs (λ (a b : ℕ). a ≡ b → ⊥) (x ∷ xs) → AllPairs (λ (a b : ℕ). a ≡ b → ⊥) xs
+pub rest_apart : (x : ℕ) (xs : List ℕ) → AllPairs (λ (a b : ℕ). a ≡ b → ⊥) (x ∷ xs) → AllPairs (λ (a b : ℕ). a ≡ b → ⊥) xs
 rest_apart x xs d i j e l k = d (suc i) (suc j) e (omega arith) (omega arith)
 
 -- the order without the one at a place is the order without its channel

@@ -12,6 +12,8 @@ mod EmptyQueues
 mod Steps
 mod Ends
 mod More
+mod LeftInAll
 mod Refusals
+mod Listed
 mod Making
 mod ExamplesHold

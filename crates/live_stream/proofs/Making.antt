@@ -1,5 +1,5 @@
 -- A scheduler that was given nothing yet.
-use Rattle.std.proofs.Common.{◌≡◌, inl, inr, ℕ, ◌*◌, ◌/◌, ◌<◌, ◌≤◌, List, [], length, map, take, drop, get_or, Option, Some, None, All, refl, sym, ap, ap₂, subst, ◌∙◌, arith}
+use Rattle.std.proofs.Common.{◌≡◌, inl, inr, ℕ, ◌*◌, ◌/◌, ◌<◌, ◌≤◌, List, [], length, map, take, drop, get_or, false, Option, Some, None, All, refl, sym, ap, ap₂, subst, ◌∙◌, arith}
 use Rattle.std.specs.List.{AllPairs}
 use Rattle.std.specs.List.Sorted.{IsNonDecreasing, IsPermutation}
 use Rattle.std.proofs.lemmas.Bool.{cases_lt}
@@ -27,7 +27,7 @@ use Rattle.live_stream.specs.Waiting.{IsEmpty}
 use Rattle.live_stream.proofs.Left.{empty_left}
 
 -- the numbers of a scheduler that was given nothing
-pub record IsFresh (s : LiveScheduler) (shape : Shape) : Type 0 where
+pub record IsFresh (s : LiveScheduler) (shape : Shape) (max_packet : ℕ) : Type 0 where
   pub sizes : s.sizes ≡ sizes_of shape
   pub short : s.short ≡ shape.burst_short / 8
   pub group : s.group ≡ shape.group
@@ -37,6 +37,8 @@ pub record IsFresh (s : LiveScheduler) (shape : Shape) : Type 0 where
   pub given : s.given ≡ 0
   pub eop : s.eop ≡ Going
   pub free : s.free ≡ 0
+  pub longest : s.max_packet ≡ max_packet
+  pub packets_closed : s.packets_closed ≡ false
   pub closed : s.closed ≡ None
   pub finish : s.finish ≡ None
 
@@ -54,18 +56,18 @@ first_turns channels line distinct same rising = record {
     below : (a b : ℕ) → a ≤ b → (a ≡ b → ⊥) → a < b
     below a b h ne = elim (cases_lt a b) [ inl l ↦ l | inr g ↦ absurd (ne (let s : a ≡ b = omega arith in s)) ]
 
-module _ (s : LiveScheduler) (shape : Shape) (channels entries : List ℕ) (fresh : IsFresh s shape) where
+module _ (s : LiveScheduler) (shape : Shape) (max_packet : ℕ) (channels entries : List ℕ) (fresh : IsFresh s shape max_packet) where
   none : planned s [] ≡ []
   none = ap₂ (λ g n. map Data (drop g (take n s.run.items))) fresh.given fresh.count
 
   pub nothing_yet : AllPairs (λ (x y : ℕ). x ≡ y → ⊥) channels → Stands s.incoming entries [] → StandsOut s.outgoing entries [] 0 → IsPermutation channels (channels_of s.turns.items) → IsNonDecreasing (channels_of s.turns.items)
-      → All IsEmpty s.turns.items → length s.run.items ≡ 512 → Gives s (nothing_given shape channels entries) []
+      → All IsEmpty s.turns.items → length s.run.items ≡ 512 → Gives s (nothing_given shape max_packet channels entries) []
   nothing_yet distinct incoming outgoing same rising empty run =
-      let g : Given = nothing_given shape channels entries in
+      let g : Given = nothing_given shape max_packet channels entries in
       record {
         words = record {
           settings = record { sizes = fresh.sizes; short = fresh.short; group = fresh.group; warm = fresh.warm };
-          given_by = record { packets = All-nil _; flow = All-nil _; local = All-nil _; listed = All-nil _ };
+          given_by = record { packets = All-nil _; flow = All-nil _; local = All-nil _; accepted = All-nil _ };
           slot = fresh.slot;
           right = subst (AreRight g) (sym none) (record { sized = λ t word at. no_words t word at; data_in_bursts = λ t x at. no_words t (Data x) at; chunks = λ t x at b. no_words t (Control x) at; controls = λ t x at. no_words t (Control x) at });
           begun = λ t x at. no_words t (Control x) (subst (λ (v : List Word). IsAt v t (Control x)) none at);
@@ -80,6 +82,9 @@ module _ (s : LiveScheduler) (shape : Shape) (channels entries : List ℕ) (fres
           end = ap eop_format fresh.eop ∙ sym (no_end (source_of g)) ∙ sym (ap (end_format (source_of g)) none);
           spaces = record { near = λ t l e. absurd (let n = ap length none in omega (arith, l, n)); far = inl fresh.free };
         };
+        distinct = distinct;
+        longest = fresh.longest;
+        packets_closed = fresh.packets_closed;
         closed = fresh.closed;
         closed_by = λ c e. let no : None ≡ Some c = e in cc;
         finish = subst (λ (f : Option ℕ). HasEnd f g 0 (planned s [])) (sym fresh.finish) (λ closed z e ending. let no : None ≡ Some closed = e in cc);

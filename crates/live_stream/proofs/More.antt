@@ -1,5 +1,5 @@
 -- The scheduler where a packet, a row or the close was given.
-use Rattle.std.proofs.Common.{cond, add-zero, ◌≡◌, ◌≢◌, inl, inr, ℕ, zero, suc, ◌+◌, ◌-◌, ◌<◌, ◌≤◌, ◌==◌, nat_eq, nat_lt, Bool, true, false, List, [], ◌∷◌, ◌++◌, length, map, filter, take, get_or, Option, Some, None, if◌then◌else◌, slice_get, is_some, Contains, All, refl, sym, ap, ap₂, subst, ◌∙◌, arith, append-nil, length-append, eqb-true, Vec, Global}
+use Rattle.std.proofs.Common.{cond, add-zero, ◌≡◌, ◌≢◌, ◌↔◌, inl, inr, ℕ, zero, suc, ◌+◌, ◌-◌, ◌<◌, ◌≤◌, ◌==◌, nat_eq, nat_lt, Bool, true, false, List, [], ◌∷◌, ◌++◌, length, map, filter, take, get_or, Option, Some, None, if◌then◌else◌, slice_get, is_some, Contains, All, refl, sym, ap, ap₂, subst, ◌∙◌, arith, append-nil, length-append, eqb-true, Vec, Global}
 use Rattle.std.specs.Option.{option_map_or, option_or}
 use Rattle.std.proofs.Math.ListN.{set}
 use Rattle.std.proofs.lemmas.Bool.Decides.{nat_tests}
@@ -19,7 +19,7 @@ use Rattle.stream_model.proofs.Growing.{no_bursts}
 use Rattle.std.proofs.lemmas.List.Sums.{sum_by-append}
 use Rattle.burst_scheduler.specs.Queues.{chunks_in}
 use Rattle.burst_scheduler.specs.declared.sizes.BurstSizes.{BurstSizes}
-use Rattle.live_stream.specs.LiveStream.{LivePacket, Given, as_sent, with_more}
+use Rattle.live_stream.specs.LiveStream.{LivePacket, Given, IsLiveEnding, IsLiveStream, IsWholeLiveStream, as_sent, with_more}
 use Rattle.live_stream.specs.Waiting.{AreCounts, HasLeft, bytes_in, channels_of}
 use Rattle.live_stream.specs.Turns.{AreInTurn, HaveLeft}
 use Rattle.std.specs.List.{flat_map}
@@ -31,7 +31,7 @@ use Rattle.calendar.specs.declared.outgoing.CalendarOut.{CalendarOut}
 use Rattle.burst_scheduler.proofs.Filling.{IsInRange}
 use Rattle.live_stream.proofs.InTurn.{apart}
 use Rattle.stream_model.specs.BurstStream.{controls_in}
-use Rattle.live_stream.specs.Gives.{AreCountsOf, to_come, Gives, HasEnd, HasChunks, AreRight, packet_added, flow_added, local_added, closed_at, planned, source_of}
+use Rattle.live_stream.specs.Gives.{AreCountsOf, IsAccepted, to_come, Gives, HasEnd, HasChunks, AreRight, packet_added, flow_added, local_added, packets_closed_in, closed_at, planned, source_of}
 use Rattle.live_stream.specs.declared.waiting.Waiting.{Waiting}
 use Rattle.live_stream.specs.declared.scheduler.LiveScheduler.{LiveScheduler}
 use Rattle.live_stream.proofs.Right.{right_later}
@@ -44,7 +44,7 @@ module _ (g : Given) (w v : List Word) (begun : (t x : ℕ) → IsAt v t (Contro
   none_of P = All-nil P
 
   abbrev having_rows : Given → List LivePacket → List FlowRow → List LocalRow → Given
-  having_rows h packets flow local = record { shape = h.shape; channels = h.channels; entries = h.entries; packets = packets; flow = flow; local = local; closed = h.closed }
+  having_rows h packets flow local = record h { packets = packets; flow = flow; local = local }
 
   pub right_packet : (channel : ℕ) (bytes : List ℕ) → AreRight (packet_added g w channel bytes) v
   right_packet channel bytes =
@@ -165,6 +165,33 @@ module _ (turns : List Waiting) (at : ℕ) (old new : Waiting) (below : at < len
         | inr ne ↦ subst Q (sym (get_or-set_other turns at k new d ne)) (others k d inside ne (all k d inside))
       ]
 
+-- ---- the end of a stream whose packets are closed
+
+ending_same : (g : Given) (closed : ℕ) (v : List Word) (z : ℕ) → IsLiveEnding g closed v z → IsLiveEnding (packets_closed_in g) closed v z
+ending_same g closed v z e = record { after = e.after; control = e.control; warm = e.warm; not_ready = e.not_ready }
+
+ending_back : (g : Given) (closed : ℕ) (v : List Word) (z : ℕ) → IsLiveEnding (packets_closed_in g) closed v z → IsLiveEnding g closed v z
+ending_back g closed v z e = record { after = e.after; control = e.control; warm = e.warm; not_ready = e.not_ready }
+
+live_same : (g : Given) (v : List Word) → IsLiveStream g v → IsLiveStream (packets_closed_in g) v
+live_same g v l = record { sized = l.sized; data_in_bursts = l.data_in_bursts; warmup = l.warmup; chunks = l.chunks; controls = l.controls }
+
+live_back : (g : Given) (v : List Word) → IsLiveStream (packets_closed_in g) v → IsLiveStream g v
+live_back g v l = record { sized = l.sized; data_in_bursts = l.data_in_bursts; warmup = l.warmup; chunks = l.chunks; controls = l.controls }
+
+pub live_either : (g : Given) (v : List Word) → IsLiveStream g v ↔ IsLiveStream (packets_closed_in g) v
+live_either g v = (live_same g v, live_back g v)
+
+pub whole_either : (g : Given) (v : List Word) → IsWholeLiveStream g v ↔ IsWholeLiveStream (packets_closed_in g) v
+whole_either g v = (
+  λ k. let (closed, z, is, least, long) = k.finish in record { live = live_same g v k.live; finish = (closed, z, is, (ending_same g closed v z least.0, λ m below e. least.1 m below (ending_back g closed v m e)), long) },
+  λ k. let (closed, z, is, least, long) = k.finish in record { live = live_back g v k.live; finish = (closed, z, is, (ending_back g closed v z least.0, λ m below e. least.1 m below (ending_same g closed v m e)), long) },
+)
+
+end_same : (g : Given) (made : ℕ) (v : List Word) (f : Option ℕ) → HasEnd f g made v → HasEnd f (packets_closed_in g) made v
+end_same g made v None goes = λ closed z is e. goes closed z is (ending_back g closed v z e)
+end_same g made v (Some z) h = ((h.0.0, h.0.1, (ending_same g h.0.0 v z h.0.2.0, λ m below e. h.0.2.1 m below (ending_back g h.0.0 v m e))), h.1)
+
 -- ---- the calls
 
 abbrev pub with_turns : (s : LiveScheduler) → Vec Waiting Global → IsInRange s.eop → LiveScheduler
@@ -172,8 +199,8 @@ with_turns s turns range = record s { turns = turns; end_in_range = range }
 
 module _ (s : LiveScheduler) (g : Given) (w : List Word) (h : Gives s g w) where
   pub packet_step : (turns : Vec Waiting Global) (range : IsInRange s.eop) (at : ℕ) (old new : Waiting) (channel : ℕ) (bytes : List ℕ) → turns.items ≡ set s.turns.items at new → at < length s.turns.items → old ≡ get_or s.turns.items at old → new.channel ≡ old.channel
-      → old.channel ≡ channel → ((sizes : BurstSizes) (packets : List (List ℕ)) (done : ℕ) → HasLeft old sizes packets done → HasLeft new sizes (packets ++ bytes ∷ []) done) → g.closed ≡ None → Gives (with_turns s turns range) (packet_added g w channel bytes) w
-  packet_step turns range at old new channel bytes is below old_is same named more open_still =
+      → old.channel ≡ channel → ((sizes : BurstSizes) (packets : List (List ℕ)) (done : ℕ) → HasLeft old sizes packets done → HasLeft new sizes (packets ++ bytes ∷ []) done) → 1 ≤ length bytes → length bytes ≤ g.max_packet → g.closed ≡ None → Gives (with_turns s turns range) (packet_added g w channel bytes) w
+  packet_step turns range at old new channel bytes is below old_is same named more some short open_still =
       let k = h.words in
       let c : Given = packet_added g w channel bytes in
       let v : List Word = planned s w in
@@ -188,7 +215,7 @@ module _ (s : LiveScheduler) (g : Given) (w : List Word) (h : Gives s g w) where
             packets = All-push (λ (q : LivePacket). q.slot ≤ length w) g.packets p k.given_by.packets (omega arith);
             flow = k.given_by.flow;
             local = k.given_by.local;
-            listed = All-push (λ (q : LivePacket). Contains g.channels q.channel) g.packets p k.given_by.listed ((k.turns.exact channel).0 (subst (Contains (channels_of s.turns.items)) place (Contains-get_or (channels_of s.turns.items) at 0 (omega (arith, below, n)))));
+            accepted = All-push (IsAccepted g.channels g.max_packet) g.packets p k.given_by.accepted (record { listed = (k.turns.exact channel).0 (subst (Contains (channels_of s.turns.items)) place (Contains-get_or (channels_of s.turns.items) at 0 (omega (arith, below, n)))); some = some; short = short });
           };
           slot = k.slot;
           right = right_packet g w v k.begun k.right channel bytes;
@@ -214,6 +241,9 @@ module _ (s : LiveScheduler) (g : Given) (w : List Word) (h : Gives s g w) where
           end = k.end ∙ sym (same_format g w channel bytes v k.has);
           spaces = k.spaces;
         };
+        distinct = h.distinct;
+        longest = h.longest;
+        packets_closed = h.packets_closed;
         closed = h.closed;
         closed_by = h.closed_by;
         finish = end_kept s.finish h.finish;
@@ -264,6 +294,9 @@ module _ (s : LiveScheduler) (g : Given) (w : List Word) (h : Gives s g w) where
           end = k.end;
           spaces = k.spaces;
         };
+        distinct = h.distinct;
+        longest = h.longest;
+        packets_closed = h.packets_closed;
         closed = h.closed;
         closed_by = h.closed_by;
         finish = h.finish;
@@ -286,7 +319,7 @@ module _ (s : LiveScheduler) (g : Given) (w : List Word) (h : Gives s g w) where
               packets = k.given_by.packets;
               flow = All-push (λ (r : FlowRow). r.slot ≤ length w) g.flow (record { slot = length w; word = word }) k.given_by.flow (omega arith);
               local = k.given_by.local;
-              listed = k.given_by.listed;
+              accepted = k.given_by.accepted;
             };
             slot = k.slot;
             right = right_flow g w (planned s w) k.begun k.right word;
@@ -302,6 +335,9 @@ module _ (s : LiveScheduler) (g : Given) (w : List Word) (h : Gives s g w) where
             end = k.end;
             spaces = k.spaces;
           };
+          distinct = h.distinct;
+          longest = h.longest;
+          packets_closed = h.packets_closed;
           closed = h.closed;
           closed_by = h.closed_by;
           finish = end_open (flow_added g w word) refl s.finish h.finish;
@@ -318,7 +354,7 @@ module _ (s : LiveScheduler) (g : Given) (w : List Word) (h : Gives s g w) where
               packets = k.given_by.packets;
               flow = k.given_by.flow;
               local = All-push (λ (r : LocalRow). r.slot ≤ length w) g.local (record { slot = length w; channel = channel; on = on }) k.given_by.local (omega arith);
-              listed = k.given_by.listed;
+              accepted = k.given_by.accepted;
             };
             slot = k.slot;
             right = right_local g w (planned s w) k.begun k.right channel on;
@@ -334,6 +370,9 @@ module _ (s : LiveScheduler) (g : Given) (w : List Word) (h : Gives s g w) where
             end = k.end;
             spaces = k.spaces;
           };
+          distinct = h.distinct;
+          longest = h.longest;
+          packets_closed = h.packets_closed;
           closed = h.closed;
           closed_by = h.closed_by;
           finish = end_open (local_added g w channel on) refl s.finish h.finish;
@@ -347,7 +386,7 @@ module _ (s : LiveScheduler) (g : Given) (w : List Word) (h : Gives s g w) where
         record {
           words = record {
             settings = record { sizes = k.settings.sizes; short = k.settings.short; group = k.settings.group; warm = k.settings.warm };
-            given_by = record { packets = k.given_by.packets; flow = k.given_by.flow; local = k.given_by.local; listed = k.given_by.listed };
+            given_by = record { packets = k.given_by.packets; flow = k.given_by.flow; local = k.given_by.local; accepted = k.given_by.accepted };
             slot = k.slot;
             right = record { sized = k.right.sized; data_in_bursts = k.right.data_in_bursts; chunks = k.right.chunks; controls = k.right.controls };
             begun = k.begun;
@@ -362,6 +401,9 @@ module _ (s : LiveScheduler) (g : Given) (w : List Word) (h : Gives s g w) where
             end = k.end;
             spaces = k.spaces;
           };
+          distinct = h.distinct;
+          longest = h.longest;
+          packets_closed = h.packets_closed;
           closed = ap (λ n. Some n) k.slot ∙ sym is;
           closed_by = λ c e. let same : Some c ≡ Some (length w) = sym e ∙ is in let n : c ≡ length w = cc in omega (arith, n);
           finish = none_yet s.finish h.finish;
@@ -376,9 +418,39 @@ module _ (s : LiveScheduler) (g : Given) (w : List Word) (h : Gives s g w) where
             absurd (let a = ending.after in omega (arith, n, inside, a))
         none_yet (Some z) e = let no : None ≡ Some e.0.0 = sym open_still ∙ e.0.1 in cc
 
+  -- the packets are closed, and the stream goes on as it did
+  pub packets_step : (range : IsInRange s.eop) → Gives (record s { packets_closed = true; end_in_range = range }) (packets_closed_in g) w
+  packets_step range =
+      let k = h.words in
+      record {
+        words = record {
+          settings = record { sizes = k.settings.sizes; short = k.settings.short; group = k.settings.group; warm = k.settings.warm };
+          given_by = record { packets = k.given_by.packets; flow = k.given_by.flow; local = k.given_by.local; accepted = k.given_by.accepted };
+          slot = k.slot;
+          right = record { sized = k.right.sized; data_in_bursts = k.right.data_in_bursts; chunks = k.right.chunks; controls = k.right.controls };
+          begun = k.begun;
+          has = k.has;
+          incoming = k.incoming;
+          outgoing = k.outgoing;
+          turns = k.turns;
+          left = k.left;
+          long = k.long;
+          within = k.within;
+          since = k.since;
+          end = k.end;
+          spaces = k.spaces;
+        };
+        distinct = h.distinct;
+        longest = h.longest;
+        packets_closed = refl;
+        closed = h.closed;
+        closed_by = h.closed_by;
+        finish = end_same g (length w) (planned s w) s.finish h.finish;
+      }
+
   -- a stream that was closed stays as it is
   pub closed_again : (closed : ℕ) → g.closed ≡ Some closed → closed_at g w ≡ g
-  closed_again closed is = ap (λ (o : Option ℕ). record { shape = g.shape; channels = g.channels; entries = g.entries; packets = g.packets; flow = g.flow; local = g.local; closed = o }) (by g.closed is)
+  closed_again closed is = ap (λ (o : Option ℕ). record g { closed = o }) (by g.closed is)
     where
       by : (o : Option ℕ) → o ≡ Some closed → option_or o (Some (length w)) ≡ o
       by None e = cc

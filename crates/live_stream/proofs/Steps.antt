@@ -60,6 +60,7 @@ pub record KeepsForBlock (old new : LiveScheduler) : Type 0 where
   pub slot : new.slot ≡ old.slot + 1
   pub given : new.given ≡ 0
   pub end : (new.closed ≡ old.closed) × (new.finish ≡ old.finish)
+  pub accepts : (new.max_packet ≡ old.max_packet) × (new.packets_closed ≡ old.packets_closed)
 
 pub record IsBlock (new : LiveScheduler) (g : Given) (w : List Word) (x : ℕ) (ds : List ℕ) : Type 0 where
   pub run : take new.count new.run.items ≡ ds
@@ -105,7 +106,7 @@ block_step s new g w x ds h none k is =
           packets = λ i d r. let b = h.given_by.packets i d r in omega (arith, b, l);
           flow = λ i d r. let b = h.given_by.flow i d r in omega (arith, b, l);
           local = λ i d r. let b = h.given_by.local i d r in omega (arith, b, l);
-          listed = h.given_by.listed;
+          accepted = h.given_by.accepted;
         };
         slot = k.slot ∙ ap (λ n. n + 1) h.slot ∙ sym l;
         right = subst (AreRight g) (sym words) (right_block g w x ds (subst (AreRight g) none h.right) is.fits is.data_fit
@@ -122,7 +123,7 @@ block_step s new g w x ds h none k is =
         end = is.end ∙ sym (end_format_block (source_of g) w x ds) ∙ ap (end_format (source_of g)) (sym words);
         spaces = subst (SpacesFit new.free new.short) (sym words) is.spaces;
       },
-      record { run = ds; words = words; end = k.end },
+      record { run = ds; words = words; end = k.end; accepts = k.accepts },
     )
 
 -- ---- which channels are ready

@@ -1,6 +1,7 @@
 -- What is given while words are made, worked.
-use Rattle.std.specs.Prelude.{◌≡◌, ℕ, List, [], ◌∷◌, length, map, Some, None}
+use Rattle.std.specs.Prelude.{◌≡◌, ℕ, true, false, List, [], ◌∷◌, length, map, Some, None}
 use Rattle.std.specs.declared.cmp.Ordering.TheVariants.{Less}
+use Rattle.lk_base.specs.Limits.{longest_packet}
 use Rattle.lk_base.specs.declared.word.Word.{Word}
 use Rattle.stream_model.specs.BurstStream.{Source, burst_mark, chunks_of, key, mark_cmp}
 use Rattle.stream_model.specs.StreamExamples.{first_on_one, first_on_three, idle, in_turn, in_turn_words, one_packet, one_packet_words, two_channels}
@@ -14,11 +15,13 @@ given_after slot channel bytes = record { slot = slot; channel = channel; bytes 
 abbrev pub at_once : Source → ℕ → Given
 at_once source closed = record {
   shape = source.shape;
+  max_packet = longest_packet;
   channels = source.channels;
   entries = source.entries;
   packets = map (λ (p : ℕ × List ℕ). given_after 0 p.0 p.1) source.packets;
   flow = source.flow;
   local = source.local;
+  packets_closed = true;
   closed = Some closed;
 }
 
@@ -26,11 +29,13 @@ at_once source closed = record {
 abbrev pub fed_late : Given
 fed_late = record {
   shape = two_channels.shape;
+  max_packet = longest_packet;
   channels = two_channels.channels;
   entries = two_channels.entries;
   packets = given_after 0 1 (5 ∷ []) ∷ given_after 0 3 (6 ∷ []) ∷ given_after 0 3 (7 ∷ []) ∷ given_after 4 1 (8 ∷ 9 ∷ []) ∷ [];
   flow = [];
   local = [];
+  packets_closed = false;
   closed = None;
 }
 

@@ -1,10 +1,10 @@
 -- What a scheduler was given and which words it made of it.
-use Rattle.std.specs.Prelude.{◌≡◌, ◌⊎◌, ℕ, ◌+◌, ◌*◌, ◌/◌, ◌^◌, ◌<◌, ◌≤◌, Bool, true, false, not, List, [], ◌∷◌, ◌++◌, length, map, take, drop, All, Contains, Option, Some, None, is_some, if◌then◌else◌, nat_lt, nat_eq}
+use Rattle.std.specs.Prelude.{◌≡◌, ◌⊎◌, ℕ, ◌+◌, ◌-◌, ◌*◌, ◌/◌, ◌^◌, ◌<◌, ◌≤◌, min, Bool, true, false, not, ◌||◌, List, [], ◌∷◌, ◌++◌, length, map, take, drop, sum_by, All, Contains, Option, Some, None, is_some, if◌then◌else◌, nat_lt, nat_eq}
+use Rattle.std.specs.List.{AllPairs}
 use Rattle.std.specs.Option.{option_or}
 use Rattle.lk_base.specs.Words.{payload, block}
 use Rattle.lk_base.specs.Fields.{burst_field, channel_number}
 use Rattle.lk_base.specs.Least.{IsLeast}
-use Rattle.lk_base.specs.Limits.{longest_packet}
 use Rattle.lk_base.specs.declared.word.Word.{Word}
 use Rattle.lk_base.specs.declared.word.Word.TheVariants.{Data, Control}
 use Rattle.lk_base.specs.declared.shape.Shape.{Shape}
@@ -19,9 +19,11 @@ use Rattle.calendar.specs.Outgoing.{StandsOut}
 use Rattle.burst_scheduler.specs.Queues.{sizes_of}
 use Rattle.burst_scheduler.specs.Gives.{SpacesFit}
 use Rattle.live_stream.specs.LiveStream.{LivePacket, Given, as_sent, source_at, IsLiveEnding}
-use Rattle.live_stream.specs.Waiting.{channels_of, bytes_in, most_bytes, AreCounts}
+use Rattle.live_stream.specs.Waiting.{channels_of, bytes_in, ends_in, most_bytes, AreCounts}
 use Rattle.live_stream.specs.declared.counts.Counts.{Counts}
 use Rattle.live_stream.specs.Turns.{AreInTurn, HaveLeft, IsFirstReady}
+use Rattle.live_stream.specs.declared.refused.LocalRefused.{LocalRefused}
+use Rattle.live_stream.specs.declared.refused.LocalRefused.TheVariants as local_refused
 use Rattle.live_stream.specs.declared.refused.Refused.{Refused}
 use Rattle.live_stream.specs.declared.refused.Refused.TheVariants as refused
 use Rattle.live_stream.specs.declared.scheduler.LiveScheduler.{LiveScheduler}
@@ -29,54 +31,36 @@ use Rattle.live_stream.specs.declared.scheduler.TheConstants.{MOST_WORDS}
 
 -- ---- what calls give
 
-abbrev pub nothing_given : Shape → List ℕ → List ℕ → Given
-nothing_given shape channels entries = record { shape = shape; channels = channels; entries = entries; packets = []; flow = []; local = []; closed = None }
+abbrev pub nothing_given : Shape → ℕ → List ℕ → List ℕ → Given
+nothing_given shape max_packet channels entries = record {
+  shape = shape;
+  max_packet = max_packet;
+  channels = channels;
+  entries = entries;
+  packets = [];
+  flow = [];
+  local = [];
+  packets_closed = false;
+  closed = None;
+}
 
 -- each counts from the next slot on
 abbrev pub packet_added : Given → List Word → ℕ → List ℕ → Given
-packet_added g w channel bytes = record {
-  shape = g.shape;
-  channels = g.channels;
-  entries = g.entries;
-  packets = g.packets ++ record { slot = length w; channel = channel; bytes = bytes } ∷ [];
-  flow = g.flow;
-  local = g.local;
-  closed = g.closed;
-}
+packet_added g w channel bytes = record g { packets = g.packets ++ record { slot = length w; channel = channel; bytes = bytes } ∷ [] }
 
 abbrev pub flow_added : Given → List Word → ℕ → Given
-flow_added g w word = record {
-  shape = g.shape;
-  channels = g.channels;
-  entries = g.entries;
-  packets = g.packets;
-  flow = g.flow ++ record { slot = length w; word = word } ∷ [];
-  local = g.local;
-  closed = g.closed;
-}
+flow_added g w word = record g { flow = g.flow ++ record { slot = length w; word = word } ∷ [] }
 
 abbrev pub local_added : Given → List Word → ℕ → Bool → Given
-local_added g w channel on = record {
-  shape = g.shape;
-  channels = g.channels;
-  entries = g.entries;
-  packets = g.packets;
-  flow = g.flow;
-  local = g.local ++ record { slot = length w; channel = channel; on = on } ∷ [];
-  closed = g.closed;
-}
+local_added g w channel on = record g { local = g.local ++ record { slot = length w; channel = channel; on = on } ∷ [] }
+
+-- the packets are closed
+abbrev pub packets_closed_in : Given → Given
+packets_closed_in g = record g { packets_closed = true }
 
 -- closed at this slot, if it was not before
 abbrev pub closed_at : Given → List Word → Given
-closed_at g w = record {
-  shape = g.shape;
-  channels = g.channels;
-  entries = g.entries;
-  packets = g.packets;
-  flow = g.flow;
-  local = g.local;
-  closed = option_or g.closed (Some (length w));
-}
+closed_at g w = record g { closed = option_or g.closed (Some (length w)) }
 
 -- the words that one call makes
 abbrev pub words_of : Option Word → List Word
@@ -112,12 +96,18 @@ pub record AreRight (g : Given) (w : List Word) : Type 0 where
 abbrev pub HasChunks : Source → List Word → Type 0
 HasChunks source w = (t x : ℕ) → IsAt w t (Control x) → burst_field x ≡ 1 → bursts_in (take t w) (channel_number true x) < length (chunks_of source (channel_number true x))
 
--- all that was given so far was given after at most so many words, and each packet is one of a listed channel
+-- a packet is one of a listed channel, and has a byte, and at most so many
+pub record IsAccepted (channels : List ℕ) (max_packet : ℕ) (p : LivePacket) : Type 0 where
+  pub listed : Contains channels p.channel
+  pub some : 1 ≤ length p.bytes
+  pub short : length p.bytes ≤ max_packet
+
+-- all that was given so far was given after at most so many words, and each packet is one that is accepted
 pub record AreGivenBy (g : Given) (n : ℕ) : Type 0 where
   pub packets : All (λ (p : LivePacket). p.slot ≤ n) g.packets
   pub flow : All (λ (row : FlowRow). row.slot ≤ n) g.flow
   pub local : All (λ (row : LocalRow). row.slot ≤ n) g.local
-  pub listed : All (λ (p : LivePacket). Contains g.channels p.channel) g.packets
+  pub accepted : All (λ (p : LivePacket). IsAccepted g.channels g.max_packet p) g.packets
 
 -- ---- the end
 
@@ -164,17 +154,22 @@ pub record Holds (s : LiveScheduler) (g : Given) (w : List Word) : Type 0 where
 -- the scheduler was given this, and made these words
 pub record Gives (s : LiveScheduler) (g : Given) (w : List Word) : Type 0 where
   pub words : Holds s g w
+  -- no channel is listed twice
+  pub distinct : AllPairs (λ (a b : ℕ). a ≡ b → ⊥) g.channels
+  pub longest : s.max_packet ≡ g.max_packet
+  pub packets_closed : s.packets_closed ≡ g.packets_closed
   pub closed : s.closed ≡ g.closed
   pub closed_by : (c : ℕ) → g.closed ≡ Some c → c ≤ length w
   pub finish : HasEnd s.finish g (length w) (planned s w)
 
 -- ---- one control word more
 
--- the end is as it was, and the words planned are those made before and a block
+-- the end and what is accepted are as they were, and the words planned are those made before and a block
 pub record AddsBlock (old new : LiveScheduler) (w : List Word) (x : ℕ) : Type 0 where
   pub run : List ℕ
   pub words : planned new (w ++ Control x ∷ []) ≡ w ++ block x run
   pub end : (new.closed ≡ old.closed) × (new.finish ≡ old.finish)
+  pub accepts : (new.max_packet ≡ old.max_packet) × (new.packets_closed ≡ old.packets_closed)
 
 abbrev pub as_control : ℕ → Word
 as_control x = Control x
@@ -207,6 +202,14 @@ pub record IsBurstTime (s : LiveScheduler) (told : List Told) (at : ℕ) : Type 
 abbrev pub AreCountsOf : Counts → Given → List Word → ℕ → Type 0
 AreCountsOf counts g w channel = AreCounts counts (packets_of (source_of g) channel) (take (bursts_in w channel) (chunks_of (source_of g) channel))
 
+-- the packets that were given to a channel, but for those whose last burst is one of these words
+abbrev pub packets_left : Given → List Word → ℕ → ℕ
+packets_left g w channel = length (packets_of (source_of g) channel) - ends_in (take (bursts_in w channel) (chunks_of (source_of g) channel))
+
+-- those of all listed channels, or the most that 64 bits can say
+abbrev pub left_in_all : Given → List Word → ℕ
+left_in_all g w = min (sum_by (packets_left g w) g.channels) (2 ^ 64 - 1)
+
 -- ---- refusals
 
 -- whether a channel is one of these
@@ -214,12 +217,23 @@ abbrev pub is_among : List ℕ → ℕ → Bool
 is_among [] channel = false
 is_among (c ∷ channels) channel = if nat_eq c channel then true else is_among channels channel
 
+-- no packet is given any more: the packets were closed, or the stream
+abbrev pub refuses_packets : Given → Bool
+refuses_packets g = g.packets_closed || is_some g.closed
+
 -- why a packet is refused, but for want of memory
 abbrev pub refusal_of : Given → ℕ → List ℕ → Option Refused
 refusal_of g channel bytes =
-    if is_some g.closed then Some refused.Closed
+    if refuses_packets g then Some refused.Closed
     else if not (is_among g.channels channel) then Some refused.UnknownChannel
     else if nat_lt (length bytes) 1 then Some refused.Empty
-    else if nat_lt longest_packet (length bytes) then Some refused.TooLong
+    else if nat_lt g.max_packet (length bytes) then Some refused.TooLong
     else if nat_lt most_bytes (bytes_in (packets_of (source_of g) channel) + length bytes) then Some refused.TooMuch
+    else None
+
+-- why a state of this end's own is refused
+abbrev pub local_refusal_of : Given → ℕ → Option LocalRefused
+local_refusal_of g channel =
+    if is_some g.closed then Some local_refused.Closed
+    else if not (is_among g.channels channel) then Some local_refused.UnknownChannel
     else None

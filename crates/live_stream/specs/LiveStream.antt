@@ -1,7 +1,7 @@
 -- A payload stream whose packets and rows are given while it is made: what was given and when, the stream of it, and where it
 -- ends once it is closed. A slot is a place in the list of words, from 0; what was given after n words were made has slot n, and
 -- counts from slot n on.
-use Rattle.std.specs.Prelude.{◌≡◌, ℕ, ◌+◌, ◌-◌, ◌*◌, ◌/◌, ◌^◌, ◌<◌, ◌≤◌, List, ◌++◌, length, map, take, filter, All, nat_le, Option, Some}
+use Rattle.std.specs.Prelude.{◌≡◌, ℕ, ◌+◌, ◌-◌, ◌*◌, ◌/◌, ◌^◌, ◌<◌, ◌≤◌, Bool, List, ◌++◌, length, map, take, filter, All, nat_le, Option, Some}
 use Rattle.lk_base.specs.Words.{payload}
 use Rattle.lk_base.specs.Fields.{burst_field}
 use Rattle.lk_base.specs.Least.{IsLeast}
@@ -18,15 +18,18 @@ pub record LivePacket : Type 0 where
   pub channel : ℕ
   pub bytes : List ℕ
 
--- All that was given: the shape, the listed channels and the calendar's entries at the start; then packets, flow rows and local rows,
--- each list in the order in which they were given; and how many words were made when the stream was closed, if it was.
+-- All that was given: the shape, the most bytes of a packet, the listed channels and the calendar's entries at the start; then packets,
+-- flow rows and local rows, each list in the order in which they were given; whether the packets were closed, so that none is given
+-- after them; and how many words were made when the stream was closed, if it was.
 pub record Given : Type 0 where
   pub shape : Shape
+  pub max_packet : ℕ
   pub channels : List ℕ
   pub entries : List ℕ
   pub packets : List LivePacket
   pub flow : List FlowRow
   pub local : List LocalRow
+  pub packets_closed : Bool
   pub closed : Option ℕ
 
 -- a packet with its channel
@@ -85,15 +88,7 @@ pub record IsWholeLiveStream (given : Given) (w : List Word) : Type 0 where
 
 -- the same with more packets and rows, after all others
 abbrev pub with_more : Given → List LivePacket → List FlowRow → List LocalRow → Given
-with_more given packets flow local = record {
-  shape = given.shape;
-  channels = given.channels;
-  entries = given.entries;
-  packets = given.packets ++ packets;
-  flow = given.flow ++ flow;
-  local = given.local ++ local;
-  closed = given.closed;
-}
+with_more given packets flow local = record given { packets = given.packets ++ packets; flow = given.flow ++ flow; local = given.local ++ local }
 
 -- each of these was given after so many words
 pub record AreGivenFrom (slot : ℕ) (packets : List LivePacket) (flow : List FlowRow) (local : List LocalRow) : Type 0 where

@@ -1,5 +1,5 @@
 -- What a queue of owned packets stands for.
-use Rattle.std.specs.Prelude.{◌≡◌, ℕ, ◌+◌, Bool, nat_lt, ◌<◌, ◌≤◌, List, [], ◌∷◌, ◌++◌, length, map, take, drop, sum_by, count_by, All}
+use Rattle.std.specs.Prelude.{◌≡◌, ℕ, ◌+◌, ◌-◌, Bool, nat_lt, ◌<◌, ◌≤◌, List, [], ◌∷◌, ◌++◌, length, map, take, drop, sum_by, count_by, All}
 use Rattle.stream_model.specs.BurstStream.{Chunk}
 use Rattle.burst_scheduler.specs.Queues.{chunks_in, chunks_behind}
 use Rattle.burst_scheduler.specs.declared.sizes.BurstSizes.{BurstSizes}
@@ -42,6 +42,10 @@ pub record AreCounts (counts : Counts) (packets : List (List ℕ)) (sent : List 
   pub bytes_given : counts.bytes_given ≡ bytes_in packets
   pub packets_sent : counts.packets_sent ≡ ends_in sent
   pub bytes_sent : counts.bytes_sent ≡ bytes_of sent
+
+-- the packets that were given and whose last burst was not sent
+abbrev pub left_of : Counts → ℕ
+left_of counts = counts.packets_given - counts.packets_sent
 
 -- they do not overflow: each packet has a byte, and so has each chunk
 pub record DoFit (counts : Counts) : Type 0 where

@@ -1,3 +1,6 @@
+ghost use Rattle.std.specs.Prelude.{◌≡◌};
+ghost use Rattle.live_stream.specs.Waiting.{left_of};
+
 /// The most bytes that a channel is given.
 pub const MOST_BYTES: u64 = 1_152_921_504_606_846_976;
 
@@ -13,4 +16,13 @@ pub struct Counts {
     pub packets_sent: u64,
     /// The bytes of the bursts that were sent.
     pub bytes_sent: u64,
+}
+
+impl Counts {
+    /// The packets that were given and whose last burst was not sent.
+    pub fn packets_left(&self) -> u64
+        ensures { result ≡ left_of self.now }
+    {
+        self.packets_given.saturating_sub(self.packets_sent)
+    }
 }

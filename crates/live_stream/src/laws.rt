@@ -5,7 +5,7 @@ ghost use Rattle.stream_model.specs.declared.rows.FlowRow.{FlowRow};
 ghost use Rattle.stream_model.specs.declared.rows.LocalRow.{LocalRow};
 ghost use Rattle.duplex_model.specs.OpenStream.{IsOpenStream};
 ghost use Rattle.live_stream.specs.LiveStream.{LivePacket, Given, source_at, warmup_of, with_more, AreGivenFrom, IsGivenAtOnce, IsLiveStream, IsWholeLiveStream};
-ghost use Rattle.live_stream.specs.Gives.{Gives};
+ghost use Rattle.live_stream.specs.Gives.{Gives, IsAccepted, packets_closed_in, refusal_of};
 ghost use Rattle.live_stream.specs.declared.scheduler.LiveScheduler.{LiveScheduler};
 
 /// What was given has at most one live stream of each length, and at most one whole one.
@@ -29,4 +29,17 @@ pub fn given_at_once()
 /// The words that a scheduler made are the live stream of what it was given.
 pub fn words_are_live()
     ensures { (s : LiveScheduler) (g : Given) (w : List Word) → Gives s g w → IsLiveStream g w }
+{}
+
+/// Where the packets are closed, the words that are right stay the same. Of a stream that was closed before, nothing changes: each packet
+/// is refused as it was.
+pub fn closed_packets_change_no_word()
+    ensures live { (given : Given) (w : List Word) → IsLiveStream given w ↔ IsLiveStream (packets_closed_in given) w }
+    ensures whole { (given : Given) (w : List Word) → IsWholeLiveStream given w ↔ IsWholeLiveStream (packets_closed_in given) w }
+    ensures refused { (given : Given) (slot channel : ℕ) (bytes : List ℕ) → given.closed ≡ Some slot → refusal_of (packets_closed_in given) channel bytes ≡ refusal_of given channel bytes }
+{}
+
+/// Each packet that a scheduler was given is one of a listed channel, and has 1 to `max_packet` bytes.
+pub fn packets_are_accepted()
+    ensures { (s : LiveScheduler) (g : Given) (w : List Word) → Gives s g w → All (λ (p : LivePacket). IsAccepted g.channels g.max_packet p) g.packets }
 {}

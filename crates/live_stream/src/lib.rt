@@ -10,5 +10,5 @@ mod turns;
 mod waiting;
 
 pub use counts::{Counts, MOST_BYTES};
-pub use refused::{Closed, Refused};
+pub use refused::{Closed, LocalRefused, Refused};
 pub use scheduler::{LiveScheduler, MOST_WORDS};

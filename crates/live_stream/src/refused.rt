@@ -1,11 +1,11 @@
 use lk_base::OutOfMemory;
 use thiserror::Error;
 
-/// Why a packet is not taken. Nothing has changed then.
+/// Why a packet is not accepted. Nothing has changed then.
 #[derive(Clone, Copy, Debug, PartialEq, Eq, Error)]
 pub enum Refused {
-    /// The stream was closed before.
-    #[error("the stream was closed")]
+    /// The packets were closed before, or the stream.
+    #[error("the packets were closed")]
     Closed,
     /// The channel is not listed.
     #[error("the channel is not listed")]
@@ -13,7 +13,7 @@ pub enum Refused {
     /// The packet has no bytes.
     #[error("the packet is empty")]
     Empty,
-    /// The packet has more than `LONGEST_PACKET` bytes.
+    /// The packet has more bytes than the longest that is accepted.
     #[error("the packet is too long")]
     TooLong,
     /// The channel would be given more than `MOST_BYTES` bytes.
@@ -35,7 +35,18 @@ impl From<OutOfMemory> for Refused {
     }
 }
 
-/// The stream was closed, so that no row is taken.
+/// Why a state of this end's own is not accepted. Nothing has changed then.
+#[derive(Clone, Copy, Debug, PartialEq, Eq, Error)]
+pub enum LocalRefused {
+    /// The stream was closed before.
+    #[error("the stream was closed")]
+    Closed,
+    /// The channel is not listed.
+    #[error("the channel is not listed")]
+    UnknownChannel,
+}
+
+/// The stream was closed, so that no row is accepted.
 #[derive(Clone, Copy, Debug, PartialEq, Eq, Error)]
 #[error("the stream was closed")]
 pub struct Closed;

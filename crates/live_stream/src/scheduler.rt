@@ -2,14 +2,14 @@ ghost use Rattle.std.specs.Prelude.{◌≡◌, ℕ, ◌≤◌};
 ghost use Rattle.control_words.specs.declared.fields.Eop.TheVariants.{End};
 
 use super::counts::Counts;
-use super::refused::{Closed, Refused};
+use super::refused::{Closed, LocalRefused, Refused};
 use super::turns::{first_ready, place, to_back, turn_all};
-use super::waiting::{Waiting, empty_queues};
+use super::waiting::{Waiting, empty_queues, packets_left};
 use arrayvec::ArrayVec;
 use burst_scheduler::{BurstSizes, end_of};
 use calendar::{CalendarIn, CalendarOut, valid_word};
 use control_words::{Control, Eop, sealed};
-use lk_base::{LONGEST_PACKET, OutOfMemory, Shape, Word};
+use lk_base::{OutOfMemory, Shape, Word};
 use std::alloc::Global;
 
 /// The most words of a stream. A scheduler makes none after them.
@@ -25,11 +25,12 @@ pub const MOST_WORDS: u64 = 1_152_921_504_606_846_976;
 #[derive(Drop)]
 pub struct LiveScheduler {
     alloc: Global,
-    // The settings: bytes of a burst, slots between two bursts, slots of a group, slots of the warm-up.
+    // The settings: bytes of a burst, slots between two bursts, slots of a group, slots of the warm-up, bytes of the longest packet.
     sizes: BurstSizes,
     short: u64,
     group: u64,
     warm: u64,
+    max_packet: u32,
     // The listed channels in the order of their turns.
     turns: Vec<Waiting>,
     incoming: CalendarIn,
@@ -42,6 +43,8 @@ pub struct LiveScheduler {
     eop: Eop,
     // The first slot that is far enough from the last burst word.
     free: u64,
+    // No packet is accepted any more.
+    packets_closed: bool,
     // The slots at which it was closed, and at which the ending was found.
     closed: Option<u64>,
     finish: Option<u64>,
@@ -54,21 +57,22 @@ impl LiveScheduler {
     ghost use Rattle.std.specs.List.{AllPairs};
     ghost use Rattle.lk_base.specs.declared.word.Word.{Word};
     ghost use Rattle.live_stream.specs.LiveStream.{Given, IsWholeLiveStream};
-    ghost use Rattle.live_stream.specs.Gives.{Gives, nothing_given, packet_added, flow_added, local_added, closed_at, words_of, most_words, refusal_of, AreCountsOf, Holds, IsDue, IsIdleTime, IsBurstTime, AddsBlock, MayGoOn, as_control, as_data};
+    ghost use Rattle.live_stream.specs.Gives.{Gives, nothing_given, packet_added, flow_added, local_added, packets_closed_in, closed_at, words_of, most_words, is_among, refuses_packets, refusal_of, local_refusal_of, left_in_all, AreCountsOf, Holds, IsDue, IsIdleTime, IsBurstTime, AddsBlock, MayGoOn, as_control, as_data};
     ghost use Rattle.calendar.specs.Changes.{told_back};
     ghost use Rattle.live_stream.specs.declared.refused.Refused.TheVariants as refused;
 
-    /// Nothing was given yet, and no word was made.
+    /// Nothing was given yet, and no word was made. A packet may have up to `max_packet` bytes.
     pub fn new(
         alloc: Global,
         shape: Shape,
+        max_packet: u32,
         channels: &[u16],
         entries: &[u16],
     ) -> Result<LiveScheduler, OutOfMemory>
         requires entries_low { 1 ≤ length entries.now }
         requires entries_high { length entries.now ≤ 1024 }
         requires distinct { AllPairs (λ x y. x ≡ y → ⊥) channels.now }
-        ensures { IfOk result (λ s. Gives s (nothing_given shape channels.now entries.now) []) }
+        ensures { IfOk result (λ s. Gives s (nothing_given shape max_packet channels.now entries.now) []) }
     {
         let run = Vec::from_array(alloc, [0; 512])?;
         let incoming = CalendarIn::new(alloc, entries)?;
@@ -83,6 +87,7 @@ impl LiveScheduler {
             short: (shape.burst_short / 8) as u64,
             group: shape.group,
             warm: shape.warmup * shape.group,
+            max_packet,
             turns,
             incoming,
             outgoing,
@@ -92,24 +97,42 @@ impl LiveScheduler {
             given: 0,
             eop: Eop::Going,
             free: 0,
+            packets_closed: false,
             closed: None,
             finish: None,
         })
+    }
+
+    // Whether no packet is accepted any more.
+    fn refuses_packets(&self) -> bool
+        requires { (g : Given) × (w : List Word) × Gives self.now g w }
+        ensures { (g : Given) (w : List Word) → Gives self.now g w → result ≡ refuses_packets g }
+    {
+        let closed = self.closed.is_some();
+        self.packets_closed || closed
+    }
+
+    // Whether a channel is listed.
+    fn lists(&self, channel: u16) -> bool
+        requires { (g : Given) × (w : List Word) × Gives self.now g w }
+        ensures { (g : Given) (w : List Word) → Gives self.now g w → result ≡ is_among g.channels channel }
+    {
+        place(&self.turns, channel) < self.turns.len()
     }
 
     /// Gives a packet, with its bytes copied. It counts from the next word on.
     ///
     /// # Errors
     ///
-    /// In this order: the stream was closed, the channel is not listed, the packet has no bytes, or more than
-    /// `LONGEST_PACKET`, the channel would be given more than `MOST_BYTES`, memory ran out. Nothing has changed then.
+    /// In this order: the packets were closed or the stream, the channel is not listed, the packet has no bytes, or more than
+    /// `max_packet`, the channel would be given more than `MOST_BYTES`, memory ran out. Nothing has changed then.
     pub fn packet(&mut self, channel: u16, bytes: &[u8]) -> Result<(), Refused>
         requires { (g : Given) × (w : List Word) × Gives self.old g w }
         ensures ok { OnOk result ((g : Given) (w : List Word) → Gives self.old g w → Gives self.new (packet_added g w channel bytes.now) w) }
         ensures err { OnErr result ((g : Given) (w : List Word) → Gives self.old g w → Gives self.new g w) }
         ensures why { (g : Given) (w : List Word) → Gives self.old g w → MatchOption (refusal_of g channel bytes.now) ((result ≡ Ok tt) ⊎ (result ≡ Err refused.OutOfMemory)) (λ why. result ≡ Err why) }
     {
-        if self.closed.is_some() {
+        if self.refuses_packets() {
             return Err(Refused::Closed);
         }
         let at = place(&self.turns, channel);
@@ -119,7 +142,7 @@ impl LiveScheduler {
         if bytes.len() == 0 {
             return Err(Refused::Empty);
         }
-        if bytes.len() > LONGEST_PACKET as usize {
+        if bytes.len() > self.max_packet as usize {
             return Err(Refused::TooLong);
         }
         if !self.turns[at].has_room(bytes.len()) {
@@ -150,24 +173,36 @@ impl LiveScheduler {
     }
 
     /// Gives a state of this end's own: the channel is on or off from the next control word on, as the control words tell it. It changes
-    /// no burst.
+    /// no burst. Of a channel that has no entry in the calendar no word tells it.
     ///
     /// # Errors
     ///
-    /// The stream was closed. Nothing has changed then.
-    pub fn local(&mut self, channel: u16, on: bool) -> Result<(), Closed>
+    /// In this order: the stream was closed, the channel is not listed. Nothing has changed then.
+    pub fn local(&mut self, channel: u16, on: bool) -> Result<(), LocalRefused>
         requires { (g : Given) × (w : List Word) × Gives self.old g w }
-        ensures open { (g : Given) (w : List Word) → Gives self.old g w → g.closed ≡ None → (result ≡ Ok tt) × Gives self.new (local_added g w channel on) w }
-        ensures closed { (g : Given) (w : List Word) (slot : ℕ) → Gives self.old g w → g.closed ≡ Some slot → (is_err result ≡ true) × Gives self.new g w }
+        ensures ok { OnOk result ((g : Given) (w : List Word) → Gives self.old g w → Gives self.new (local_added g w channel on) w) }
+        ensures err { OnErr result ((g : Given) (w : List Word) → Gives self.old g w → Gives self.new g w) }
+        ensures why { (g : Given) (w : List Word) → Gives self.old g w → MatchOption (local_refusal_of g channel) (result ≡ Ok tt) (λ why. result ≡ Err why) }
     {
         if self.closed.is_some() {
-            return Err(Closed);
+            return Err(LocalRefused::Closed);
+        }
+        if !self.lists(channel) {
+            return Err(LocalRefused::UnknownChannel);
         }
         self.outgoing.set(channel, on);
         Ok(())
     }
 
-    /// Closes the stream: no packet and no row is taken from now on, and it ends once no channel is ready. Of a stream that was closed
+    /// Closes the packets: none is accepted from now on. Rows are, and the stream goes on. Of packets that were closed it changes nothing.
+    pub fn close_packets(&mut self)
+        requires { (g : Given) × (w : List Word) × Gives self.old g w }
+        ensures { (g : Given) (w : List Word) → Gives self.old g w → Gives self.new (packets_closed_in g) w }
+    {
+        self.packets_closed = true;
+    }
+
+    /// Closes the stream: no packet and no row is accepted from now on, and it ends once no channel is ready. Of a stream that was closed
     /// it changes nothing.
     pub fn finish(&mut self)
         requires { (g : Given) × (w : List Word) × Gives self.old g w }
@@ -325,6 +360,15 @@ impl LiveScheduler {
         } else {
             None
         }
+    }
+
+    /// How many packets were given, to all channels, whose last burst was not sent. Where these are more than 64 bits can say, it is
+    /// the most that they can.
+    pub fn left(&self) -> u64
+        requires { (g : Given) × (w : List Word) × Gives self.now g w }
+        ensures { (g : Given) (w : List Word) → Gives self.now g w → result ≡ left_in_all g w }
+    {
+        packets_left(&self.turns)
     }
 
     /// Whether no word is made any more: the stream is whole, which is so only after `finish`, or it has `MOST_WORDS` words.

@@ -1,9 +1,9 @@
-ghost use Rattle.std.specs.Prelude.{◌≡◌, ◌↔◌, ℕ, ◌+◌, ◌*◌, ◌^◌, ◌<◌, ◌≤◌, List, [], ◌∷◌, ◌++◌, length, take, slice_get, slice_index, Some, true, OnOk, OnErr, IfOk, All, IsPermutation};
+ghost use Rattle.std.specs.Prelude.{min, sum_by, ◌≡◌, ◌↔◌, ℕ, ◌+◌, ◌-◌, ◌*◌, ◌^◌, ◌<◌, ◌≤◌, List, [], ◌∷◌, ◌++◌, length, take, slice_get, slice_index, Some, true, OnOk, OnErr, IfOk, All, IsPermutation};
 ghost use Rattle.std.specs.List.Sorted.{IsNonDecreasing};
 ghost use Rattle.stream_model.specs.BurstStream.{Chunk, data_words};
 ghost use Rattle.burst_scheduler.specs.Queues.{chunks_in};
 ghost use Rattle.burst_scheduler.specs.declared.sizes.BurstSizes.{BurstSizes};
-ghost use Rattle.live_stream.specs.Waiting.{channels_of, IsEmpty};
+ghost use Rattle.live_stream.specs.Waiting.{channels_of, left_of, IsEmpty};
 ghost use Rattle.live_stream.specs.declared.waiting.Waiting.{Waiting};
 
 use super::counts::{Counts, MOST_BYTES};
@@ -46,6 +46,17 @@ pub fn empty_queues(alloc: Global, channels: &[u16]) -> Result<Vec<Waiting>, Out
         queues.push(empty)?;
     }
     Ok(queues)
+}
+
+/// The packets of these queues that are not wholly sent, or the most that 64 bits can say.
+pub fn packets_left(queues: &[Waiting]) -> u64
+    ensures { result ≡ min (sum_by (λ (q : Waiting). left_of q.counts) queues.now) (2 ^ 64 - 1) }
+{
+    let mut left: u64 = 0;
+    for at in 0..queues.len() {
+        left = left.saturating_add(queues[at].counts.packets_left());
+    }
+    left
 }
 
 impl Waiting {

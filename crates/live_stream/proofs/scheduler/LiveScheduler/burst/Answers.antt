@@ -57,7 +57,7 @@ returns c g w h time =
     let seal = is_sealed (source_of g) w _ c.sealed-x.ensures.fields.0 c.sealed-x.result (take s.count s.run.items) c.sealed-x.ensures.fields.1 (c.sealed-x.ensures.checksum ∙ ap (λ xs. control_crc (take s.count xs) c.sealed-x.result) c.deref.ensures.value) (sym (ap data_since none) ∙ h.since) (h.end ∙ ap (end_format (source_of g)) none)
     (c.next-reset.ensures.reset g.entries g.local (controls_in w) h.outgoing)
     (λ i l. c.next-reset.ensures.flow g.entries g.local (controls_in w) (length w) i h.outgoing h.given_by.local l) in
-    burst_step s g w h none _ c.sealed-x.result _ seal (record { settings = (refl, refl, refl, refl); incoming = refl; slot = refl; given = refl; end = (refl, refl) })
+    burst_step s g w h none _ c.sealed-x.result _ seal (record { settings = (refl, refl, refl, refl); incoming = refl; slot = refl; given = refl; end = (refl, refl); accepts = (refl, refl) })
     at q time is refl (both_parts c.index.result.now.channel ∙ named) chunk sop taken.1
     now back c.take-taken.ensures.channel (c.take-taken.ensures.next packets done left)
     (c.next-reset.ensures.stands g.entries g.local (controls_in w) h.outgoing)

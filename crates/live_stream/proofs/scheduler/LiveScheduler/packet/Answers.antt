@@ -2,31 +2,18 @@ use Rattle.std.proofs.Common.{◌≡◌, ◌∙◌, ◌<◌, inl, inr, ◌≤◌
 use Rattle.std.specs.Vec.{with_item}
 use Rattle.std.proofs.lemmas.Bool.Decides.{nat_tests}
 use Rattle.std.proofs.lemmas.Result.{err_from_is_err_and}
-use Rattle.std.proofs.lemmas.List.Elements.{Contains-get_or}
 use Rattle.lk_base.specs.declared.word.Word.{Word}
 use Rattle.live_stream.specs.LiveStream.{Given}
 use Rattle.live_stream.specs.Waiting.{channels_of, most_bytes}
-use Rattle.live_stream.specs.Gives.{Gives, refusal_of}
+use Rattle.live_stream.specs.Gives.{refusal_of}
 use Rattle.live_stream.specs.declared.refused.Refused.TheVariants as refused
 use Rattle.live_stream.specs.declared.scheduler.LiveScheduler.{LiveScheduler}
 use Rattle.live_stream.specs.declared.waiting.Waiting.{Waiting}
-use Rattle.live_stream.proofs.More.{packet_step, packet_kept, not_closed, bytes_at}
-use Rattle.live_stream.proofs.Places.{as_many, channel_at}
-use Rattle.live_stream.proofs.Refusals.{refused_unknown, refused_empty, refused_long, refused_much, not_refused, answered, taken, on_err}
+use Rattle.live_stream.proofs.Listed.{placed, unknown}
+use Rattle.live_stream.proofs.More.{packet_step, packet_kept, bytes_at}
+use Rattle.live_stream.proofs.Places.{channel_at}
+use Rattle.live_stream.proofs.Refusals.{refused_unknown, refused_empty, refused_long, refused_much, not_refused, still_open, answered, taken, on_err}
 use Rattle.live_stream.proofs.scheduler.LiveScheduler.packet.Goals as goal
-
--- the channel is none of the listed ones
-unknown : (s : LiveScheduler) (g : Given) (w : List Word) (c : ℕ) → Gives s g w → (Contains (channels_of s.turns.items) c → ⊥) → Contains g.channels c → ⊥
-unknown s g w c h never i = never ((h.words.turns.exact c).1 i)
-
--- it is listed, as it has a place
-placed : (s : LiveScheduler) (g : Given) (w : List Word) (c at : ℕ) (ts : List Waiting) → Gives s g w → ts ≡ s.turns.items → at < length s.turns.items → (at < length ts → get_or (channels_of ts) at 0 ≡ c)
-    → (get_or (channels_of s.turns.items) at 0 ≡ c) × Contains g.channels c
-placed s g w c at ts h same below found =
-    let n = as_many s.turns.items in
-    let long = ap length same in
-    let is : get_or (channels_of s.turns.items) at 0 ≡ c = ap (λ xs. get_or (channels_of xs) at 0) (sym same) ∙ found (omega (arith, below, long)) in
-    (is, (h.words.turns.exact c).0 (subst (Contains (channels_of s.turns.items)) is (Contains-get_or (channels_of s.turns.items) at 0 (omega (arith, below, n)))))
 
 named_at : (s : LiveScheduler) (g : Given) (w : List Word) (c at : ℕ) (q : Waiting) → at < length s.turns.items → q ≡ get_or s.turns.items at q → get_or (channels_of s.turns.items) at 0 ≡ c → q.channel ≡ c
 named_at s g w c at q below is here = sym (channel_at s.turns.items at q below is) ∙ here
@@ -40,7 +27,7 @@ fits a b most r is high same = let test : nat_le a most ≡ true = sym is ∙ hi
 pub returns-then-at-len-clause-why : goal.returns-then-at-len-clause-why
 returns-then-at-len-clause-why c g w h =
     let s : LiveScheduler = c.args.self.now in
-    let still = sym h.closed ∙ not_closed s.closed c.is_some.result c.is_some.ensures c.if-is_some.false in
+    let still = sym (c.refuses_packets.ensures g w h) ∙ c.if-refuses_packets.false in
     let long = ap length c.deref.ensures.value in
     let missing = c.place-at.ensures.missing (omega (arith, c.if-at-len.true, c.len.ensures, c.place-at.ensures.within, long, s.turns.ok.0)) in
     answered (refusal_of g c.args.channel c.args.bytes.now) refused.UnknownChannel _
@@ -49,25 +36,25 @@ returns-then-at-len-clause-why c g w h =
 pub returns-then-bytes-eq0-clause-why : goal.returns-then-bytes-eq0-clause-why
 returns-then-bytes-eq0-clause-why c g w h =
     let s : LiveScheduler = c.args.self.now in
-    let still = sym h.closed ∙ not_closed s.closed c.is_some.result c.is_some.ensures c.if-is_some.false in
+    let still = sym (c.refuses_packets.ensures g w h) ∙ c.if-refuses_packets.false in
     let known = placed s g w c.args.channel c.place-at.result c.deref.result.now h c.deref.ensures.value (omega (arith, c.if-at-len.false, c.len.ensures, s.turns.ok.0)) c.place-at.ensures.found in
     answered (refusal_of g c.args.channel c.args.bytes.now) refused.Empty _ (refused_empty g c.args.channel c.args.bytes.now still known.1 (omega (arith, c.if-bytes-eq0.true))) refl
 
-pub returns-then-bytes-clause-why : goal.returns-then-bytes-clause-why
-returns-then-bytes-clause-why c g w h =
+pub returns-then-bytes-self-clause-why : goal.returns-then-bytes-self-clause-why
+returns-then-bytes-self-clause-why c g w h =
     let s : LiveScheduler = c.args.self.now in
-    let still = sym h.closed ∙ not_closed s.closed c.is_some.result c.is_some.ensures c.if-is_some.false in
+    let still = sym (c.refuses_packets.ensures g w h) ∙ c.if-refuses_packets.false in
     let known = placed s g w c.args.channel c.place-at.result c.deref.result.now h c.deref.ensures.value (omega (arith, c.if-at-len.false, c.len.ensures, s.turns.ok.0)) c.place-at.ensures.found in
-    answered (refusal_of g c.args.channel c.args.bytes.now) refused.TooLong _ (refused_long g c.args.channel c.args.bytes.now still known.1 (omega (arith, c.if-bytes-eq0.false)) c.if-bytes.true) refl
+    answered (refusal_of g c.args.channel c.args.bytes.now) refused.TooLong _ (refused_long g c.args.channel c.args.bytes.now still known.1 (omega (arith, c.if-bytes-eq0.false)) (omega (arith, c.if-bytes-self.true, h.longest))) refl
 
 pub returns-then-not-has_room-clause-why : goal.returns-then-not-has_room-clause-why
 returns-then-not-has_room-clause-why c g w h =
     let s : LiveScheduler = c.args.self.now in
-    let still = sym h.closed ∙ not_closed s.closed c.is_some.result c.is_some.ensures c.if-is_some.false in
+    let still = sym (c.refuses_packets.ensures g w h) ∙ c.if-refuses_packets.false in
     let below : c.place-at.result < length s.turns.items = omega (arith, c.if-at-len.false, c.len.ensures, s.turns.ok.0) in
     let known = placed s g w c.args.channel c.place-at.result c.deref.result.now h c.deref.ensures.value below c.place-at.ensures.found in
     let bytes = bytes_at s g w h c.place-at.result c.index.result.now below c.index.ensures c.args.channel (named_at s g w c.args.channel c.place-at.result c.index.result.now below c.index.ensures known.0) in
-    answered (refusal_of g c.args.channel c.args.bytes.now) refused.TooMuch _ (refused_much g c.args.channel c.args.bytes.now still known.1 (omega (arith, c.if-bytes-eq0.false)) (omega (arith, c.if-bytes.false))
+    answered (refusal_of g c.args.channel c.args.bytes.now) refused.TooMuch _ (refused_much g c.args.channel c.args.bytes.now still known.1 (omega (arith, c.if-bytes-eq0.false)) (omega (arith, c.if-bytes-self.false, h.longest))
     (lacks _ _ most_bytes c.has_room.result c.has_room.ensures c.if-not-has_room.true (ap (λ n. n + length c.args.bytes.now) bytes))) refl
 
 pub returns-in_err-add-clause-err : goal.returns-in_err-add-clause-err
@@ -79,23 +66,23 @@ returns-in_err-add-clause-err c = on_err c.from_residual.result _ (λ g w h.
 pub returns-in_err-add-clause-why : goal.returns-in_err-add-clause-why
 returns-in_err-add-clause-why c g w h =
     let s : LiveScheduler = c.args.self.now in
-    let still = sym h.closed ∙ not_closed s.closed c.is_some.result c.is_some.ensures c.if-is_some.false in
+    let still = sym (c.refuses_packets.ensures g w h) ∙ c.if-refuses_packets.false in
     let known = placed s g w c.args.channel c.place-at.result c.deref.result.now h c.deref.ensures.value (omega (arith, c.if-at-len.false, c.len.ensures, s.turns.ok.0)) c.place-at.ensures.found in
     let p = err_from_is_err_and c.from_residual.result c.from_residual.ensures.1 in
-    taken (refusal_of g c.args.channel c.args.bytes.now) c.from_residual.result (not_refused g c.args.channel c.args.bytes.now still known.1 (omega (arith, c.if-bytes-eq0.false)) (omega (arith, c.if-bytes.false)) (fits _ _ most_bytes c.has_room.result c.has_room.ensures c.if-not-has_room.false (ap (λ n. n + length c.args.bytes.now) (bytes_at s g w h c.place-at.result c.index.result.now (omega (arith, c.if-at-len.false, c.len.ensures, s.turns.ok.0)) c.index.ensures c.args.channel (named_at s g w c.args.channel c.place-at.result c.index.result.now (omega (arith, c.if-at-len.false, c.len.ensures, s.turns.ok.0)) c.index.ensures known.0))))) (inr (p.1 ∙ ap (λ e. Err e) p.2))
+    taken (refusal_of g c.args.channel c.args.bytes.now) c.from_residual.result (not_refused g c.args.channel c.args.bytes.now still known.1 (omega (arith, c.if-bytes-eq0.false)) (omega (arith, c.if-bytes-self.false, h.longest)) (fits _ _ most_bytes c.has_room.result c.has_room.ensures c.if-not-has_room.false (ap (λ n. n + length c.args.bytes.now) (bytes_at s g w h c.place-at.result c.index.result.now (omega (arith, c.if-at-len.false, c.len.ensures, s.turns.ok.0)) c.index.ensures c.args.channel (named_at s g w c.args.channel c.place-at.result c.index.result.now (omega (arith, c.if-at-len.false, c.len.ensures, s.turns.ok.0)) c.index.ensures known.0))))) (inr (p.1 ∙ ap (λ e. Err e) p.2))
 
 pub returns-clause-ok : goal.returns-clause-ok
 returns-clause-ok c g w h =
     let s : LiveScheduler = c.args.self.now in
-    let still = sym h.closed ∙ not_closed s.closed c.is_some.result c.is_some.ensures c.if-is_some.false in
+    let still = sym (c.refuses_packets.ensures g w h) ∙ c.if-refuses_packets.false in
     let below : c.place-at.result < length s.turns.items = omega (arith, c.if-at-len.false, c.len.ensures, s.turns.ok.0) in
     let known = placed s g w c.args.channel c.place-at.result c.deref.result.now h c.deref.ensures.value below c.place-at.ensures.found in
     let named = sym (channel_at s.turns.items c.place-at.result c.index_mut.result.now below c.index_mut.ensures.value) ∙ known.0 in
-    packet_step s g w h (with_item s.turns c.place-at.result c.add.new.self) _ c.place-at.result c.index_mut.result.now c.add.new.self c.args.channel c.args.bytes.now refl below c.index_mut.ensures.value c.add.ensures.channel named (c.in_ok-add.ensures {u = tt}).ok still
+    packet_step s g w h (with_item s.turns c.place-at.result c.add.new.self) _ c.place-at.result c.index_mut.result.now c.add.new.self c.args.channel c.args.bytes.now refl below c.index_mut.ensures.value c.add.ensures.channel named (c.in_ok-add.ensures {u = tt}).ok (omega (arith, c.if-bytes-eq0.false)) (omega (arith, c.if-bytes-self.false, h.longest)) (still_open g still)
 
 pub returns-clause-why : goal.returns-clause-why
 returns-clause-why c g w h =
     let s : LiveScheduler = c.args.self.now in
-    let still = sym h.closed ∙ not_closed s.closed c.is_some.result c.is_some.ensures c.if-is_some.false in
+    let still = sym (c.refuses_packets.ensures g w h) ∙ c.if-refuses_packets.false in
     let known = placed s g w c.args.channel c.place-at.result c.deref.result.now h c.deref.ensures.value (omega (arith, c.if-at-len.false, c.len.ensures, s.turns.ok.0)) c.place-at.ensures.found in
-    taken (refusal_of g c.args.channel c.args.bytes.now) _ (not_refused g c.args.channel c.args.bytes.now still known.1 (omega (arith, c.if-bytes-eq0.false)) (omega (arith, c.if-bytes.false)) (fits _ _ most_bytes c.has_room.result c.has_room.ensures c.if-not-has_room.false (ap (λ n. n + length c.args.bytes.now) (bytes_at s g w h c.place-at.result c.index.result.now (omega (arith, c.if-at-len.false, c.len.ensures, s.turns.ok.0)) c.index.ensures c.args.channel (named_at s g w c.args.channel c.place-at.result c.index.result.now (omega (arith, c.if-at-len.false, c.len.ensures, s.turns.ok.0)) c.index.ensures known.0))))) (inl refl)
+    taken (refusal_of g c.args.channel c.args.bytes.now) _ (not_refused g c.args.channel c.args.bytes.now still known.1 (omega (arith, c.if-bytes-eq0.false)) (omega (arith, c.if-bytes-self.false, h.longest)) (fits _ _ most_bytes c.has_room.result c.has_room.ensures c.if-not-has_room.false (ap (λ n. n + length c.args.bytes.now) (bytes_at s g w h c.place-at.result c.index.result.now (omega (arith, c.if-at-len.false, c.len.ensures, s.turns.ok.0)) c.index.ensures c.args.channel (named_at s g w c.args.channel c.place-at.result c.index.result.now (omega (arith, c.if-at-len.false, c.len.ensures, s.turns.ok.0)) c.index.ensures known.0))))) (inl refl)
