@@ -20,13 +20,16 @@ include=$folder/library/include
 strict=(-Wall -Wextra -Werror -pedantic -O1 "-I$include")
 
 holds 'calls of the header and of the archive' "$(grep -o '^uint32_t interlaken_[a-z_]*' "$include/interlaken.h" | cut -d ' ' -f 2 | sort)" \
-  "$(nm -g --defined-only "$archive" 2>/dev/null | grep -oE '\binterlaken_(receiver|transmitter|damage)_[a-z_]*$' | sort -u)"
+  "$(nm -g --defined-only "$archive" 2>/dev/null | grep -oE '\binterlaken_((receiver|transmitter|damage|plan)_[a-z_]*|version)$' | sort -u)"
 holds 'calls of the shared library' "$(nm -D --defined-only library/lib/libinterlaken.so | awk '$2 == "T" { sub(/@.*/, "", $3); print $3 }' | sort)" \
-  "$(nm -g --defined-only "$archive" 2>/dev/null | grep -oE '\binterlaken_(receiver|transmitter|damage)_[a-z_]*$' | sort -u)"
+  "$(nm -g --defined-only "$archive" 2>/dev/null | grep -oE '\binterlaken_((receiver|transmitter|damage|plan)_[a-z_]*|version)$' | sort -u)"
 
 # One number counts for the program, the library and the formats.
 holds 'the version of the header and of the release' "$(sed -n 's/^#define INTERLAKEN_VERSION "\(.*\)"$/\1/p' "$include/interlaken.h")" \
   "$(cat "$top/release/VERSION" 2>&1)"
+
+holds 'the numbers of the version in the header' "$(sed -nE 's/^#define INTERLAKEN_VERSION_(MAJOR|MINOR|PATCH) ([0-9]+)$/\2/p' "$include/interlaken.h" | paste -sd .)" \
+  "$(sed -n 's/^#define INTERLAKEN_VERSION "\(.*\)"$/\1/p' "$include/interlaken.h")"
 
 # The keys after `out` are of other files, and no plan of lanes lacks one.
 numbers=$(grep -oE '\bINTERLAKEN_[A-Z_]+ = [0-9]+' "$include/interlaken.h" | sed 's/^INTERLAKEN_//; s/ = / /' | LC_ALL=C sort)
@@ -149,8 +152,38 @@ with i.Receiver(open("drawn.plan", "rb").read(), "library/lib/libinterlaken.so")
     next(event for event in events if isinstance(event, i.Flow))
     print(receiver.is_on(1), receiver.is_on(2))
     list(events)
-    print(receiver.is_on(1), receiver.is_on(2), receiver.is_on(7))
-' "$top/examples/python" 2>&1)" $'False True\nTrue False True'
+    print(receiver.is_on(1), receiver.is_on(2))
+    try:
+        receiver.is_on(7)
+    except i.Misuse as misuse:
+        print(misuse)
+' "$top/examples/python" 2>&1)" $'False True\nTrue False\nNO_CHANNEL'
+  holds 'the numbers of a plan in Python, and places' "$(python3 -B -c '
+import sys
+sys.path.insert(0, sys.argv[1])
+import interlaken as i
+library = "library/lib/libinterlaken.so"
+text = open("drawn.plan", "rb").read()
+plan = i.Plan(text, library)
+print(plan.lanes, plan.metaframe, plan.skips, plan.warmup, plan.channel_count, plan.channels, plan.window)
+print(plan.slot(0), plan.slot(57), plan.place(i.Place(2144, 5)))
+with i.Receiver(text, library) as receiver:
+    lanes = [open("drawn.lane.%d" % lane, "rb").read() for lane in (0, 1)]
+    first = next(event for event in receiver.feed_all(lanes) if isinstance(event, i.Packet)).first
+    print(plan.place(first)[0] == first.index % 2, plan.place(first)[1] == first.group + 67 * (3 + first.index // 2))
+for wrong in (lambda: plan.slot(1 << 56), lambda: plan.place(i.Place(0, 56)), lambda: i.Plan(b"lanes,0", library)):
+    try:
+        wrong()
+    except (i.Misuse, i.BadPlan) as error:
+        print(error)
+print(".".join(str(number) for number in i.version(library)))
+' "$top/examples/python" 2>&1)" "2 32 1 4 2 [1, 2] 64
+(0, 201) (1, 2345) (1, 2479)
+True True
+OUT_OF_RANGE
+OUT_OF_RANGE
+row 1: RANGE
+$(sed -n 's/^#define INTERLAKEN_VERSION "\(.*\)"$/\1/p' "$include/interlaken.h")"
   # Rows are given at drawn times before their bits, and lanes pass in drawn pieces.
   "$program" send drawn.plan >/dev/null || gives_up 'send fails'
   python3 -c '

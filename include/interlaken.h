@@ -3,6 +3,7 @@
  * - A receiver: feed it bytes of lanes; it returns packets, fault spans and control words.
  * - A transmitter: give it packets and flow control at any time, and take bytes of lanes.
  * - Damage: it inverts bits of lanes on their way, or forces them to 0, while a bench runs.
+ * - The numbers of a plan, and the place of a word on the lanes: calls without a handle.
  *
  * This receives the packets of one lane. `plan` is the text of a plan file of `plan_size` bytes,
  * and `lane` has `size` bytes of the lane:
@@ -76,9 +77,10 @@
  * Memory comes from the three functions of interlaken_alloc.h. The libraries that tools/library
  * makes have them over malloc, realloc and free. After `interlaken_receiver_new` no call on a
  * receiver allocates memory. Of the calls on damage `new`, `flip` and `dark` do; of the calls on a
- * transmitter `new` and `packet` do. A receiver keeps room for the longest packet of the plan
+ * transmitter `new` and `packet` do. `interlaken_plan_read` and `interlaken_plan_channels` allocate
+ * memory, and free it before they return. A receiver keeps room for the longest packet of the plan
  * (`max_packet`) on each channel, so a smaller `max_packet` saves memory. Give a thread that calls
- * `interlaken_receiver_new` or `interlaken_transmitter_new` a stack of 128 KiB or more. */
+ * one of the two `new` with a plan, or one of these two calls, a stack of 128 KiB or more. */
 #ifndef INTERLAKEN_H
 #define INTERLAKEN_H
 
@@ -91,7 +93,10 @@ extern "C" {
 
 /* The version of the program, the library and the formats of files. The shared library has the
  * first number in its name. */
-#define INTERLAKEN_VERSION "1.4.1"
+#define INTERLAKEN_VERSION "1.5.0"
+#define INTERLAKEN_VERSION_MAJOR 1
+#define INTERLAKEN_VERSION_MINOR 5
+#define INTERLAKEN_VERSION_PATCH 0
 
 /* The results of calls. */
 enum interlaken_result {
@@ -107,7 +112,8 @@ enum interlaken_result {
   INTERLAKEN_NO_RECEIVER = 7,     /* the handle has no receiver: it is all zeros, or was freed */
   INTERLAKEN_IN_USE = 8,          /* the handle is open already, and stays as it is */
   INTERLAKEN_NO_DAMAGE = 9,       /* the handle has no damage: it is all zeros, or was freed */
-  INTERLAKEN_OUT_OF_RANGE = 10,   /* the number of lanes, or the bit of a lane, is not allowed */
+  INTERLAKEN_OUT_OF_RANGE = 10,   /* the number of lanes, or the bit of a lane, is not allowed; no
+                                     plan has these numbers, or no group has this place */
   INTERLAKEN_PASSED = 11,         /* all named bits have passed: nothing happens to them any more */
   INTERLAKEN_NO_TRANSMITTER = 12, /* the handle has no transmitter: it is all zeros, or was freed */
   INTERLAKEN_NO_CHANNEL = 13,     /* the plan does not list the channel */
@@ -261,10 +267,63 @@ typedef struct interlaken_report {
   uint64_t diag;      /* Diagnostic words that are wrong, in form or CRC32 */
 } interlaken_report;
 
+/* Returns the version of the library that is linked or loaded: 10,000 * INTERLAKEN_VERSION_MAJOR +
+ * 100 * INTERLAKEN_VERSION_MINOR + INTERLAKEN_VERSION_PATCH of its own header. */
+uint32_t interlaken_version(void);
+
+/* The numbers of a plan. */
+typedef struct interlaken_plan {
+  uint32_t lanes;       /* lanes: 1 to 64 */
+  uint32_t metaframe;   /* words of a metaframe on each lane: 32 to 8,192 */
+  uint32_t skips;       /* Skip words of a metaframe: 1 to 4 */
+  uint32_t wide;        /* 1 if channel numbers have 16 bits; 0 if they have 8 */
+  uint32_t deskew;      /* words by which lanes may be apart: below half of `metaframe` */
+  uint32_t max_packet;  /* bytes of the longest packet: 1 to 262,144 */
+  uint32_t link_type;   /* link type of the captures that the program writes: 0 to 65,535 */
+  uint32_t entries;     /* entries of the calendar: 1 to 1,024 */
+  uint32_t warmup;      /* groups of idle words before the first burst: 4 to 64 */
+  uint32_t channels;    /* listed channels: 1 to 1,024, or to 256 if `wide` is 0 */
+  uint32_t burst_max;   /* bytes of the longest burst: a multiple of 64 in 64 to 4,096 */
+  uint32_t burst_short; /* least bytes from one burst word to the next: a multiple of 8 in 32 to
+                           `burst_max` */
+  uint32_t burst_min;   /* least bytes of a burst whose packet has as many: a multiple of 32 in 0 to
+                           half of `burst_max` */
+  uint32_t window;      /* pieces that are sent again, at most at once: 1 to 255 */
+} interlaken_plan;
+
+/* Reads the numbers of a plan. `plan` is the text of a plan file of `size` bytes. It is read and
+ * refused as by `interlaken_receiver_new`.
+ * Results: DONE, OUT_OF_MEMORY, BAD_PLAN; all numbers are 0 if it is not DONE. */
+uint32_t interlaken_plan_read(const uint8_t *plan, size_t size, interlaken_plan *numbers,
+                              interlaken_refusal *refusal);
+
+/* Writes the numbers of the channels that a plan lists, in rising order, as many as there is `room`
+ * for. `count` is how many are listed. The rest of `channels` stays unchanged.
+ * Results: DONE, OUT_OF_MEMORY, BAD_PLAN; `count` is 0 and `channels` unchanged if it is not DONE.
+ */
+uint32_t interlaken_plan_channels(const uint8_t *plan, size_t size, uint16_t *channels, size_t room,
+                                  size_t *count, interlaken_refusal *refusal);
+
+/* Finds the word at a place of an event: its lane, and the bit of that lane at which its code would
+ * begin if no lane were skewed. So it is the bit of the group, and 67 for each word since. If the
+ * lane's Sync words come some bits later than those of lane 0, so does the code.
+ * Results: DONE, OUT_OF_RANGE; `lane` and `bit` are 0 if it is not DONE. It is OUT_OF_RANGE if and
+ * only if no plan has these numbers, `known` is not 1, the group has no word `index`, or `group` is
+ * 2^44 or more. */
+uint32_t interlaken_plan_place(const interlaken_plan *numbers, const interlaken_place *place,
+                               uint32_t *lane, uint64_t *bit);
+
+/* Finds payload word number `slot` of a transmitter, as `interlaken_transmitter_slots` counts them:
+ * its lane, and the bit of that lane at which its code begins in the bytes that are taken.
+ * Results: DONE, OUT_OF_RANGE; `lane` and `bit` are 0 if it is not DONE. It is OUT_OF_RANGE if and
+ * only if no plan has these numbers, or `slot` is 2^56 or more. */
+uint32_t interlaken_plan_slot(const interlaken_plan *numbers, uint64_t slot, uint32_t *lane,
+                              uint64_t *bit);
+
 /* Opens a receiver behind a handle that has none. `plan` is the text of a plan file, of any length;
  * it is not kept. All its rows are read, and refused if they are wrong, but no file that they name
- * is opened or written. The receiver has the plan's lanes: the lanes for which `report` returns
- * DONE. `refusal` has the cause INTERLAKEN_NO_CAUSE if the plan is not refused.
+ * is opened or written. The receiver has the plan's lanes and channels. `refusal` has the cause
+ * INTERLAKEN_NO_CAUSE if the plan is not refused.
  * Results: DONE, OUT_OF_MEMORY, BAD_PLAN, IN_USE. */
 uint32_t interlaken_receiver_new(interlaken_receiver *receiver, const uint8_t *plan, size_t count,
                                  interlaken_refusal *refusal);
@@ -292,7 +351,8 @@ uint32_t interlaken_receiver_finish(interlaken_receiver *receiver, uint32_t lane
 uint32_t interlaken_receiver_next(interlaken_receiver *receiver, interlaken_event *event);
 
 /* Copies bytes of the packet that `next` returned last, from `offset` on: as many as exist and as
- * `count` allows. `copied` is how many. The rest of `bytes` stays unchanged.
+ * `count` allows. `copied` is how many. The rest of `bytes` stays unchanged. Before the first event
+ * there is no packet to read.
  * Results: DONE, NO_PACKET, NO_RECEIVER; `copied` is 0 if it is not DONE. */
 uint32_t interlaken_receiver_read(interlaken_receiver *receiver, uint32_t offset, uint8_t *bytes,
                                   size_t count, size_t *copied);
@@ -311,9 +371,10 @@ uint32_t interlaken_receiver_lane_state(interlaken_receiver *receiver, uint32_t 
 
 /* Writes whether the far end lets packets be sent on a channel, 1 or 0, by the plan's calendar and
  * the control words that `next` returned as INTERLAKEN_FLOW. A channel is on until an entry turns
- * it off; a channel without an entry stays on. After a fault span, in which words may be missing,
- * no word counts up to the next with Reset Calendar.
- * Results: DONE, NO_RECEIVER; `on` is 0 if it is not DONE. */
+ * it off; a listed channel without an entry stays on. After a fault span, in which words may be
+ * missing, no word counts up to the next with Reset Calendar.
+ * Results: DONE, NO_RECEIVER, NO_CHANNEL; `on` is 0 if it is not DONE. It is NO_CHANNEL if and only
+ * if the plan does not list the channel. An entry of the calendar is always a listed channel. */
 uint32_t interlaken_receiver_is_on(interlaken_receiver *receiver, uint16_t channel, uint32_t *on);
 
 /* A transmitter of the lanes of a link. Packets and flow control may be given at any time. The

@@ -198,9 +198,10 @@ static void try_state(struct known *k) {
 static void try_channel(struct known *k) {
   uint32_t on = 99, result;
   uint16_t channel = (uint16_t)(below(10) == 0 ? 0xffff : below(4));
+  int listed = channel == 1 || channel == 2;
   result = interlaken_receiver_is_on(&k->receiver, channel, &on);
-  want("channel", result == (uint32_t)(k->has ? INTERLAKEN_DONE : INTERLAKEN_NO_RECEIVER));
-  want("on", on == (uint32_t)(k->has && !((channel == 1 && k->off[0]) || (channel == 2 && k->off[1]))));
+  want("channel", result == (uint32_t)(!k->has ? INTERLAKEN_NO_RECEIVER : listed ? INTERLAKEN_DONE : INTERLAKEN_NO_CHANNEL));
+  want("on", on == (uint32_t)(k->has && listed && !k->off[channel - 1]));
 }
 
 static void sequence(void) {
@@ -750,6 +751,86 @@ static void sender_sequence(void) {
   want("nothing of a transmitter leaks", live == 0);
 }
 
+/* ---- plans */
+
+static interlaken_plan none_read;
+
+/* The numbers and the channels of the plan, and of one that is refused. */
+static void try_numbers(interlaken_plan *numbers) {
+  interlaken_refusal refusal;
+  uint16_t channels[4] = {9, 9, 9, 9};
+  size_t room = below(5), count = 99, i;
+  int bad = below(4) == 0;
+  const uint8_t *text = bad ? (const uint8_t *)"lanes,x\n" : plan.at;
+  uint32_t wanted = bad ? INTERLAKEN_BAD_PLAN : INTERLAKEN_DONE;
+  want("plan", interlaken_plan_read(text, bad ? 8 : plan.count, numbers, &refusal) == wanted && (refusal.cause != 0) == bad);
+  if (bad) want("no numbers", memcmp(numbers, &none_read, sizeof none_read) == 0);
+  else want("numbers", numbers->lanes == 2 && numbers->metaframe == 32 && numbers->skips == 1 && numbers->wide == 0 && numbers->deskew == 7
+    && numbers->max_packet == 262144 && numbers->link_type == 1 && numbers->entries == 2 && numbers->warmup == 4 && numbers->channels == 2
+    && numbers->burst_max == 256 && numbers->burst_short == 64 && numbers->burst_min == 0 && numbers->window == 64);
+  want("channels", interlaken_plan_channels(text, bad ? 8 : plan.count, channels, room, &count, &refusal) == wanted && count == (bad ? 0u : 2u));
+  for (i = 0; i < 4; i++) want("a channel", channels[i] == (bad || i >= room || i >= 2 ? 9 : i + 1));
+}
+
+/* Numbers of other links, some of them of none; `are` is whether a plan has them. */
+static void draw_numbers(interlaken_plan *numbers, int *are) {
+  uint32_t *const wrong_ones[] = {&numbers->lanes, &numbers->metaframe, &numbers->skips, &numbers->wide, &numbers->deskew, &numbers->max_packet,
+    &numbers->link_type, &numbers->entries, &numbers->warmup, &numbers->channels, &numbers->burst_max, &numbers->burst_short,
+    &numbers->burst_min, &numbers->window};
+  static const uint32_t least[] = {1, 32, 1, 0, 1, 1, 0, 1, 4, 1, 64, 32, 0, 1}, most[] = {64, 8192, 4, 1, 15, 262144, 65535, 1024, 64, 256, 4096, 64, 32, 255};
+  static const uint32_t step[] = {1, 1, 1, 1, 1, 1, 1, 1, 1, 1, 64, 8, 32, 1};
+  uint32_t i;
+  for (i = 0; i < 14; i++) *wrong_ones[i] = least[i] + step[i] * below((most[i] - least[i]) / step[i] + 1);
+  *are = below(3) != 0;
+  if (*are) return;
+  i = below(14);
+  if (least[i] > 0 && below(2) == 0) *wrong_ones[i] = 0;
+  else if (i == 4) numbers->deskew = numbers->metaframe / 2 + numbers->metaframe % 2;
+  else if (i == 9 && numbers->wide) numbers->channels = 1025;
+  else if (i == 11) numbers->burst_short = numbers->burst_max + 8;
+  else if (i == 12) numbers->burst_min = numbers->burst_max / 2 + 32;
+  else *wrong_ones[i] = most[i] + 1 + below(9);
+}
+
+/* Where a word is, word by word: its lane, and the word of its lane. */
+static void count_words(const interlaken_plan *numbers, uint64_t word, uint32_t *lane, uint64_t *position) {
+  *lane = 0, *position = numbers->skips + 2;
+  while (word-- > 0) {
+    if (++*lane < numbers->lanes) continue;
+    *lane = 0;
+    if (++*position % numbers->metaframe == numbers->metaframe - 1) *position += numbers->skips + 3;
+  }
+}
+
+static void plan_sequence(void) {
+  interlaken_plan numbers;
+  interlaken_place place;
+  uint32_t lane = 99, wanted_lane, turns = 10, group;
+  uint64_t bit = 99, position, slot;
+  int are, there;
+  try_numbers(&numbers);
+  want("nothing of a plan leaks", live == 0);
+  while (turns-- > 0) {
+    long before = allocations;
+    draw_numbers(&numbers, &are);
+    slot = below(20) == 0 ? ((uint64_t)1 << 56) - below(2) : below(9000);
+    there = are && slot < (uint64_t)1 << 56;
+    want("slot", interlaken_plan_slot(&numbers, slot, &lane, &bit) == (uint32_t)(there ? INTERLAKEN_DONE : INTERLAKEN_OUT_OF_RANGE));
+    count_words(&numbers, there && slot < 9000 ? slot : 0, &wanted_lane, &position);
+    if (!there) want("no slot", lane == 0 && bit == 0);
+    else if (slot < 9000) want("lane and bit of a slot", lane == wanted_lane && bit == 67 * position);
+    group = numbers.lanes * (numbers.metaframe - numbers.skips - 3);
+    place.known = below(20) == 0 ? below(2) * 7 : 1, place.index = below(10) == 0 ? group - below(2) : below(are ? group : 9);
+    place.group = below(20) == 0 ? ((uint64_t)1 << 44) - below(2) : below(1u << 31);
+    there = are && place.known == 1 && place.index < group && place.group < (uint64_t)1 << 44;
+    want("place", interlaken_plan_place(&numbers, &place, &lane, &bit) == (uint32_t)(there ? INTERLAKEN_DONE : INTERLAKEN_OUT_OF_RANGE));
+    count_words(&numbers, there && place.index < 9000 ? place.index : 0, &wanted_lane, &position);
+    if (!there) want("no place", lane == 0 && bit == 0);
+    else if (place.index < 9000) want("lane and bit of a place", lane == wanted_lane && bit == place.group + 67 * position);
+    want("no allocation for a place", allocations == before);
+  }
+}
+
 int main(int argc, char **argv) {
   long left;
   void *many = mmap(NULL, LONG_PIECE, PROT_READ, MAP_PRIVATE | MAP_ANONYMOUS | MAP_NORESERVE, -1, 0);
@@ -765,6 +846,7 @@ int main(int argc, char **argv) {
     sequence();
     damage_sequence();
     sender_sequence();
+    plan_sequence();
   }
   printf("%ld tried, %ld wrong\n", tries, wrong);
   free(plan.at), free(sender_plan.at), free(lanes[0].at), free(lanes[1].at);

@@ -10,7 +10,7 @@
 #include <stdlib.h>
 #include <string.h>
 
-enum { DONE, NO_LANE = 3, FINISHED, TOO_MANY, NO_PACKET, NO_RECEIVER, NO_TRANSMITTER = 12, NO_CHANNEL, BAD_LENGTH, NO_ROOM = 100 };
+enum { DONE, NO_LANE = 3, FINISHED, TOO_MANY, NO_PACKET, NO_RECEIVER, OUT_OF_RANGE = 10, NO_TRANSMITTER = 12, NO_CHANNEL, BAD_LENGTH, NO_ROOM = 100 };
 enum { NONE, PACKET, DROPPED, SPAN, FLOW, ENDED };
 
 struct file {
@@ -104,6 +104,7 @@ static void try_none(void *receiver) {
   want("a byte of none", interlaken_dpi_byte(receiver, 0, &byte), NO_RECEIVER);
   want("report of none", interlaken_dpi_report(receiver, 0, &n[0], &n[1], &n[2], &n[3], &n[4], &n[5], &n[6], &n[7], &n[8]), NO_RECEIVER);
   want("state of none", interlaken_dpi_lane_state(receiver, 0, &u[0]), NO_RECEIVER);
+  want("place of none", interlaken_dpi_place(receiver, 1, 0, 0, &u[0], &n[0]), NO_RECEIVER);
 }
 
 static void try_plan(const char *plan, unsigned wanted_cause, unsigned wanted_row, unsigned wanted_key) {
@@ -233,6 +234,9 @@ int main(int argc, char **argv) {
   want("feed of no lane", interlaken_dpi_feed(receiver, count, 1, 1), NO_LANE);
   want("finish of no lane", interlaken_dpi_finish(receiver, ~0u), NO_LANE);
   want("state of no lane", interlaken_dpi_lane_state(receiver, count, &state), NO_LANE);
+  want("no place", interlaken_dpi_place(receiver, 0, 0, 0, &state, &n), OUT_OF_RANGE);
+  want("a place", interlaken_dpi_place(receiver, 1, count, 9, &state, &n), DONE);
+  want("its lane", (int)state, 0);
   want("report of no lane", interlaken_dpi_report(receiver, count, &n, &n, &n, &n, &n, &n, &n, &n, &n), NO_LANE);
   want("feed of 65 bits", interlaken_dpi_feed(receiver, 0, 1, 65), TOO_MANY);
   want("feed of no bits", interlaken_dpi_feed(receiver, 0, 1, 0), DONE);

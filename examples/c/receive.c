@@ -9,10 +9,10 @@
 #include <inttypes.h>
 #include <stdio.h>
 #include <stdlib.h>
-#include <string.h>
 
 #define LANES 64
 #define CHANNELS 65536
+#define MOST_LISTED 1024
 #define PIECE 4096
 
 struct bytes {
@@ -34,10 +34,9 @@ struct channel {
 
 static struct channel channels[CHANNELS];
 static struct lane lanes[LANES];
-static uint32_t lane_count;
+static interlaken_plan numbers; /* of the plan */
 static uint64_t drops[8], span_count;
 static const char *out_prefix;
-static uint32_t link_type = 1; /* of the captures */
 static uint64_t drawn; /* the state of the drawn numbers; 0 where none are drawn */
 
 static void fail(const char *what, const char *name) {
@@ -55,7 +54,6 @@ static struct bytes load(const char *name) {
   file.at = malloc(file.count + 1);
   if (file.at == NULL || fread(file.at, 1, file.count, in) != file.count) fail("not read", name);
   fclose(in);
-  file.at[file.count] = 0;
   return file;
 }
 
@@ -88,21 +86,18 @@ static void open_channel(uint32_t number) {
   channel->out = create(out_prefix, rest);
   put_u32(channel->out, 0xa1b2c3d4), put_u32(channel->out, 2 | 4 << 16);
   put_u32(channel->out, 0), put_u32(channel->out, 0), put_u32(channel->out, 262144);
-  put_u32(channel->out, link_type);
+  put_u32(channel->out, numbers.link_type);
 }
 
-/* The rows of the plan of the listed channels and of the link type of their captures, where they stand without quotes. The library has
- * found that the plan is right. */
-static void read_rows(const char *plan) {
-  const char *row;
-  for (row = plan; row != NULL; row = strchr(row, '\n')) {
-    if (*row == '\n') row++;
-    if (strncmp(row, "link_type,", 10) == 0) link_type = (uint32_t)strtoul(row + 10, NULL, 10);
-  }
-  for (row = plan; row != NULL; row = strchr(row, '\n')) {
-    if (*row == '\n') row++;
-    if (strncmp(row, "channel,", 8) == 0) open_channel((uint32_t)strtoul(row + 8, NULL, 10) % CHANNELS);
-  }
+/* Reads the numbers of the plan, and opens the captures of its channels. The result is that of the library. */
+static uint32_t read_plan(const struct bytes *plan, interlaken_refusal *refusal) {
+  static uint16_t listed[MOST_LISTED];
+  size_t count;
+  uint32_t result = interlaken_plan_read(plan->at, plan->count, &numbers, refusal);
+  if (result == INTERLAKEN_DONE) result = interlaken_plan_channels(plan->at, plan->count, listed, MOST_LISTED, &count, refusal);
+  if (result != INTERLAKEN_DONE) return result;
+  for (size_t i = 0; i < count; i++) open_channel(listed[i]);
+  return INTERLAKEN_DONE;
 }
 
 static void take_packet(interlaken_receiver *receiver, const interlaken_event *event) {
@@ -177,8 +172,8 @@ static void feed_lane(interlaken_receiver *receiver, uint32_t number) {
 static void receive(interlaken_receiver *receiver, FILE *spans) {
   fputs("after_group,after_index,before_group,before_index,why\n", spans);
   while (!take_events(receiver, spans)) {
-    if (drawn != 0) feed_lane(receiver, below(lane_count));
-    else for (uint32_t number = 0; number < lane_count; number++) feed_lane(receiver, number);
+    if (drawn != 0) feed_lane(receiver, below(numbers.lanes));
+    else for (uint32_t number = 0; number < numbers.lanes; number++) feed_lane(receiver, number);
   }
 }
 
@@ -192,17 +187,9 @@ static void print_lane(interlaken_receiver *receiver, uint32_t number) {
          r.unframed, r.bad, r.sync, r.state, r.diag);
 }
 
-/* A receiver has a report of each of its lanes. */
-static uint32_t count_lanes(interlaken_receiver *receiver) {
-  interlaken_report report;
-  uint32_t count = 0;
-  while (count < LANES && interlaken_receiver_report(receiver, count, &report) == INTERLAKEN_DONE) count++;
-  return count;
-}
-
 static void print_all(interlaken_receiver *receiver) {
   static const char *const why[] = {"bad", "crc", "protocol", "lost", "end", "toolong", "unlisted", "sender"};
-  for (uint32_t number = 0; number < lane_count; number++) print_lane(receiver, number);
+  for (uint32_t number = 0; number < numbers.lanes; number++) print_lane(receiver, number);
   for (uint32_t number = 0; number < CHANNELS; number++) {
     const struct channel *channel = &channels[number];
     if (!channel->listed) continue;
@@ -226,15 +213,14 @@ int main(int argc, char **argv) {
   }
   if (argc == 5) drawn = strtoull(argv[4], NULL, 10) * 2654435761u + 88172645463325252u;
   plan = load(argv[1]);
-  result = interlaken_receiver_new(&receiver, plan.at, plan.count, &refusal);
+  out_prefix = argv[3];
+  result = read_plan(&plan, &refusal);
+  if (result == INTERLAKEN_DONE) result = interlaken_receiver_new(&receiver, plan.at, plan.count, &refusal);
   if (result != INTERLAKEN_DONE) {
     fprintf(stderr, "receive: result %" PRIu32 ", cause %" PRIu32 ", row %" PRIu32 "\n", result, refusal.cause, refusal.row);
     return 1;
   }
-  out_prefix = argv[3];
-  read_rows((const char *)plan.at);
-  lane_count = count_lanes(&receiver);
-  for (uint32_t number = 0; number < lane_count; number++) {
+  for (uint32_t number = 0; number < numbers.lanes; number++) {
     char name[4096];
     snprintf(name, sizeof name, "%s.lane.%" PRIu32, argv[2], number);
     lanes[number].file = load(name);
@@ -244,7 +230,7 @@ int main(int argc, char **argv) {
   finish_file(spans, "spans.csv");
   print_all(&receiver);
   interlaken_receiver_free(&receiver);
-  for (uint32_t number = 0; number < lane_count; number++) free(lanes[number].file.at);
+  for (uint32_t number = 0; number < numbers.lanes; number++) free(lanes[number].file.at);
   free(plan.at);
   return 0;
 }

@@ -22,7 +22,7 @@ struct lane {
 struct live {
   interlaken_receiver receiver;
   struct lane lanes[LANES];
-  uint32_t lane_count;
+  interlaken_plan numbers; /* of the plan */
   uint8_t *packet; /* the one that came last */
   uint32_t length; /* of it; 0 where the last event was none */
   struct live *other;
@@ -56,6 +56,8 @@ int interlaken_dpi_report(void *receiver, unsigned int lane, unsigned long long 
                           unsigned long long *first, unsigned long long *lost, unsigned long long *unframed, unsigned long long *bad,
                           unsigned long long *sync, unsigned long long *state, unsigned long long *diag);
 int interlaken_dpi_lane_state(void *receiver, unsigned int lane, unsigned int *state);
+int interlaken_dpi_place(void *receiver, unsigned int known, unsigned int index, unsigned long long group, unsigned int *lane,
+                         unsigned long long *bit);
 
 void *interlaken_dpi_open_transmitter(const char *plan, unsigned int *cause, unsigned int *row, unsigned int *key);
 int interlaken_dpi_close_transmitter(void *transmitter);
@@ -71,24 +73,17 @@ int interlaken_dpi_finish_packets(void *transmitter);
 }
 #endif
 
-static uint32_t count_lanes(interlaken_receiver *receiver) {
-  interlaken_report report;
-  uint32_t count = 0;
-  while (count < LANES && interlaken_receiver_report(receiver, count, &report) == INTERLAKEN_DONE) count++;
-  return count;
-}
-
 void *interlaken_dpi_open(const char *plan, unsigned int *cause, unsigned int *row, unsigned int *key) {
   struct live *live = (struct live *)calloc(1, sizeof *live);
   interlaken_refusal refusal = {0, 0, 0};
   if (live != NULL) live->packet = (uint8_t *)malloc(LONGEST);
   if (live == NULL || live->packet == NULL ||
+      interlaken_plan_read((const uint8_t *)plan, strlen(plan), &live->numbers, &refusal) != INTERLAKEN_DONE ||
       interlaken_receiver_new(&live->receiver, (const uint8_t *)plan, strlen(plan), &refusal) != INTERLAKEN_DONE) {
     if (live != NULL) free(live->packet);
     free(live);
     live = NULL;
   } else {
-    live->lane_count = count_lanes(&live->receiver);
     live->other = all;
     all = live;
   }
@@ -110,7 +105,7 @@ int interlaken_dpi_close(void *receiver) {
 /* The lane of this number, where the handle has a receiver with such a lane that is not finished. */
 static int find_lane(struct live *live, unsigned int number, struct lane **lane) {
   if (live == NULL || live->packet == NULL) return INTERLAKEN_NO_RECEIVER;
-  if (number >= live->lane_count) return INTERLAKEN_NO_LANE;
+  if (number >= live->numbers.lanes) return INTERLAKEN_NO_LANE;
   *lane = &live->lanes[number];
   return (*lane)->finished ? INTERLAKEN_FINISHED : INTERLAKEN_DONE;
 }
@@ -220,6 +215,19 @@ int interlaken_dpi_lane_state(void *receiver, unsigned int lane, unsigned int *s
   uint32_t found = INTERLAKEN_LANE_SEARCHING, result = INTERLAKEN_NO_RECEIVER;
   if (live != NULL) result = interlaken_receiver_lane_state(&live->receiver, lane, &found);
   *state = found;
+  return (int)result;
+}
+
+int interlaken_dpi_place(void *receiver, unsigned int known, unsigned int index, unsigned long long group, unsigned int *lane,
+                         unsigned long long *bit) {
+  struct live *live = (struct live *)receiver;
+  interlaken_place place;
+  uint32_t number = 0, result = INTERLAKEN_NO_RECEIVER;
+  uint64_t first = 0;
+  place.known = known, place.index = index, place.group = group;
+  if (live != NULL && live->packet != NULL) result = interlaken_plan_place(&live->numbers, &place, &number, &first);
+  *lane = number;
+  *bit = first;
   return (int)result;
 }
 

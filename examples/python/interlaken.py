@@ -18,6 +18,11 @@ Where lanes go live, call `take` for each in turn, and `packet`, `flow` and `loc
         damage.flip(0, 12345)
         damaged = damage.apply(0, data)
 
+    plan = Plan(text, library="lib/libinterlaken.so")
+    plan.lanes, plan.channels, plan.place(event.first), plan.slot(0)
+
+The numbers of a plan, and the lane and bit of a word: of one that came, and of one that is sent.
+
 It calls the C library that tools/library makes. A call that is misused raises Misuse, and changes nothing; a plan that is refused
 raises BadPlan, with the row and the cause. A Receiver takes one call at a time, and so do a Transmitter and a Damage. It needs Python 3.10.
 """
@@ -28,7 +33,7 @@ import ctypes
 import enum
 import weakref
 from dataclasses import dataclass
-from typing import Iterator, Optional, Sequence, TypeVar
+from typing import Callable, Iterator, Optional, Sequence, TypeVar
 
 
 class Result(enum.IntEnum):
@@ -226,6 +231,28 @@ class Status:
     held: bool
 
 
+_NUMBERS = (
+    "lanes",
+    "metaframe",
+    "skips",
+    "wide",
+    "deskew",
+    "max_packet",
+    "link_type",
+    "entries",
+    "warmup",
+    "channel_count",
+    "burst_max",
+    "burst_short",
+    "burst_min",
+    "window",
+)
+
+
+class _Plan(ctypes.Structure):
+    _fields_ = [(name, ctypes.c_uint32) for name in _NUMBERS]
+
+
 class _Handle(ctypes.Structure):
     _fields_ = [("at", ctypes.c_void_p), ("live", ctypes.c_uint8)]
 
@@ -308,6 +335,14 @@ _DAMAGE_CALLS = {
 }
 
 
+_PLAN_CALLS = {
+    "read": (ctypes.c_char_p, _size, ctypes.POINTER(_Plan), ctypes.POINTER(_Refusal)),
+    "channels": (ctypes.c_char_p, _size, ctypes.POINTER(ctypes.c_uint16), _size, ctypes.POINTER(_size), ctypes.POINTER(_Refusal)),
+    "place": (ctypes.POINTER(_Plan), ctypes.POINTER(_Place), ctypes.POINTER(_u32), ctypes.POINTER(_u64)),
+    "slot": (ctypes.POINTER(_Plan), _u64, ctypes.POINTER(_u32), ctypes.POINTER(_u64)),
+}
+
+
 def _lane(number: int) -> int:
     """The number of a lane; one that C cannot have is that of no lane, which ctypes would cut to one that may be there."""
     return number if 0 <= number < _NO_LANE else _NO_LANE
@@ -318,6 +353,26 @@ def _bit(number: int) -> int:
     return number if 0 <= number < _NO_BIT else _NO_BIT
 
 
+def _loaded(library: str, prefix: str, calls: dict[str, tuple[type, ...]]) -> dict[str, Callable[..., int]]:
+    """These calls of the library, by their names without the prefix."""
+    loaded = ctypes.CDLL(library)
+    found = {}
+    for name, types in calls.items():
+        found[name] = getattr(loaded, prefix + name)
+        found[name].argtypes, found[name].restype = types, _u32
+    return found
+
+
+def _check(result: Result, refusal: _Refusal = _Refusal()) -> None:
+    """Raises what a result that is not DONE stands for."""
+    if result is Result.BAD_PLAN:
+        raise BadPlan(Cause(refusal.cause), refusal.row, Key(refusal.key))
+    if result is Result.OUT_OF_MEMORY:
+        raise MemoryError
+    if result is not Result.DONE:
+        raise Misuse(result)
+
+
 _Self = TypeVar("_Self", bound="_Opened")
 
 
@@ -325,11 +380,7 @@ class _Opened:
     """What the library has behind a handle. As a context manager it is closed at the end."""
 
     def __init__(self, library: str, prefix: str, calls: dict[str, tuple[type, ...]]):
-        loaded = ctypes.CDLL(library)
-        self._calls = {}
-        for name, types in calls.items():
-            self._calls[name] = getattr(loaded, prefix + name)
-            self._calls[name].argtypes, self._calls[name].restype = types, _u32
+        self._calls = _loaded(library, prefix, calls)
         self._handle = _Handle()
 
     def _result(self, name: str, *words: object) -> Result:
@@ -339,13 +390,7 @@ class _Opened:
         self._free = weakref.finalize(self, self._calls["free"], self._handle)
 
     def _call(self, name: str, *words: object) -> None:
-        self._check(self._result(name, *words))
-
-    def _check(self, result: Result) -> None:
-        if result is Result.OUT_OF_MEMORY:
-            raise MemoryError
-        if result is not Result.DONE:
-            raise Misuse(result)
+        _check(self._result(name, *words))
 
     def close(self) -> None:
         """Frees it, which else is done with this object; a second time does nothing. Each further call raises Misuse."""
@@ -364,10 +409,7 @@ class _OfPlan(_Opened):
     def __init__(self, plan: bytes, library: str, prefix: str, calls: dict[str, tuple[type, ...]]):
         super().__init__(library, prefix, calls)
         refusal = _Refusal()
-        result = self._result("new", plan, len(plan), refusal)
-        if result is Result.BAD_PLAN:
-            raise BadPlan(Cause(refusal.cause), refusal.row, Key(refusal.key))
-        self._check(result)
+        _check(self._result("new", plan, len(plan), refusal), refusal)
         self._opened()
 
 
@@ -380,6 +422,44 @@ def _within(number: int, bits: int, what: str) -> int:
 
 def _channel(number: int) -> int:
     return _within(number, 16, "channel number")
+
+
+class Plan:
+    """The numbers of a plan, `channels`, the numbers of the channels that it lists, in rising order, and where on the lanes a word is.
+    The numbers are `lanes`, `metaframe`, `skips`, `wide`, `deskew`, `max_packet`, `link_type`, `entries`, `warmup`, `channel_count`,
+    `burst_max`, `burst_short`, `burst_min` and `window`, as in interlaken.h."""
+
+    def __init__(self, plan: bytes, library: str = "libinterlaken.so"):
+        """`plan` is the text of a plan file, and `library` the path of the shared library."""
+        self._calls = _loaded(library, "interlaken_plan_", _PLAN_CALLS)
+        self._numbers, refusal, count = _Plan(), _Refusal(), _size()
+        _check(Result(self._calls["read"](plan, len(plan), self._numbers, refusal)), refusal)
+        for name in _NUMBERS:
+            setattr(self, name, getattr(self._numbers, name))
+        listed = (ctypes.c_uint16 * self._numbers.channel_count)()
+        _check(Result(self._calls["channels"](plan, len(plan), listed, len(listed), count, refusal)), refusal)
+        self.channels = list(listed)
+
+    def _found(self, name: str, what: object) -> tuple[int, int]:
+        lane, bit = _u32(), _u64()
+        _check(Result(self._calls[name](self._numbers, what, lane, bit)))
+        return lane.value, bit.value
+
+    def place(self, place: Place) -> tuple[int, int]:
+        """The lane of a word that came, by its place, and the bit at which its code would begin if no lane were skewed. If no group has the
+        place, it raises Misuse, of OUT_OF_RANGE."""
+        return self._found("place", _Place(1, _within(place.index, 32, "index"), _within(place.group, 64, "group")))
+
+    def slot(self, slot: int) -> tuple[int, int]:
+        """The lane of a payload word that a transmitter sends, by its number, and the bit at which its code begins. From 2^56 on it raises
+        Misuse, of OUT_OF_RANGE."""
+        return self._found("slot", _within(slot, 64, "slot"))
+
+
+def version(library: str = "libinterlaken.so") -> tuple[int, int, int]:
+    """The version of the library: its major number, its minor number, and its patch number."""
+    number = _loaded(library, "interlaken_", {"version": ()})["version"]()
+    return number // 10000, number // 100 % 100, number % 100
 
 
 class Receiver(_OfPlan):
@@ -459,7 +539,7 @@ class Receiver(_OfPlan):
         return LaneState(state.value)
 
     def is_on(self, channel: int) -> bool:
-        """Whether the far end lets packets be sent on a channel, 0 to 65,535, by the control words that were given as Flow."""
+        """Whether the far end lets packets be sent on a channel that the plan lists, by the control words that were given as Flow."""
         on = _u32()
         self._call("is_on", _channel(channel), on)
         return bool(on.value)

@@ -1,5 +1,6 @@
 pub mod Codes
 pub mod Misuses
 pub mod OnHeld
+pub mod Places
 pub mod Refusals
 pub mod Reports

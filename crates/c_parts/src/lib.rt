@@ -1,13 +1,16 @@
-//! What the handles for C share: the numbers that C sees, misuse of calls, refusals of plans, reports of lanes, and the parts of a box.
+//! What the handles for C share: the numbers that C sees, misuse of calls, refusals of plans, places of words,
+//! reports of lanes, and the parts of a box.
 #![tactic(auto)]
 
 pub mod codes;
 pub mod misuse;
 mod parts;
+pub mod place;
 pub mod refusal;
 pub mod report;
 
 pub use misuse::Misuse;
 pub use parts::Parts;
+pub use place::CPlace;
 pub use refusal::Refusal;
 pub use report::Report;

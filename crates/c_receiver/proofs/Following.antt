@@ -1,5 +1,5 @@
 -- A receiver stands to what was fed and given after any calls.
-use Rattle.std.proofs.Common.{ℕ, ◌≡◌, refl, sym, ap, ◌∙◌, subst, true, true≢false, Result, List, [], ◌∷◌, ◌++◌, Some, None, Ok, Err}
+use Rattle.std.proofs.Common.{ℕ, ◌≡◌, refl, sym, ap, ◌∙◌, subst, true, false, true≢false, Result, List, [], ◌∷◌, ◌++◌, Some, None, Ok, Err}
 use Rattle.std.proofs.lemmas.List.{append-nil}
 use Rattle.lk_base.specs.Link.{Settings}
 use Rattle.receive_model.specs.Events.{Event, Setting}
@@ -11,8 +11,9 @@ use Rattle.rx_end.specs.Standing.{GivesEvent, Stands, event_of}
 use Rattle.rx_end.specs.States.{State}
 use Rattle.rx_end.proofs.Pieces.{given_come_first}
 use Rattle.c_receiver.specs.Calls.{IsRead, KeepsGiven}
-use Rattle.c_receiver.specs.CallsLaw.{AreCalls, AreOthers, Call, Feed, Finish, Next, Look, CallsGiveFirst, IsReadOf, Leads, ReadsThePacket, fed_after, given_after}
+use Rattle.c_receiver.specs.CallsLaw.{AreCalls, AreOthers, Call, Feed, Finish, Next, Look, CallsGiveFirst, IsReadOf, Leads, ReadsNoPacket, ReadsThePacket, fed_after, given_after}
 use Rattle.c_parts.specs.declared.misuse.Misuse.{Misuse}
+use Rattle.c_parts.specs.declared.misuse.Misuse.TheVariants as misuses
 use Rattle.c_receiver.specs.declared.session.Session.{Session}
 
 gave : (event : RxEvent) (w : State) (s : Settings) (setting : Setting) (fed : List Fed) (given : List Event) → GivesEvent event w s setting fed given →
@@ -49,10 +50,15 @@ calls_give_first plan setting s t calls fed given all lanes is unfed are begins 
 -- ---- the packet that was given last
 
 unchanged : (s t : Session) → t ≡ s → KeepsGiven s t
-unchanged s t same = record { bytes = ap (λ (v : Session). v.receiver.reassembly) same; lends = ap (λ (v : Session). v.lends) same; far = ap (λ (v : Session). v.far) same }
+unchanged s t same = record {
+  bytes = ap (λ (v : Session). v.receiver.reassembly) same;
+  lends = ap (λ (v : Session). v.lends) same;
+  far = ap (λ (v : Session). v.far) same;
+  channels = ap (λ (v : Session). v.channels) same;
+}
 
 kept_on : (s u t : Session) → KeepsGiven s u → KeepsGiven u t → KeepsGiven s t
-kept_on s u t first second = record { bytes = second.bytes ∙ first.bytes; lends = second.lends ∙ first.lends; far = second.far ∙ first.far }
+kept_on s u t first second = record { bytes = second.bytes ∙ first.bytes; lends = second.lends ∙ first.lends; far = second.far ∙ first.far; channels = second.channels ∙ first.channels }
 
 packet_stays : (calls : List Call) (s t : Session) → AreOthers s calls t → KeepsGiven s t
 packet_stays [] s t others = unchanged s t (sym others)
@@ -70,3 +76,11 @@ read_of t u offset old new (Ok n) lends keeps read = subst (λ r. IsReadOf r.pac
 pub reads_the_packet : ReadsThePacket
 reads_the_packet s t u channel count first last calls offset old new answer gives others read =
     read_of t u offset old new answer gives.1 (packet_stays calls t u others) read
+
+none_read : (t : Session) (offset : ℕ) (old new : List ℕ) (answer : Result ℕ Misuse) → t.lends ≡ false → IsRead t offset old new answer → (answer ≡ Err misuses.NoPacket) × (new ≡ old)
+none_read t offset old new (Ok n) lends read = absurd (true≢false (sym read.0 ∙ lends))
+none_read t offset old new (Err why) lends read = (ap Err read.1, read.2)
+
+pub reads_no_packet : ReadsNoPacket
+reads_no_packet bytes s t calls offset old new answer is others read =
+    none_read t offset old new answer ((packet_stays calls s t others).lends ∙ is.2.unlent) read

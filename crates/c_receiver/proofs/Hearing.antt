@@ -1,5 +1,7 @@
 -- The calendar of the far end has taken what the given events say, after any calls.
-use Rattle.std.proofs.Common.{ℕ, ◌≡◌, ◌≤◌, refl, sym, ap, ◌∙◌, subst, All, List, [], ◌∷◌, ◌++◌, Some, None, Ok, Err, lit≤}
+use Rattle.std.specs.Prelude.{Vec}
+use Rattle.std.specs.Global.{Global}
+use Rattle.std.proofs.Common.{Bool, Option, ℕ, ◌≡◌, ◌≤◌, refl, sym, ap, ◌∙◌, subst, All, List, [], ◌∷◌, ◌++◌, Some, None, Ok, Err, lit≤}
 use Rattle.std.proofs.lemmas.List.{append-nil}
 use Rattle.std.proofs.lemmas.List.Concat.{flat_map-append}
 use Rattle.std.proofs.lemmas.List.Elements.{All-nil, All-cons}
@@ -11,7 +13,9 @@ use Rattle.rx_end.specs.declared.event.RxEvent.TheVariants as events
 use Rattle.rx_end.specs.Standing.{event_of}
 use Rattle.calendar.specs.declared.incoming.CalendarIn.{CalendarIn}
 use Rattle.duplex_model.specs.DuplexRun.{heard_word}
-use Rattle.c_receiver.specs.CallsLaw.{AreCalls, Call, ChannelsAreHeard, Feed, Finish, Next, Look, Leads, fed_after, given_after}
+use Rattle.link_plan.specs.Listing.{is_listed}
+use Rattle.c_receiver.specs.Calls.{IsChannelState}
+use Rattle.c_receiver.specs.CallsLaw.{AreCalls, Call, ChannelsAreHeard, IsHeard, Feed, Finish, Next, Look, Leads, fed_after, given_after}
 use Rattle.c_receiver.specs.FarEnd.{HasHeard, at_once, heard_in, heard_now, heard_of}
 use Rattle.c_receiver.specs.declared.session.Session.{Session}
 
@@ -61,6 +65,33 @@ all_calls entries [] s t fed fed' given given' are follows =
 all_calls entries (call ∷ calls) s t fed fed' given given' are follows =
     all_calls entries calls are.0 t (fed_after call fed) fed' (given_after call are.0 given) given' are.2 (one_call entries call s are.0 given are.1 follows)
 
+-- ---- the listed channels
+
+same_channels : (call : Call) (s t : Session) → Leads call s t → t.channels ≡ s.channels
+same_channels (Feed lane piece (Ok n)) s t leads = leads.3.channels
+same_channels (Feed lane piece (Err why)) s t leads = ap (λ (v : Session). v.channels) leads.1
+same_channels (Finish lane (Ok u)) s t leads = leads.2.channels
+same_channels (Finish lane (Err why)) s t leads = ap (λ (v : Session). v.channels) leads.1
+same_channels (Next answer) s t leads = leads.3
+same_channels Look s t leads = ap (λ (v : Session). v.channels) leads
+
+channels_stay : (calls : List Call) (s t : Session) (fed fed' : List Fed) (given given' : List Event) → AreCalls s fed given calls t fed' given' → t.channels ≡ s.channels
+channels_stay [] s t fed fed' given given' are = ap (λ (v : Session). v.channels) (sym are.0)
+channels_stay (call ∷ calls) s t fed fed' given given' are =
+    channels_stay calls are.0 t (fed_after call fed) fed' (given_after call are.0 given) given' are.2 ∙ same_channels call s are.0 are.1
+
+-- ---- the answer of a channel
+
+answered : (entries : List ℕ) (s t : Session) (given : List Event) (channel : ℕ) (answer : Option Bool) → t.channels ≡ s.channels → Follows entries t given → IsChannelState t channel answer → IsHeard entries s given channel answer
+answered entries s t given channel (Some on) same follows state = record {
+  listed = sym state.0 ∙ ap (λ (v : Vec ℕ Global). is_listed v.items channel) same;
+  on = state.1 entries (heard_in given) follows (all_at_once given);
+}
+answered entries s t given channel None same follows state = record {
+  listed = sym state ∙ ap (λ (v : Vec ℕ Global). is_listed v.items channel) same;
+  on = tt;
+}
+
 pub channels_are_heard : ChannelsAreHeard
-channels_are_heard entries s t calls fed fed' given channel on new are state =
-    state entries (heard_in given) (all_calls entries calls s t fed fed' [] given are new) (all_at_once given)
+channels_are_heard entries s t calls fed fed' given channel answer new are state =
+    answered entries s t given channel answer (channels_stay calls s t fed fed' [] given are) (all_calls entries calls s t fed fed' [] given are new) state

@@ -1,3 +1,4 @@
+mod DeclaredLocks
 mod Feeding
 mod Following
 mod Hearing

@@ -1,6 +1,7 @@
 -- What the calls on a session do. A call that is misused leaves it as it was.
 use Rattle.std.specs.Prelude.{ℕ, ◌≡◌, ◌-◌, ◌<◌, ◌≤◌, ◌++◌, Bool, true, false, List, Option, Some, None, Result, Ok, Err, length, min, take, drop}
 use Rattle.lk_base.specs.Link.{Settings}
+use Rattle.link_plan.specs.Listing.{is_listed}
 use Rattle.lock_model.specs.declared.types.LaneReport.{LaneReport}
 use Rattle.lock_model.specs.declared.types.LaneState.{LaneState}
 use Rattle.receive_model.specs.Events.{Event, Setting}
@@ -21,11 +22,12 @@ use Rattle.c_receiver.specs.declared.session.Session.{Session}
 abbrev pub Changes : (List Fed → List Fed) → State → State → Type 0
 Changes change v w = (s : Settings) (setting : Setting) (fed : List Fed) (given : List Event) → Stands v s setting fed given → Stands w s setting (change fed) given
 
--- the packet that was given last stays, with its bytes, or that the last event was none; and so does what the far end told
+-- the packet that was given last stays, with its bytes, or that the last event was none; so do what the far end told, and the channels
 pub record KeepsGiven (s t : Session) : Type 0 where
   pub bytes : t.receiver.reassembly ≡ s.receiver.reassembly
   pub lends : t.lends ≡ s.lends
   pub far : t.far ≡ s.far
+  pub channels : t.channels ≡ s.channels
 
 -- A lane takes the longest prefix of the piece that its ring has room for. Nothing else is fed, and nothing is dropped
 abbrev pub IsFeed : Session → Session → ℕ → List ℕ → Result ℕ Misuse → Type 0
@@ -40,7 +42,7 @@ IsFinish s t lane (Err why) = (lane_misuse s.receiver lane ≡ Some why) × (t �
 
 -- the next event is given, or none; of a packet the bytes can be read, and of a control word it is heard what the far end tells
 abbrev pub IsNextOf : Session → Session → Option RxEvent → Type 0
-IsNextOf s t answer = IsNext s.receiver t.receiver answer × (t.lends ≡ is_lent answer) × Hears s.far t.far answer
+IsNextOf s t answer = IsNext s.receiver t.receiver answer × (t.lends ≡ is_lent answer) × Hears s.far t.far answer × (t.channels ≡ s.channels)
 
 -- where the last event was a packet, bytes of it are copied, from the offset on, as many as there is room for
 abbrev pub IsRead : Session → ℕ → List ℕ → List ℕ → Result ℕ Misuse → Type 0
@@ -62,6 +64,7 @@ IsLaneState s lane (Ok state) = (lane < length s.receiver.front.lanes) ×
     IsStateOf settings stands.progress.rounds lane fed state)
 IsLaneState s lane (Err why) = (why ≡ misuses.NoLane) × (length s.receiver.front.lanes ≤ lane)
 
--- whether the far end's channel is on, by what was heard
-abbrev pub IsChannelState : Session → ℕ → Bool → Type 0
-IsChannelState s channel on = IsOnNow s.far channel on
+-- whether the far end's channel is on, by what was heard; nothing of a channel that is not listed
+abbrev pub IsChannelState : Session → ℕ → Option Bool → Type 0
+IsChannelState s channel (Some on) = (is_listed s.channels.items channel ≡ true) × IsOnNow s.far channel on
+IsChannelState s channel None = is_listed s.channels.items channel ≡ false

@@ -1,6 +1,6 @@
 -- The law on any calls on a receiver, in any order.
-use Rattle.std.specs.Prelude.{ℕ, ◌≡◌, ◌++◌, Bool, List, [], ◌∷◌, length, min, take, drop, ◌-◌, Option, Some, None, Result, Ok, Err}
-use Rattle.link_plan.specs.Listing.{numbers_of}
+use Rattle.std.specs.Prelude.{ℕ, ◌≡◌, ◌++◌, Bool, List, [], ◌∷◌, length, min, take, drop, ◌-◌, Option, Some, None, is_some, IfSome, Result, Ok, Err}
+use Rattle.link_plan.specs.Listing.{is_listed, numbers_of}
 use Rattle.link_plan.specs.declared.plan.Plan.{Plan}
 use Rattle.receive_model.specs.Events.{Event, Setting}
 use Rattle.event_model.specs.Fed.{AllBegin, Fed}
@@ -13,7 +13,9 @@ use Rattle.rx_end.specs.declared.event.RxEvent.TheVariants as events
 use Rattle.rx_end.specs.Standing.{IsUnfed, event_of}
 use Rattle.c_receiver.specs.Calls.{IsChannelState, IsFeed, IsFinish, IsNextOf, IsRead}
 use Rattle.c_receiver.specs.FarEnd.{HasHeard, is_on_by}
+use Rattle.c_receiver.specs.Opens.{IsOfPlan}
 use Rattle.c_parts.specs.declared.misuse.Misuse.{Misuse}
+use Rattle.c_parts.specs.declared.misuse.Misuse.TheVariants as misuses
 use Rattle.c_receiver.specs.declared.session.Session.{Session}
 
 -- a call, with its arguments and its answer
@@ -80,7 +82,17 @@ ReadsThePacket = (s t u : Session) (channel count : ℕ) (first last : Pos) (cal
     Leads (Next (Some (events.Packet channel count first last))) s t → AreOthers t calls u → IsRead u offset old new answer →
     IsReadOf t.receiver.reassembly.packet offset old new answer
 
+-- Before the first `next`, and after any other calls, there is no packet to read
+abbrev pub ReadsNoPacket : Type 0
+ReadsNoPacket = (bytes : List ℕ) (s t : Session) (calls : List Call) (offset : ℕ) (old new : List ℕ) (answer : Result ℕ Misuse) →
+    IsOfPlan bytes s → AreOthers s calls t → IsRead t offset old new answer → (answer ≡ Err misuses.NoPacket) × (new ≡ old)
+
+-- an answer of a channel is one exactly where the channel is listed; the channel is on by the events that were given
+pub record IsHeard (entries : List ℕ) (s : Session) (given : List Event) (channel : ℕ) (answer : Option Bool) : Type 0 where
+  pub listed : is_some answer ≡ is_listed s.channels.items channel
+  pub on : IfSome answer (λ on. on ≡ is_on_by entries given channel)
+
 -- After any calls a channel of the far end is on by the events that were given: by the words and the spans among them
 abbrev pub ChannelsAreHeard : Type 0
-ChannelsAreHeard = (entries : List ℕ) (s t : Session) (calls : List Call) (fed fed' : List Fed) (given : List Event) (channel : ℕ) (on : Bool) →
-    HasHeard s.far entries [] → AreCalls s fed [] calls t fed' given → IsChannelState t channel on → on ≡ is_on_by entries given channel
+ChannelsAreHeard = (entries : List ℕ) (s t : Session) (calls : List Call) (fed fed' : List Fed) (given : List Event) (channel : ℕ) (answer : Option Bool) →
+    HasHeard s.far entries [] → AreCalls s fed [] calls t fed' given → IsChannelState t channel answer → IsHeard entries s given channel answer

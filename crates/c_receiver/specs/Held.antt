@@ -6,7 +6,7 @@ use Rattle.lock_model.specs.declared.types.LaneState.{LaneState}
 use Rattle.rx_end.specs.declared.event.RxEvent.{RxEvent}
 use Rattle.c_receiver.specs.Calls.{IsChannelState, IsFeed, IsFinish, IsLaneState, IsNextOf, IsRead, IsReport}
 use Rattle.plan_errors.specs.declared.error.PlanError.{PlanError}
-use Rattle.c_parts.specs.Codes.{code_of, done, in_use, no_receiver, plan_code, state_code}
+use Rattle.c_parts.specs.Codes.{code_of, done, in_use, no_channel, no_receiver, plan_code, state_code}
 use Rattle.c_parts.specs.OnHeld.{OnHeld}
 use Rattle.c_receiver.specs.Opens.{IsOfPlan}
 use Rattle.c_parts.specs.Refusals.{IsRefused, of_row, refusal_of}
@@ -35,6 +35,11 @@ GivesReport (Err why) code report = (code ≡ code_of why) × (report ≡ no_rep
 abbrev pub GivesState : Result LaneState Misuse → ℕ → ℕ → Type 0
 GivesState (Ok found) code state = (code ≡ done) × (state ≡ state_code found)
 GivesState (Err why) code state = (code ≡ code_of why) × (state ≡ 0)
+
+-- 1 where the channel is on, else 0; 0 where it is not listed
+abbrev pub GivesOn : Option Bool → ℕ → ℕ → Type 0
+GivesOn (Some on) code told = (code ≡ done) × (told ≡ digit on)
+GivesOn None code told = (code ≡ no_channel) × (told ≡ 0)
 
 -- ---- the calls
 
@@ -76,7 +81,6 @@ abbrev pub TellsState : Option Session → Option Session → ℕ → ℕ → �
 TellsState old new lane code state =
     OnHeld ((code ≡ no_receiver) × (state ≡ 0)) (λ (s t : Session). (result : Result LaneState Misuse) × IsLaneState s lane result × GivesState result code state × (t ≡ s)) old new
 
--- 1 where the channel is on, else 0; 0 where there is no receiver
 abbrev pub TellsChannel : Option Session → Option Session → ℕ → ℕ → ℕ → Type 0
 TellsChannel old new channel code on =
-    OnHeld ((code ≡ no_receiver) × (on ≡ 0)) (λ (s t : Session). (result : Bool) × IsChannelState s channel result × (code ≡ done) × (on ≡ digit result) × (t ≡ s)) old new
+    OnHeld ((code ≡ no_receiver) × (on ≡ 0)) (λ (s t : Session). (result : Option Bool) × IsChannelState s channel result × GivesOn result code on × (t ≡ s)) old new

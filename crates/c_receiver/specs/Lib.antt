@@ -7,3 +7,4 @@ pub mod Opens
 pub mod Owned
 pub mod Runs
 pub mod Shown
+pub mod StateLaw

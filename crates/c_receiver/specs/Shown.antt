@@ -8,12 +8,8 @@ use Rattle.lk_base.specs.declared.position.Pos.{Pos}
 use Rattle.receive_model.specs.declared.span.Span.{Span}
 use Rattle.rx_end.specs.declared.event.RxEvent.{RxEvent}
 use Rattle.rx_end.specs.declared.event.RxEvent.TheVariants as events
+use Rattle.c_parts.specs.Places.{place_of}
 use Rattle.c_receiver.specs.declared.event.CEvent.{CEvent}
-use Rattle.c_receiver.specs.declared.event.CPlace.{CPlace}
-
-abbrev pub place_of : Option Pos → CPlace
-place_of None = record { known = 0; index = 0; group = 0 }
-place_of (Some pos) = record { known = 1; index = pos.index; group = pos.group }
 
 abbrev pub drop_number : DropWhy → ℕ
 drop_number drops.Bad = 0

@@ -1,6 +1,6 @@
 //! The calls on a receiver.
 ghost use Rattle.std.specs.Prelude.{◌≡◌, IfOk, IfErr};
-ghost use Rattle.c_receiver.specs.Held.{Feeds, Finishes, Frees, GivesCode, GivesCount, GivesEvent, GivesReport, GivesState, Makes, Reads, Reports, TellsChannel, TellsState};
+ghost use Rattle.c_receiver.specs.Held.{Feeds, Finishes, Frees, GivesCode, GivesCount, GivesEvent, GivesOn, GivesReport, GivesState, Makes, Reads, Reports, TellsChannel, TellsState};
 ghost use Rattle.c_parts.specs.Reports.{no_report};
 ghost use Rattle.c_parts.specs.Refusals.{IsRefused};
 ghost use Rattle.c_receiver.specs.Opens.{IsOfPlan};
@@ -8,7 +8,9 @@ ghost use Rattle.c_receiver.specs.Opens.{IsOfPlan};
 use crate::event::{CEvent, shown};
 use crate::handle::ReceiverHandle;
 use crate::session::Session;
-use c_parts::codes::{DONE, IN_USE, LANE_SEARCHING, NO_RECEIVER, code_of, plan_code, state_code};
+use c_parts::codes::{
+    DONE, IN_USE, LANE_SEARCHING, NO_CHANNEL, NO_RECEIVER, code_of, plan_code, state_code,
+};
 use c_parts::misuse::Misuse;
 use c_parts::refusal::{Refusal, no_refusal, refusal_of};
 use c_parts::report::{Report, as_report, no_report};
@@ -222,7 +224,22 @@ pub fn lane_state(alloc: Global, receiver: &mut ReceiverHandle, lane: u32, state
     told(answer, state)
 }
 
-/// Writes whether the far end's channel is on, 1 or 0, by the control words that `next` gave. It is `DONE` or `NO_RECEIVER`.
+// The result of a call that tells whether a channel is on; it is 0 so far.
+fn shown_on(answer: Option<bool>, on: &mut u32) -> u32
+    requires { on.old ≡ 0 }
+    ensures { GivesOn answer result on.new }
+{
+    match answer {
+        Some(state) => {
+            *on = state as u32;
+            DONE
+        }
+        None => NO_CHANNEL,
+    }
+}
+
+/// Writes whether the far end's channel is on, 1 or 0, by the control words that `next` gave. It is `DONE`, `NO_CHANNEL` or
+/// `NO_RECEIVER`.
 pub fn is_on(alloc: Global, receiver: &mut ReceiverHandle, channel: u16, on: &mut u32) -> u32
     ensures { TellsChannel receiver.old.at.session receiver.new.at.session channel result on.new }
 {
@@ -230,8 +247,7 @@ pub fn is_on(alloc: Global, receiver: &mut ReceiverHandle, channel: u16, on: &mu
     let Some(session) = receiver.take(alloc) else {
         return NO_RECEIVER;
     };
-    let state = session.is_on(channel);
+    let answer = session.is_on(channel);
     receiver.put(session);
-    *on = state as u32;
-    DONE
+    shown_on(answer, on)
 }

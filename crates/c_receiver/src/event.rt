@@ -1,25 +1,16 @@
 //! Events as C sees them.
 ghost use Rattle.std.specs.Prelude.{◌≡◌};
-ghost use Rattle.c_receiver.specs.Shown.{drop_number, dropped, fault_number, fault_span, flow, no_event, packet, place_of, shown};
+ghost use Rattle.c_receiver.specs.Shown.{drop_number, dropped, fault_number, fault_span, flow, no_event, packet, shown};
 
 use c_parts::codes::{
     DROP_BAD, DROP_CRC, DROP_END, DROP_LOST, DROP_PROTOCOL, DROP_SENDER_ERROR, DROP_TOO_LONG,
     DROP_UNLISTED, DROPPED, ENDED, FAULT_BAD, FAULT_CRC, FAULT_END, FAULT_LOST, FAULT_PROTOCOL,
     FAULT_START, FLOW, NONE, PACKET, SPAN,
 };
+use c_parts::place::{CPlace, place_of};
 use lk_base::{DropWhy, Pos, Why};
 use receive_model::Span;
 use rx_end::RxEvent;
-
-/// The place of a word: its group, named by the received bit position of its Sync on lane 0, and the index of the word in it. Where
-/// there is none all is 0.
-#[repr(C)]
-#[derive(Clone, Copy)]
-pub struct CPlace {
-    pub known: u32,
-    pub index: u32,
-    pub group: u64,
-}
 
 /// An event, or none. A field that its kind lacks is 0.
 #[repr(C)]
@@ -39,23 +30,6 @@ pub struct CEvent {
     pub last: CPlace,
     /// A control word.
     pub word: u64,
-}
-
-fn place_of(pos: Option<Pos>) -> CPlace
-    ensures { result ≡ place_of pos }
-{
-    match pos {
-        None => CPlace {
-            known: 0,
-            index: 0,
-            group: 0,
-        },
-        Some(pos) => CPlace {
-            known: 1,
-            index: pos.index,
-            group: pos.group,
-        },
-    }
 }
 
 // An event of this kind with no field.

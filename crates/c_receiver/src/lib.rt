@@ -10,5 +10,5 @@ pub mod laws;
 mod session;
 
 pub use calls::{feed, finish, free, is_on, lane_state, new, next, read, report};
-pub use event::{CEvent, CPlace};
+pub use event::CEvent;
 pub use handle::ReceiverHandle;

@@ -1,5 +1,6 @@
 //! What C holds: a receiver, with what it must know to answer for any call.
 ghost use Rattle.std.specs.Prelude.{◌≡◌, true, false, None, [], IfOk, length, replicate};
+ghost use Rattle.link_plan.specs.Listing.{channels_in_order, numbers_of};
 ghost use Rattle.c_receiver.specs.FarEnd.{HasHeard};
 ghost use Rattle.c_receiver.specs.Misuses.{feed_misuse, lane_misuse};
 ghost use Rattle.c_receiver.specs.Runs.{Runs, is_lent};
@@ -7,19 +8,20 @@ ghost use Rattle.rx_end.specs.Standing.{IsUnfed};
 
 use crate::far_end::FarEnd;
 use c_parts::misuse::{self, Misuse};
-use link_plan::Plan;
+use link_plan::{Plan, channels_in_order};
 use lk_base::OutOfMemory;
 use rx_end::{LaneReport, LaneState, Receiver, RxEvent};
 use std::alloc::Global;
 
-/// A receiver, which lanes of it are finished, how many bytes each was fed, whether the last event was a packet, and what the far end
-/// tells of its channels.
+/// A receiver, which lanes of it are finished, how many bytes each was fed, whether the last event was a packet, the listed channels in
+/// order of number, and what the far end tells of its channels.
 #[derive(Drop)]
 pub struct Session {
     pub receiver: Receiver,
     finished: Vec<bool>,
     fed: Vec<usize>,
     pub lends: bool,
+    pub channels: Vec<u16>,
     pub far: FarEnd,
     ghost runs: { ∥ Runs receiver finished.items fed.items ∥₁ },
     ghost lent: { ∥ (lends ≡ true → receiver.reassembly.lending ≡ true) ∥₁ },
@@ -48,10 +50,13 @@ impl Session {
     pub fn new(alloc: Global, plan: &Plan) -> Result<Session, OutOfMemory>
         ensures unfed { IfOk result (λ s. IsUnfed plan.now s.receiver) }
         ensures unheard { IfOk result (λ s. HasHeard s.far plan.now.entries.items []) }
+        ensures unlent { IfOk result (λ s. s.lends ≡ false) }
+        ensures listed { IfOk result (λ s. s.channels.items ≡ channels_in_order (numbers_of plan.now.channels.items)) }
     {
         let lanes = plan.link.lanes() as usize;
         let finished = none_finished(alloc, lanes)?;
         let fed = none_fed(alloc, lanes)?;
+        let channels = channels_in_order(alloc, &plan.channels)?;
         let far = FarEnd::new(alloc, &plan.entries)?;
         let receiver = Receiver::new(alloc, plan)?;
         Ok(Session {
@@ -59,6 +64,7 @@ impl Session {
             finished,
             fed,
             lends: false,
+            channels,
             far,
         })
     }
@@ -162,11 +168,15 @@ impl Session {
         Ok(self.receiver.lane_state(lane))
     }
 
-    /// Whether the far end lets packets be sent on a channel, by the control words that were given.
-    pub fn is_on(&self, channel: u16) -> bool
+    /// Whether the far end lets packets be sent on a channel, by the control words that were given. None if the channel is not listed.
+    pub fn is_on(&self, channel: u16) -> Option<bool>
         ensures { IsChannelState self.now channel result }
     {
-        self.far.is_on(channel)
+        if self.channels.contains(&channel) {
+            Some(self.far.is_on(channel))
+        } else {
+            None
+        }
     }
 }
 

@@ -108,7 +108,8 @@ pub extern "C" fn interlaken_receiver_lane_state(
     c_receiver::lane_state(alloc, receiver, lane, state)
 }
 
-/// Writes whether the far end's channel is on, 1 or 0, by the control words that `next` gave. It is `DONE` or `NO_RECEIVER`.
+/// Writes whether the far end's channel is on, 1 or 0, by the control words that `next` gave. It is `DONE`, `NO_CHANNEL` or
+/// `NO_RECEIVER`.
 #[unsafe(no_mangle)]
 pub extern "C" fn interlaken_receiver_is_on(
     alloc: Global,

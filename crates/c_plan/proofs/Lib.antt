@@ -1,0 +1,4 @@
+mod GroupPlaces
+mod Limits
+mod SlotFits
+mod Slots

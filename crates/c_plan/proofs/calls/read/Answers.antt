@@ -1,0 +1,6 @@
+-- The numbers are written.
+use Rattle.std.proofs.Common.{inl, refl}
+use Rattle.c_plan.proofs.calls.read.Goals as goal
+
+pub returns-in-Ok : goal.returns-in-Ok
+returns-in-Ok c = let e = c.in-Ok.ensures {u = tt} in inl (e.0, e.1, e.2, refl, c.no_refusal.ensures)
