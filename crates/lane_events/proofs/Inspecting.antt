@@ -30,7 +30,7 @@ use Rattle.lane_events.specs.declared.types.EventKind.TheVariants as kinds
 use Rattle.lane_events.specs.declared.word_events.WordEvents.{WordEvents}
 use Rattle.lane_events.specs.EventLaw.{AreCounted}
 use Rattle.lane_events.specs.Events.{AreLaneEvents, has_event, lane_events, word_events}
-use Rattle.lane_events.specs.Inspection.{Balances, Inspects, InspectorView, IsPassed, IsPushed, IsShown, balance_of, events_in, excess_before, open_of}
+use Rattle.lane_events.specs.Inspection.{Balances, GoesOn, Inspects, InspectorView, IsPassed, IsPushed, IsShown, balance_of, events_in, excess_before, open_of}
 use Rattle.lane_events.specs.Steps.{balance_before, balance_behind, covered_word, is_plain, told, unbalances}
 use Rattle.lane_events.specs.Balance.{balance_after}
 use Rattle.lane_events.proofs.Balances.{balance_more, balances_stay, none_balance, unbalances_is}
@@ -158,11 +158,6 @@ reported : (s : Settings) (bits : List Bool) (report : LaneReport) → IsReport 
 reported s bits report is attempts are =
     subst (λ (r : LaneReport). AreCounted (lane_events s bits attempts) r) (sym (is attempts are))
     (events_are_counted s bits (lane_events s bits attempts) attempts (record { attempts = attempts; are = are; events_are = refl }) are)
-
--- what goes on over some bits more: the inspector, and the events, to which these are appended
-pub record GoesOn (v w : InspectorView) (more : List Bool) (new : List LaneEvent) : Type 0 where
-  pub inspects : (s : Settings) (bits : List Bool) → Inspects v s bits → Inspects w s (bits ++ more)
-  pub events : (s : Settings) (bits : List Bool) (events : List LaneEvent) → Inspects v s bits → AreLaneEvents s bits events → AreLaneEvents s (bits ++ more) (events ++ new)
 
 -- the same events are counted the same
 still_counted : (old all : List LaneEvent) (before after : LaneReport) → all ≡ old → after ≡ before → AreCounted old before → AreCounted all after
