@@ -36,8 +36,9 @@ fn fresh_lanes(alloc: Global, link: &Link) -> Result<Vec<LiveLane>, OutOfMemory>
     ensures { IfOk result (λ lanes. AreFresh link.now lanes.items) }
 {
     let mut lanes = Vec::new(alloc);
-    for _number in 0..link.lanes() {
-        lanes.push(LiveLane::new(alloc, link)?)?;
+    for number in 0..link.lanes() {
+        let lane = LiveLane::new(alloc, link)?;
+        lanes.push(lane)?;
     }
     Ok(lanes)
 }
