@@ -683,7 +683,7 @@ static void strike(void) {
     struck_count[lane] = lanes[lane].count < INSPECTED ? lanes[lane].count : INSPECTED;
     memcpy(struck[lane], lanes[lane].at, struck_count[lane]);
     for (flips = below(3) == 0 ? 0 : below(90); flips > 0; flips--) struck[lane][below((uint32_t)struck_count[lane])] ^= (uint8_t)(1u << below(8));
-    if (below(3) > 0) continue;
+    if (below(3) > 0 || struck_count[lane] < 1000) continue;
     bytes = 1 + below(400);
     memset(struck[lane] + below((uint32_t)struck_count[lane] - bytes), 0, bytes);
   }
@@ -802,9 +802,9 @@ static void try_inspector_report(struct inspected *k) {
 
 static void inspector_sequence(void) {
   static struct inspected one;
+  static uint32_t turn;
   uint32_t calls = 20 + below(400);
-  strike();
-  learn();
+  if (turn++ % 8 == 0) strike(), learn();
   while (calls-- > 0) {
     long before = allocations;
     switch (below(40)) {

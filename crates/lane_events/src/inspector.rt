@@ -74,12 +74,9 @@ impl LaneInspector {
         ensures events { (s : Settings) (so_far : List Bool) (events : List Event) → Inspects self.old s so_far → AreLaneEvents s so_far events →
             AreLaneEvents s (so_far ++ bits_of (8 * count) bits) (events ++ events_in result) }
     {
-        match self.push(bits, count) {
+        match self.next_events(bits, count) {
+            Some(events) => events,
             None => WordEvents::none(0),
-            Some(word) => {
-                let after = self.lock.report();
-                self.shown(&after, word.step, 8 * count - 1 - word.place)
-            }
         }
     }
 

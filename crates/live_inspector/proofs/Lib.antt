@@ -1,5 +1,4 @@
--- What other crates cite.
-pub mod CallsHold
 -- What this crate alone cites.
 mod AllLanes
 mod Taking
+mod CallsHold
