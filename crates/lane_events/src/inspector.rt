@@ -152,20 +152,14 @@ impl LaneInspector {
         true
     }
 
-    // The events of the word of a step after which this many bits came, if it shows any. Few words come to it: it is kept out of the
-    // loops.
+    // The events of the word of a step after which this many bits came. Few words come to it: it is kept out of the loops.
     #[inline(never)]
-    fn tell(&mut self, step: LaneStep, further: u32) -> Option<WordEvents>
+    fn tell(&mut self, step: LaneStep, further: u32) -> WordEvents
         requires { further ≤ 55 }
-        ensures told { IsTold self.old self.new step further (shown_in result) }
-        ensures some { IfSome result (λ events. events_in events ≡ [] → ⊥) }
+        ensures { IsTold self.old self.new step further (events_in result) }
     {
         let after = self.lock.report();
-        let events = self.shown(&after, step, further);
-        if events.is_empty() {
-            return None;
-        }
-        Some(events)
+        self.shown(&after, step, further)
     }
 
     // Takes the next bytes, at most seven. Returns the events of the word that ends within them, if it shows any.
@@ -186,7 +180,11 @@ impl LaneInspector {
         if self.passes(word.step, further) {
             return None;
         }
-        self.tell(word.step, further)
+        let events = self.tell(word.step, further);
+        if events.is_empty() {
+            return None;
+        }
+        Some(events)
     }
 
     /// Takes the next byte of the lane, and returns the events of the word that ends within it, if one does. At most 2^60 bits come in
