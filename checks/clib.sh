@@ -20,9 +20,9 @@ include=$folder/library/include
 strict=(-Wall -Wextra -Werror -pedantic -O1 "-I$include")
 
 holds 'calls of the header and of the archive' "$(grep -o '^uint32_t interlaken_[a-z_]*' "$include/interlaken.h" | cut -d ' ' -f 2 | sort)" \
-  "$(nm -g --defined-only "$archive" 2>/dev/null | grep -oE '\binterlaken_((receiver|transmitter|damage|plan)_[a-z_]*|version)$' | sort -u)"
+  "$(nm -g --defined-only "$archive" 2>/dev/null | grep -oE '\binterlaken_((receiver|transmitter|damage|plan|inspector)_[a-z_]*|version)$' | sort -u)"
 holds 'calls of the shared library' "$(nm -D --defined-only library/lib/libinterlaken.so | awk '$2 == "T" { sub(/@.*/, "", $3); print $3 }' | sort)" \
-  "$(nm -g --defined-only "$archive" 2>/dev/null | grep -oE '\binterlaken_((receiver|transmitter|damage|plan)_[a-z_]*|version)$' | sort -u)"
+  "$(nm -g --defined-only "$archive" 2>/dev/null | grep -oE '\binterlaken_((receiver|transmitter|damage|plan|inspector)_[a-z_]*|version)$' | sort -u)"
 
 # One number counts for the program, the library and the formats.
 holds 'the version of the header and of the release' "$(sed -n 's/^#define INTERLAKEN_VERSION "\(.*\)"$/\1/p' "$include/interlaken.h")" \
@@ -76,6 +76,15 @@ same_as_receive() { # WHAT PLAN PREFIX SEED..
     holds "$what, seed ${seed:-none}: files" "$written" same
     rm -f got.*
   done
+}
+
+# Passes if an inspector in Python tells of these lanes what `inspect` prints and writes.
+same_as_inspect() { # PLAN SEED
+  local lines out
+  out=$(awk -F, '$1 == "out" { print $2 }' "$1")
+  lines=$("$program" inspect "$1" 2>&1)
+  holds "what the lanes of $1 show, seed $2" "$(python3 -B "$top/checks/clib/inspected.py" "$top/examples/python" library/lib/libinterlaken.so "$1" "$2" 2>&1)" \
+    "$(printf '%s\n' "$lines" && cat "$out.events.csv")"
 }
 
 # The example in the header's first comment, as the body of a function that main calls with a plan and a lane of one lane.
@@ -138,9 +147,9 @@ if ! lacks python3 python3 'examples/python'; then
 import sys
 sys.path.insert(0, sys.argv[1])
 import interlaken as i
-for kind, prefix in (i.Result, ""), (i.Cause, ""), (i.Key, "KEY_"), (i.Kind, ""), (i.Drop, "DROP_"), (i.Fault, "FAULT_"), (i.LaneState, "LANE_"):
+for kind, prefix in (i.Result, ""), (i.Cause, ""), (i.Key, "KEY_"), (i.Kind, ""), (i.Drop, "DROP_"), (i.Fault, "FAULT_"), (i.LaneState, "LANE_"), (i.LaneEventKind, "LANE_EVENT_"):
     for one in kind:
-        print(one.name if one.name == "NO_KEY" else prefix + one.name, one.value)
+        print(one.name if one.name in ("NO_KEY", "NO_LANE_EVENT") else prefix + one.name, one.value)
 ' "$top/examples/python" | LC_ALL=C sort)" "$numbers"
   holds 'channels that the far end turns off, in Python' "$(python3 -B -c '
 import sys
@@ -220,6 +229,42 @@ with i.Damage(2, "library/lib/libinterlaken.so") as damage:
         except i.Misuse as misuse:
             print(misuse)
 ' "$top/examples/python" 2>&1)" $'True False True\nTrue False True\nPASSED\nPASSED\nOUT_OF_RANGE\nOUT_OF_RANGE\nNO_LANE\nNO_LANE\nOUT_OF_RANGE\nNO_DAMAGE'
+  # What lanes show: lanes of the program, with damage, and the same ones struck by many rows; and generated cases.
+  sed 's/^out,.*/out,drawn.damaged/' struck.plan >seen.plan
+  for plan in damaged.plan drawn.plan seen.plan; do
+    for seed in 1 2 3; do
+      same_as_inspect "$plan" "$seed"
+    done
+  done
+  for case in $(seq 1 "${CASES:-12}"); do
+    rm -f g*
+    "$program" generate "$case" g >/dev/null 2>&1
+    [ $? -le 3 ] && [ -f g.plan ] || continue
+    same_as_inspect g.plan "$case"
+  done
+  rm -f g*
+  holds 'an inspector in Python, misused' "$(python3 -B -c '
+import sys
+sys.path.insert(0, sys.argv[1])
+import interlaken as i
+library = "library/lib/libinterlaken.so"
+data = open("drawn.damaged.lane.0", "rb").read()
+with i.Inspector(open("damaged.plan", "rb").read(), library) as inspector:
+    fed = inspector.feed(0, data)
+    print(0 < fed < len(data), inspector.feed(0, data[fed:]), inspector.feed(1, b""))
+    event = inspector.next()
+    print(event.lane, event.kind.name, event.bit + 67 <= 8 * fed < event.bit + 67 + 56)
+    inspector.finish(0)
+    for wrong in (lambda: inspector.feed(0, b"a"), lambda: inspector.finish(0), lambda: inspector.feed(2, b"a"), lambda: inspector.report(-1),
+                  inspector.close, lambda: inspector.next(), lambda: inspector.feed(0, b"a"), lambda: i.Inspector(b"lanes,0", library)):
+        try:
+            wrong()
+        except (i.Misuse, i.BadPlan) as error:
+            print(error)
+' "$top/examples/python" 2>&1)" "True 0 0
+0 LOCK True
+$(printf '%s\n' FINISHED FINISHED NO_LANE NO_LANE NO_INSPECTOR NO_INSPECTOR)
+row 1: RANGE"
   # Two ends, each with a transmitter and a receiver: the far end turns channel 1 off, and on again.
   holds 'flow control between two ends in Python' "$(python3 -B -c '
 import sys

@@ -4,6 +4,8 @@
  * - A transmitter: give it packets and flow control at any time, and take bytes of lanes.
  * - Damage: it inverts bits of lanes on their way, or forces them to 0, while a bench runs.
  * - The numbers of a plan, and the place of a word on the lanes: calls without a handle.
+ * - An inspector: feed it bytes of lanes; it returns what each lane shows and at which bit: wrong
+ *   words, and locks declared and lost.
  *
  * This receives the packets of one lane. `plan` is the text of a plan file of `plan_size` bytes,
  * and `lane` has `size` bytes of the lane:
@@ -28,6 +30,8 @@
  * - A transmitter: for each lane, `ended` is 1 and `waiting` is 0 in what
  *   `interlaken_transmitter_status_of` writes. That comes after `finish`. If `take` returns fewer
  *   bytes before, take the other lanes: too many of their bytes wait.
+ * - An inspector: INTERLAKEN_NO_LANE_EVENT means that no event is due on any lane. All events of
+ *   the bytes that were taken were returned: feed more bytes.
  *
  * Threads
  *
@@ -70,17 +74,19 @@
  *   copy it, use only one of the two afterwards.
  *
  * Any other misuse returns an error code and changes nothing. If several results apply, the call
- * returns the first of NO_RECEIVER or NO_DAMAGE or NO_TRANSMITTER, IN_USE, NO_LANE, FINISHED,
- * NO_CHANNEL, BAD_LENGTH, TOO_MANY, OUT_OF_RANGE, PASSED, OUT_OF_MEMORY. IN_USE also precedes
- * BAD_PLAN. What a call only writes need not be initialised, and is written whatever the result is.
+ * returns the first of NO_RECEIVER or NO_DAMAGE or NO_TRANSMITTER or NO_INSPECTOR, IN_USE,
+ * NO_LANE, FINISHED, NO_CHANNEL, BAD_LENGTH, TOO_MANY, OUT_OF_RANGE, PASSED, OUT_OF_MEMORY. IN_USE
+ * also precedes BAD_PLAN. What a call only writes need not be initialised, and is written whatever
+ * the result is.
  *
  * Memory comes from the three functions of interlaken_alloc.h. The libraries that tools/library
  * makes have them over malloc, realloc and free. After `interlaken_receiver_new` no call on a
- * receiver allocates memory. Of the calls on damage `new`, `flip` and `dark` do; of the calls on a
- * transmitter `new` and `packet` do. `interlaken_plan_read` and `interlaken_plan_channels` allocate
- * memory, and free it before they return. A receiver keeps room for the longest packet of the plan
- * (`max_packet`) on each channel, so a smaller `max_packet` saves memory. Give a thread that calls
- * one of the two `new` with a plan, or one of these two calls, a stack of 128 KiB or more. */
+ * receiver allocates memory, nor after `interlaken_inspector_new` on an inspector. Of the calls on
+ * damage `new`, `flip` and `dark` do; of the calls on a transmitter `new` and `packet` do.
+ * `interlaken_plan_read` and `interlaken_plan_channels` allocate memory, and free it before they
+ * return. A receiver keeps room for the longest packet of the plan (`max_packet`) on each channel,
+ * so a smaller `max_packet` saves memory. Give a thread that calls a `new` with a plan, or one of
+ * these two calls, a stack of 128 KiB or more. */
 #ifndef INTERLAKEN_H
 #define INTERLAKEN_H
 
@@ -164,6 +170,13 @@ typedef struct interlaken_damage {
   void *at;
   uint8_t live;
 } interlaken_damage;
+
+/* A handle of an inspector, or of none. All zeros is a handle of none. Both members belong to the
+ * library. */
+typedef struct interlaken_inspector {
+  void *at;
+  uint8_t live;
+} interlaken_inspector;
 
 /* Causes of a refusal. Rows are counted from 1; empty lines do not count. */
 enum interlaken_cause {
@@ -504,6 +517,79 @@ uint32_t interlaken_damage_dark(interlaken_damage *damage, uint32_t lane, uint64
  * Results: DONE, NO_LANE, TOO_MANY, NO_DAMAGE; the bytes stay unchanged if it is not DONE. */
 uint32_t interlaken_damage_apply(interlaken_damage *damage, uint32_t lane, uint8_t *bytes,
                                  size_t count);
+
+/* An inspector of the lanes of a link. It looks at each lane alone, and shows what a receiver only
+ * counts or does not look at: each wrong word with its bit, and each lock that is declared or lost.
+ * The events of a lane are those of the command `inspect` over the bytes that were taken of it, in
+ * its order: by bits, and of one word in the order of the kinds. They do not depend on the pieces
+ * in which the bytes come, nor on the other lanes. */
+
+/* What a lane shows at a word. A word is covered if a declared lock goes on at it. */
+enum interlaken_lane_kind {
+  INTERLAKEN_NO_LANE_EVENT = 0,             /* no event is due */
+  INTERLAKEN_LANE_EVENT_BAD_WORD = 1,       /* a covered word is bad */
+  INTERLAKEN_LANE_EVENT_BAD_SYNC = 2,       /* a covered word at the place of Sync is not Sync */
+  INTERLAKEN_LANE_EVENT_BAD_STATE = 3,      /* a covered word at the place of Scrambler State does
+                                               not have the running state */
+  INTERLAKEN_LANE_EVENT_BAD_SKIP = 4,       /* a covered word at the place of Skip is, descrambled,
+                                               neither bad nor the Skip word */
+  INTERLAKEN_LANE_EVENT_BAD_DIAGNOSTIC = 5, /* a covered word at the place of Diagnostic is wrong,
+                                               in form or CRC32 */
+  INTERLAKEN_LANE_EVENT_HEALTH = 6,         /* a right Diagnostic word does not have both health
+                                               bits, 33 and 32 */
+  INTERLAKEN_LANE_EVENT_BALANCE = 7,        /* from the declaring Sync word to this word the codes
+                                               have over 129 more ones than zeros, or zeros than
+                                               ones: once in a lock */
+  INTERLAKEN_LANE_EVENT_LOCK = 8,           /* a lock is declared, by this Sync word */
+  INTERLAKEN_LANE_EVENT_LOST_HEADERS = 9,   /* a declared lock is lost at this word: headers */
+  INTERLAKEN_LANE_EVENT_LOST_SYNC = 10,     /* the same, for four wrong Sync words in a row */
+  INTERLAKEN_LANE_EVENT_LOST_STATE = 11,    /* the same, for wrong Scrambler State words */
+  INTERLAKEN_LANE_EVENT_UNFRAMED = 12       /* a word lock is lost, or its search is given up, at
+                                               this word, before a lock was declared */
+};
+
+/* An event of a lane. All is 0 if there is none. */
+typedef struct interlaken_lane_event {
+  uint32_t kind; /* an enum interlaken_lane_kind */
+  uint32_t lane; /* the lane, from 0 */
+  uint64_t bit;  /* the first bit of the word, counted from 0 in the bytes of the lane */
+} interlaken_lane_event;
+
+/* Opens an inspector behind a handle that has none. `plan` is the text of a plan file, of any
+ * length; it is not kept. All its rows are read, and refused if they are wrong, but no file that
+ * they name is opened or written. The inspector has the plan's lanes, which are `lanes`,
+ * `metaframe` and `skips` of it. `refusal` has the cause INTERLAKEN_NO_CAUSE if the plan is not
+ * refused.
+ * Results: DONE, OUT_OF_MEMORY, BAD_PLAN, IN_USE. */
+uint32_t interlaken_inspector_new(interlaken_inspector *inspector, const uint8_t *plan,
+                                  size_t count, interlaken_refusal *refusal);
+
+/* Frees an inspector with all its memory. Its handle has none afterwards.
+ * Results: DONE, NO_INSPECTOR. */
+uint32_t interlaken_inspector_free(interlaken_inspector *inspector);
+
+/* Feeds a lane, counted from 0, with the next of its bytes, first bit first, and writes to `taken`
+ * how many it takes: all of them, or those up to the end of a word that shows events, and at most
+ * six more. While events of the lane are due, it takes none: call `next`, and feed the other bytes
+ * again. Events of other lanes hold back no byte.
+ * Results: DONE, NO_LANE, FINISHED, TOO_MANY, NO_INSPECTOR; `taken` is 0 if it is not DONE. */
+uint32_t interlaken_inspector_feed(interlaken_inspector *inspector, uint32_t lane,
+                                   const uint8_t *bytes, size_t count, size_t *taken);
+
+/* Ends a lane: no further byte of it follows. Its events that are due are still returned.
+ * Results: DONE, NO_LANE, FINISHED, NO_INSPECTOR. */
+uint32_t interlaken_inspector_finish(interlaken_inspector *inspector, uint32_t lane);
+
+/* Writes the next event that is due: of the lowest lane that has one, the first. It writes
+ * INTERLAKEN_NO_LANE_EVENT if none is due on any lane. An event is due as soon as the bytes that
+ * were taken have the last bit of its word.
+ * Results: DONE, NO_INSPECTOR; the event is INTERLAKEN_NO_LANE_EVENT if it is not DONE. */
+uint32_t interlaken_inspector_next(interlaken_inspector *inspector, interlaken_lane_event *event);
+
+/* Writes the report of a lane, counted from 0, over the bytes that were taken of it.
+ * Results: DONE, NO_LANE, NO_INSPECTOR; the report is all 0 if it is not DONE. */
+uint32_t interlaken_inspector_report(interlaken_inspector *inspector, uint32_t lane,
+                                     interlaken_report *report);
 
 #ifdef __cplusplus
 }

@@ -831,6 +831,175 @@ static void plan_sequence(void) {
   }
 }
 
+/* ---- an inspector */
+
+#define INSPECTED 12000
+#define SHOWN 6000
+
+/* Two lanes with some bits inverted, and some made 0. */
+static uint8_t struck[2][INSPECTED];
+static size_t struck_count[2];
+
+/* The events of a lane, each with the number of bytes of the lane that show it. */
+struct shown {
+  uint32_t count;
+  interlaken_lane_event event[SHOWN];
+  size_t after[SHOWN];
+};
+
+static struct shown shown[2];
+
+/* A handle of an inspector, and what is known of it: the events that it returned, and the bytes that it took. */
+struct inspected {
+  interlaken_inspector inspector;
+  int has, over[2];
+  size_t fed[2];
+  uint32_t given[2];
+};
+
+static void strike(void) {
+  uint32_t lane, flips, bytes;
+  for (lane = 0; lane < 2; lane++) {
+    struck_count[lane] = lanes[lane].count < INSPECTED ? lanes[lane].count : INSPECTED;
+    memcpy(struck[lane], lanes[lane].at, struck_count[lane]);
+    for (flips = below(3) == 0 ? 0 : below(90); flips > 0; flips--) struck[lane][below((uint32_t)struck_count[lane])] ^= (uint8_t)(1u << below(8));
+    if (below(3) > 0 || struck_count[lane] < 1000) continue;
+    bytes = 1 + below(400);
+    memset(struck[lane] + below((uint32_t)struck_count[lane] - bytes), 0, bytes);
+  }
+}
+
+/* The events as they come byte by byte. Those of one byte are of one word. */
+static void learn(void) {
+  interlaken_inspector one = {0, 0};
+  interlaken_refusal refusal;
+  interlaken_lane_event event;
+  size_t n, taken;
+  uint32_t lane;
+  want("inspector of bytes", interlaken_inspector_new(&one, plan.at, plan.count, &refusal) == INTERLAKEN_DONE);
+  for (lane = 0; lane < 2; lane++) {
+    shown[lane].count = 0;
+    for (n = 0; n < struck_count[lane]; n++) {
+      want("a byte is taken", interlaken_inspector_feed(&one, lane, struck[lane] + n, 1, &taken) == INTERLAKEN_DONE && taken == 1);
+      while (interlaken_inspector_next(&one, &event) == INTERLAKEN_DONE && event.kind != INTERLAKEN_NO_LANE_EVENT) {
+        want("an event of this lane", event.lane == lane && event.kind <= INTERLAKEN_LANE_EVENT_UNFRAMED);
+        want("a word that has ended", event.bit + 67 <= 8 * (uint64_t)(n + 1) && event.bit + 67 > 8 * (uint64_t)n);
+        if (shown[lane].count < SHOWN) shown[lane].after[shown[lane].count] = n + 1, shown[lane].event[shown[lane].count++] = event;
+      }
+    }
+  }
+  interlaken_inspector_free(&one);
+}
+
+/* How many events these bytes of a lane show. */
+static uint32_t shown_by(uint32_t lane, size_t count) {
+  uint32_t n = shown[lane].count;
+  while (n > 0 && shown[lane].after[n - 1] > count) n--;
+  return n;
+}
+
+static uint32_t due(const struct inspected *k, uint32_t lane) { return shown_by(lane, k->fed[lane]) - k->given[lane]; }
+
+static uint32_t inspector_lane_result(const struct inspected *k, uint32_t lane) {
+  if (!k->has) return INTERLAKEN_NO_INSPECTOR;
+  if (lane >= 2) return INTERLAKEN_NO_LANE;
+  return k->over[lane] ? INTERLAKEN_FINISHED : INTERLAKEN_DONE;
+}
+
+static void try_inspector_new(struct inspected *k) {
+  interlaken_refusal refusal;
+  int bad = below(4) == 0, fails = may_fail();
+  uint32_t wanted = k->has ? INTERLAKEN_IN_USE : bad ? INTERLAKEN_BAD_PLAN : INTERLAKEN_DONE, result;
+  result = interlaken_inspector_new(&k->inspector, bad ? (const uint8_t *)"lanes,x\n" : plan.at, bad ? 8 : plan.count, &refusal);
+  failing = -1;
+  want("inspector new", result == wanted || (fails && !k->has && result == INTERLAKEN_OUT_OF_MEMORY));
+  want("inspector refusal", (refusal.cause != 0) == (result == INTERLAKEN_BAD_PLAN));
+  if (result == INTERLAKEN_DONE) k->has = 1;
+  want("inspector is live", (k->inspector.live != 0) == (k->has != 0));
+}
+
+static void try_inspector_free(struct inspected *k) {
+  static struct inspected none_of_it;
+  want("inspector free", interlaken_inspector_free(&k->inspector) == (uint32_t)(k->has ? INTERLAKEN_DONE : INTERLAKEN_NO_INSPECTOR));
+  want("inspector freed", k->inspector.live == 0);
+  *k = none_of_it;
+}
+
+static void try_inspector_feed(struct inspected *k) {
+  uint32_t lane = some_lane(), wanted = inspector_lane_result(k, lane), from = lane < 2 ? lane : 0, result, before = due(k, from);
+  size_t left = struck_count[from] - k->fed[from], count = below(3) == 0 ? below(3000) : below(40), taken = 99;
+  int is_long = below(50) == 0 && long_piece != NULL;
+  if (count > left) count = left;
+  if (wanted == INTERLAKEN_DONE && is_long) wanted = INTERLAKEN_TOO_MANY;
+  result = interlaken_inspector_feed(&k->inspector, lane, is_long ? long_piece : struck[from] + k->fed[from], is_long ? LONG_PIECE : count, &taken);
+  want("inspector feed", result == wanted);
+  if (result != INTERLAKEN_DONE) {
+    want("no byte is inspected", taken == 0);
+    return;
+  }
+  want("no more bytes than there are", taken <= count);
+  if (taken > count) return;
+  k->fed[from] += taken;
+  want("no byte past an event that is due", before == 0 || taken == 0);
+  want("all bytes, or up to an event", before > 0 || taken == count || due(k, from) > 0);
+  want("no byte but the last seven shows one", before > 0 || taken < 7 || shown_by(from, k->fed[from] - 7) == k->given[from]);
+}
+
+static void try_inspector_finish(struct inspected *k) {
+  uint32_t lane = some_lane(), wanted = inspector_lane_result(k, lane);
+  want("inspector finish", interlaken_inspector_finish(&k->inspector, lane) == wanted);
+  if (wanted == INTERLAKEN_DONE) k->over[lane] = 1;
+}
+
+static void try_inspector_next(struct inspected *k) {
+  interlaken_lane_event event, *first;
+  uint32_t lane = due(k, 0) > 0 ? 0 : due(k, 1) > 0 ? 1 : 2;
+  memset(&event, 0xa5, sizeof event);
+  want("inspector next", interlaken_inspector_next(&k->inspector, &event) == (uint32_t)(k->has ? INTERLAKEN_DONE : INTERLAKEN_NO_INSPECTOR));
+  if (!k->has || lane == 2) {
+    want("no event is due", event.kind == INTERLAKEN_NO_LANE_EVENT && event.lane == 0 && event.bit == 0);
+    return;
+  }
+  first = &shown[lane].event[k->given[lane]];
+  want("the event that is due", event.kind == first->kind && event.lane == lane && event.bit == first->bit);
+  k->given[lane]++;
+}
+
+/* A report counts the events of the bytes that were taken. */
+static void try_inspector_report(struct inspected *k) {
+  interlaken_report report;
+  uint64_t count[13] = {0};
+  uint32_t lane = some_lane(), n, result;
+  memset(&report, 0xa5, sizeof report);
+  result = interlaken_inspector_report(&k->inspector, lane, &report);
+  want("inspector report", result == (uint32_t)(!k->has ? INTERLAKEN_NO_INSPECTOR : lane < 2 ? INTERLAKEN_DONE : INTERLAKEN_NO_LANE));
+  for (n = 0; result == INTERLAKEN_DONE && n < shown_by(lane, k->fed[lane]); n++) count[shown[lane].event[n].kind]++;
+  want("bad, sync, state and diag", report.bad == count[INTERLAKEN_LANE_EVENT_BAD_WORD] && report.sync == count[INTERLAKEN_LANE_EVENT_BAD_SYNC] &&
+       report.state == count[INTERLAKEN_LANE_EVENT_BAD_STATE] && report.diag == count[INTERLAKEN_LANE_EVENT_BAD_DIAGNOSTIC]);
+  want("locks", report.locks == count[INTERLAKEN_LANE_EVENT_LOCK] && report.unframed == count[INTERLAKEN_LANE_EVENT_UNFRAMED] &&
+       report.lost == count[INTERLAKEN_LANE_EVENT_LOST_HEADERS] + count[INTERLAKEN_LANE_EVENT_LOST_SYNC] + count[INTERLAKEN_LANE_EVENT_LOST_STATE]);
+}
+
+static void inspector_sequence(void) {
+  static struct inspected one;
+  static uint32_t turn;
+  uint32_t calls = 20 + below(400);
+  if (turn++ % 8 == 0) strike(), learn();
+  while (calls-- > 0) {
+    long before = allocations;
+    switch (below(40)) {
+      case 0: case 1: try_inspector_new(&one), before = allocations; break;
+      case 2: if (below(8) == 0) try_inspector_free(&one); break;
+      case 3: if (below(8) == 0) try_inspector_finish(&one); break;
+      case 4: case 5: try_inspector_report(&one); break;
+      default: if (below(2)) try_inspector_feed(&one); else try_inspector_next(&one); break;
+    }
+    want("no allocation but of inspector new", allocations == before);
+  }
+  try_inspector_free(&one);
+  want("nothing of an inspector leaks", live == 0);
+}
+
 int main(int argc, char **argv) {
   long left;
   void *many = mmap(NULL, LONG_PIECE, PROT_READ, MAP_PRIVATE | MAP_ANONYMOUS | MAP_NORESERVE, -1, 0);
@@ -847,6 +1016,7 @@ int main(int argc, char **argv) {
     damage_sequence();
     sender_sequence();
     plan_sequence();
+    inspector_sequence();
   }
   printf("%ld tried, %ld wrong\n", tries, wrong);
   free(plan.at), free(sender_plan.at), free(lanes[0].at), free(lanes[1].at);

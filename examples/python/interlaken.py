@@ -23,6 +23,12 @@ Where lanes go live, call `take` for each in turn, and `packet`, `flow` and `loc
 
 The numbers of a plan, and the lane and bit of a word: of one that came, and of one that is sent.
 
+    with Inspector(plan, library="lib/libinterlaken.so") as inspector:
+        for event in inspector.feed_all(lanes):
+            ...
+
+Where lanes come live, call `feed` for each, and take `events()` after each: it takes no byte of a lane whose events are due.
+
 It calls the C library that tools/library makes. A call that is misused raises Misuse, and changes nothing; a plan that is refused
 raises BadPlan, with the row and the cause. A Receiver takes one call at a time, and so do a Transmitter and a Damage. It needs Python 3.10.
 """
@@ -126,6 +132,24 @@ class LaneState(enum.IntEnum):
     DECLARED = 2
 
 
+class LaneEventKind(enum.IntEnum):
+    """What a lane shows at a word."""
+
+    NO_LANE_EVENT = 0
+    BAD_WORD = 1
+    BAD_SYNC = 2
+    BAD_STATE = 3
+    BAD_SKIP = 4
+    BAD_DIAGNOSTIC = 5
+    HEALTH = 6
+    BALANCE = 7
+    LOCK = 8
+    LOST_HEADERS = 9
+    LOST_SYNC = 10
+    LOST_STATE = 11
+    UNFRAMED = 12
+
+
 class Misuse(Exception):
     """A call was asked what it does not do; `result` says what."""
 
@@ -220,6 +244,15 @@ class Counts:
 
 
 @dataclass(frozen=True)
+class LaneEvent:
+    """What a lane shows at a word, with the position of the word's first bit."""
+
+    lane: int
+    bit: int
+    kind: LaneEventKind
+
+
+@dataclass(frozen=True)
 class Status:
     """How a lane of a transmitter stands: how many of its bytes wait until they are taken, whether the lanes have ended, so that no byte more
     is made, and whether 4,088 bytes or more of some lane wait, so that no word is made before some of them are taken. And how many packets
@@ -282,6 +315,10 @@ class _Report(ctypes.Structure):
         for name in ("locks", "has_first", "first", "lost", "unframed", "bad", "sync", "state", "diag")
     ]
 
+    def value(self) -> Report:
+        first = self.first if self.has_first else None
+        return Report(self.locks, first, self.lost, self.unframed, self.bad, self.sync, self.state, self.diag)
+
 
 class _Counts(ctypes.Structure):
     _fields_ = [(name, ctypes.c_uint64) for name in ("packets_given", "packets_sent", "bytes_given", "bytes_sent")]
@@ -294,6 +331,10 @@ class _Status(ctypes.Structure):
         ("ended", ctypes.c_uint32),
         ("held", ctypes.c_uint32),
     ]
+
+
+class _LaneEvent(ctypes.Structure):
+    _fields_ = [("kind", ctypes.c_uint32), ("lane", ctypes.c_uint32), ("bit", ctypes.c_uint64)]
 
 
 _size = ctypes.c_size_t
@@ -332,6 +373,15 @@ _DAMAGE_CALLS = {
     "flip": (_handle, _u32, _u64),
     "dark": (_handle, _u32, _u64, _u64),
     "apply": (_handle, _u32, ctypes.c_char_p, _size),
+}
+
+_INSPECTOR_CALLS = {
+    "new": (_handle, ctypes.c_char_p, _size, ctypes.POINTER(_Refusal)),
+    "free": (_handle,),
+    "feed": (_handle, _u32, ctypes.c_char_p, _size, ctypes.POINTER(_size)),
+    "finish": (_handle, _u32),
+    "next": (_handle, ctypes.POINTER(_LaneEvent)),
+    "report": (_handle, _u32, ctypes.POINTER(_Report)),
 }
 
 
@@ -529,8 +579,7 @@ class Receiver(_OfPlan):
         """The report of a lane over the bytes that were taken from its ring so far."""
         report = _Report()
         self._call("report", _lane(lane), report)
-        first = report.first if report.has_first else None
-        return Report(report.locks, first, report.lost, report.unframed, report.bad, report.sync, report.state, report.diag)
+        return report.value()
 
     def lane_state(self, lane: int) -> LaneState:
         """How far the search for the locks of a lane is after the bytes that were taken from its ring so far."""
@@ -651,3 +700,50 @@ class Damage(_Opened):
         damaged = ctypes.create_string_buffer(data, max(len(data), 1))
         self._call("apply", _lane(lane), damaged, len(data))
         return damaged.raw[: len(data)]
+
+
+class Inspector(_OfPlan):
+    """An inspector of the lanes of a plan: it tells what each lane shows, and at which bit, as the command `inspect` does. As a context
+    manager it is closed at the end."""
+
+    def __init__(self, plan: bytes, library: str = "libinterlaken.so"):
+        """`plan` is the text of a plan file, and `library` the path of the shared library."""
+        super().__init__(plan, library, "interlaken_inspector_", _INSPECTOR_CALLS)
+
+    def feed(self, lane: int, data: bytes) -> int:
+        """Feeds a lane with the next of its bytes, and returns how many it takes: up to a word that shows events, and none while events of the
+        lane are due."""
+        taken = _size()
+        self._call("feed", _lane(lane), data, len(data), taken)
+        return taken.value
+
+    def finish(self, lane: int) -> None:
+        """No further byte of this lane comes."""
+        self._call("finish", _lane(lane))
+
+    def next(self) -> Optional[LaneEvent]:
+        """The next event that is due, of the lowest lane first; None if none is due on any lane."""
+        event = _LaneEvent()
+        self._call("next", event)
+        kind = LaneEventKind(event.kind)
+        return None if kind is LaneEventKind.NO_LANE_EVENT else LaneEvent(event.lane, event.bit, kind)
+
+    def events(self) -> Iterator[LaneEvent]:
+        """The events that are due."""
+        while (event := self.next()) is not None:
+            yield event
+
+    def feed_all(self, lanes: Sequence[bytes]) -> Iterator[LaneEvent]:
+        """Feeds these lanes, of which nothing was fed, to their ends, one after another, and yields all their events."""
+        for lane, data in enumerate(lanes):
+            fed = 0
+            while fed < len(data):
+                fed += self.feed(lane, data[fed : fed + 4096])
+                yield from self.events()
+            self.finish(lane)
+
+    def report(self, lane: int) -> Report:
+        """The report of a lane over the bytes that were taken of it so far."""
+        report = _Report()
+        self._call("report", _lane(lane), report)
+        return report.value()

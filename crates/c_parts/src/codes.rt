@@ -204,6 +204,47 @@ pub const LANE_WORD_LOCK: u32 = 1;
 /// A declared lock of the lane goes on.
 pub const LANE_DECLARED: u32 = 2;
 
+// ---- kinds of events of lanes
+
+/// No event is due.
+pub const NO_LANE_EVENT: u32 = 0;
+
+/// A covered word is Bad.
+pub const LANE_EVENT_BAD_WORD: u32 = 1;
+
+/// A covered word at the place of a Sync word is not Sync.
+pub const LANE_EVENT_BAD_SYNC: u32 = 2;
+
+/// A covered word at the place of a Scrambler State word is not that of the running key.
+pub const LANE_EVENT_BAD_STATE: u32 = 3;
+
+/// A covered word at the place of a Skip word is neither Bad nor, descrambled, the Skip word.
+pub const LANE_EVENT_BAD_SKIP: u32 = 4;
+
+/// A covered word at the place of a Diagnostic word is not right.
+pub const LANE_EVENT_BAD_DIAGNOSTIC: u32 = 5;
+
+/// A right Diagnostic word does not have both health bits.
+pub const LANE_EVENT_HEALTH: u32 = 6;
+
+/// The codes of a lock have over 129 more ones than zeros, or zeros than ones.
+pub const LANE_EVENT_BALANCE: u32 = 7;
+
+/// A lock is declared.
+pub const LANE_EVENT_LOCK: u32 = 8;
+
+/// A declared lock is lost for its headers.
+pub const LANE_EVENT_LOST_HEADERS: u32 = 9;
+
+/// A declared lock is lost for its Sync words.
+pub const LANE_EVENT_LOST_SYNC: u32 = 10;
+
+/// A declared lock is lost for its Scrambler State words.
+pub const LANE_EVENT_LOST_STATE: u32 = 11;
+
+/// A search is lost before a declaration, or given up.
+pub const LANE_EVENT_UNFRAMED: u32 = 12;
+
 /// The number of a lane's state.
 pub fn state_code(state: LaneState) -> u32
     ensures { result ≡ state_code state }

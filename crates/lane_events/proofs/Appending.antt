@@ -1,5 +1,5 @@
 -- The events of some bytes are found one piece after another.
-use Rattle.std.proofs.Common.{ℕ, ◌≡◌, sym, ap, ◌∙◌, subst, ◌+◌, ◌*◌, ◌≤◌, Bool, List, ◌++◌, length, filter, take, drop, arith, append_assoc}
+use Rattle.std.proofs.Common.{ℕ, ◌≡◌, sym, ap, ◌∙◌, subst, ◌+◌, ◌≤◌, Bool, List, ◌++◌, length, filter, take, drop, arith, append_assoc}
 use Rattle.std.proofs.Math.Seq.{take-add}
 use Rattle.std.proofs.lemmas.List.{append-nil, length-append, length-map, take_all}
 use Rattle.std.proofs.lemmas.List.Concat.{flat_map-append}
@@ -8,8 +8,7 @@ use Rattle.lk_base.specs.Checksum.{bits_of, bits_of_bytes}
 use Rattle.lane_events.specs.declared.types.LaneEvent.{LaneEvent}
 use Rattle.lane_events.specs.declared.word_events.WordEvents.{WordEvents}
 use Rattle.lane_events.specs.Events.{AreLaneEvents, all_kinds}
-use Rattle.lane_events.specs.Inspection.{Finds, Inspects, InspectorView, event_of, events_in, has_kind}
-use Rattle.lane_events.proofs.Inspecting.{GoesOn}
+use Rattle.lane_events.specs.Inspection.{Finds, GoesOn, Inspects, InspectorView, event_of, events_in, has_kind}
 
 -- a word has at most twelve events
 few_events : (w : WordEvents) → length (events_in w) ≤ 12
@@ -36,13 +35,12 @@ finds_of v w more new before after on e s bits given k are = (
 )
 
 -- the next bytes more
-pub found_more : (v u w : InspectorView) (bytes : List ℕ) (i count number : ℕ) (before now after : List LaneEvent) →
-    bits_of (8 * count) number ≡ bits_of_bytes (take count (drop i bytes)) → Finds v u (bits_of_bytes (take i bytes)) before now →
-    Finds u w (bits_of (8 * count) number) now after → Finds v w (bits_of_bytes (take (i + count) bytes)) before after
-found_more v u w bytes i count number before now after is finds further s bits given k are =
-    let cut : bits ++ bits_of_bytes (take (i + count) bytes) ≡ (bits ++ bits_of_bytes (take i bytes)) ++ bits_of (8 * count) number =
+pub found_more : (v u w : InspectorView) (bytes : List ℕ) (i count : ℕ) (before now after : List LaneEvent) → Finds v u (bits_of_bytes (take i bytes)) before now →
+    Finds u w (bits_of_bytes (take count (drop i bytes))) now after → Finds v w (bits_of_bytes (take (i + count) bytes)) before after
+found_more v u w bytes i count before now after finds further s bits given k are =
+    let cut : bits ++ bits_of_bytes (take (i + count) bytes) ≡ (bits ++ bits_of_bytes (take i bytes)) ++ bits_of_bytes (take count (drop i bytes)) =
     ap (λ bs. bits ++ bits_of_bytes bs) (take-add i count bytes) ∙ ap (λ bs. bits ++ bs) (flat_map-append (bits_of 8) (take i bytes) (take count (drop i bytes)))
-    ∙ ap (λ bs. bits ++ (bits_of_bytes (take i bytes) ++ bs)) (sym is) ∙ sym (append_assoc bits (bits_of_bytes (take i bytes)) (bits_of (8 * count) number)) in
+    ∙ sym (append_assoc bits (bits_of_bytes (take i bytes)) (bits_of_bytes (take count (drop i bytes)))) in
     let front = finds s bits given k are in
     let back = further s (bits ++ bits_of_bytes (take i bytes)) given front.0 front.1 in (
       subst (λ (bs : List Bool). Inspects w s bs) (sym cut) back.0,

@@ -30,7 +30,7 @@ use Rattle.lane_events.specs.declared.types.EventKind.TheVariants as kinds
 use Rattle.lane_events.specs.declared.word_events.WordEvents.{WordEvents}
 use Rattle.lane_events.specs.EventLaw.{AreCounted}
 use Rattle.lane_events.specs.Events.{AreLaneEvents, has_event, lane_events, word_events}
-use Rattle.lane_events.specs.Inspection.{Balances, Inspects, InspectorView, IsPassed, IsPushed, IsShown, balance_of, events_in, excess_before, open_of}
+use Rattle.lane_events.specs.Inspection.{Balances, GoesOn, Inspects, InspectorView, IsPassed, IsPushed, IsShown, IsTold, balance_of, events_in, excess_before, open_of}
 use Rattle.lane_events.specs.Steps.{balance_before, balance_behind, covered_word, is_plain, told, unbalances}
 use Rattle.lane_events.specs.Balance.{balance_after}
 use Rattle.lane_events.proofs.Balances.{balance_more, balances_stay, none_balance, unbalances_is}
@@ -158,11 +158,6 @@ reported : (s : Settings) (bits : List Bool) (report : LaneReport) → IsReport 
 reported s bits report is attempts are =
     subst (λ (r : LaneReport). AreCounted (lane_events s bits attempts) r) (sym (is attempts are))
     (events_are_counted s bits (lane_events s bits attempts) attempts (record { attempts = attempts; are = are; events_are = refl }) are)
-
--- what goes on over some bits more: the inspector, and the events, to which these are appended
-pub record GoesOn (v w : InspectorView) (more : List Bool) (new : List LaneEvent) : Type 0 where
-  pub inspects : (s : Settings) (bits : List Bool) → Inspects v s bits → Inspects w s (bits ++ more)
-  pub events : (s : Settings) (bits : List Bool) (events : List LaneEvent) → Inspects v s bits → AreLaneEvents s bits events → AreLaneEvents s (bits ++ more) (events ++ new)
 
 -- the same events are counted the same
 still_counted : (old all : List LaneEvent) (before after : LaneReport) → all ≡ old → after ≡ before → AreCounted old before → AreCounted all after
@@ -393,6 +388,14 @@ module _ (v u : InspectorView) (width place x : ℕ) (step : LaneStep) (lt : pla
   goes_past_cut w passed =
       subst (λ (bs : List Bool). GoesOn v w bs []) cut
       (goes_past_word v u width x front bit back step brings_cut few pushed window_cut w (subst (λ (n : ℕ). IsPassed u w step n) (sym back_long) passed))
+
+-- one that is told after it was not passed over, with these events
+pub told_of : (v u p w : InspectorView) (width place x : ℕ) (step : LaneStep) (events : List LaneEvent) → place < width → width ≤ 56 → x < 2 ^ width →
+    Brings v.lock u.lock (bits_of width x) (replicate place steps.Nothing ++ step ∷ replicate (width - 1 - place) steps.Nothing) → IsPushed v u width x → p ≡ u →
+    IsTold p w step (width - 1 - place) events → GoesOn v w (bits_of width x) events
+told_of v u p w width place x step events lt most low brings pushed same told =
+    let t = subst (λ (q : InspectorView). IsTold q w step (width - 1 - place) events) same told in
+    subst (λ (es : List LaneEvent). GoesOn v w (bits_of width x) es) (sym t.events_are) (goes_on_cut v u width place x step lt most low brings pushed w t.report t.given t.is_report t.shown)
 
 -- none of them ends a word
 pub goes_on_none : (v w : InspectorView) (width x : ℕ) → x < 2 ^ width → Brings v.lock w.lock (bits_of width x) (replicate width steps.Nothing) → IsPushed v w width x → GoesOn v w (bits_of width x) []

@@ -1,6 +1,7 @@
 -- What other crates cite.
 pub mod EventsHold
 -- What this crate alone cites.
+mod Dues
 mod Local
 mod OneMore
 mod Grow
@@ -16,4 +17,5 @@ mod Walking
 mod Inspecting
 mod Pieces
 mod Appending
+mod Until
 mod SendersBalance

@@ -1,5 +1,5 @@
 -- What an inspector keeps of the bits of a lane.
-use Rattle.std.specs.Prelude.{ℕ, ℤ, ◌≡◌, ◌≤◌, ◌+◌, ◌*◌, ◌/◌, ◌%◌, ◌^◌, Bool, true, false, List, [], ◌∷◌, ◌++◌, length, map, filter, Option, Some, None, is_some, if◌then◌else◌}
+use Rattle.std.specs.Prelude.{ℕ, ℤ, ◌≡◌, ◌≤◌, ◌+◌, ◌*◌, ◌/◌, ◌%◌, ◌^◌, Bool, true, false, List, [], ◌∷◌, ◌++◌, length, drop, map, filter, Option, Some, None, is_some, if◌then◌else◌}
 use Rattle.std.specs.List.{list_any, range_with_len}
 use Rattle.std.specs.Int.Count.{ones_in}
 use Rattle.lk_base.specs.Link.{Settings}
@@ -42,6 +42,15 @@ event_of bit kind = record { bit = bit; kind = kind }
 -- they, in order
 abbrev pub events_in : WordEvents → List LaneEvent
 events_in w = map (event_of w.bit) (filter (has_kind w) all_kinds)
+
+-- those of the kinds from this place on
+abbrev pub due_from : WordEvents → ℕ → List LaneEvent
+due_from w n = map (event_of w.bit) (filter (has_kind w) (drop n all_kinds))
+
+-- the events of a word, if it shows any
+abbrev pub shown_in : Option WordEvents → List LaneEvent
+shown_in None = []
+shown_in (Some w) = events_in w
 
 -- ---- the inspector
 
@@ -87,6 +96,17 @@ abbrev pub Finds : InspectorView → InspectorView → List Bool → List LaneEv
 Finds v w more before after = (s : Settings) (bits : List Bool) (given : List LaneEvent) → Inspects v s bits → AreLaneEvents s bits (given ++ before) →
     Inspects w s (bits ++ more) × AreLaneEvents s (bits ++ more) (given ++ after)
 
+-- An inspector was given these bits more, which show these events.
+pub record GoesOn (v w : InspectorView) (more : List Bool) (new : List LaneEvent) : Type 0 where
+  -- it was given the bits before and these
+  pub inspects : (s : Settings) (bits : List Bool) → Inspects v s bits → Inspects w s (bits ++ more)
+  -- the events of all these bits are those of the bits before and then the new ones
+  pub events : (s : Settings) (bits : List Bool) (events : List LaneEvent) → Inspects v s bits → AreLaneEvents s bits events → AreLaneEvents s (bits ++ more) (events ++ new)
+
+-- these bits more show no event: the events of the bits before are all
+abbrev pub ShowsNone : InspectorView → List Bool → Type 0
+ShowsNone v more = (s : Settings) (bits : List Bool) (events : List LaneEvent) → Inspects v s bits → AreLaneEvents s bits events → AreLaneEvents s (bits ++ more) events
+
 -- this many bits more came, which are this number: nothing else has changed but the locks
 pub record IsPushed (v w : InspectorView) (count number : ℕ) : Type 0 where
   pub taken : w.taken ≡ v.taken + count
@@ -109,13 +129,13 @@ pub record IsShown (v w : InspectorView) (before after : LaneReport) (step : Lan
   pub counted : w.counted ≡ after
   pub events : given ≡ told step before after (unbalances (balance_before step v.balance) w.balance)
 
--- the word of a step was told, after which this many bits came, with the report after it, and its events appended
-pub record IsTold (v w : InspectorView) (step : LaneStep) (further : ℕ) (before after : List LaneEvent) : Type 0 where
+-- the word of a step was told, after which this many bits came, with the report after it: these are its events
+pub record IsTold (v w : InspectorView) (step : LaneStep) (further : ℕ) (events : List LaneEvent) : Type 0 where
   pub report : LaneReport
   pub is_report : (s : Settings) (bits : List Bool) → Stands v.lock s bits → IsReport s bits report
   pub given : WordEvents
   pub shown : IsShown v w v.counted report step further given
-  pub appended : after ≡ before ++ events_in given
+  pub events_are : events ≡ events_in given
 
 -- nothing has changed but the balance, which is this, and it was not lost
 pub record IsCounted (v w : InspectorView) (now : Option ℤ) : Type 0 where

@@ -1,4 +1,4 @@
-ghost use Rattle.std.specs.Prelude.{◌≡◌, ◌<◌, ◌≤◌, ◌+◌, ◌-◌, ◌*◌, ◌/◌, ◌%◌, ◌^◌, ◌++◌, true, false, Bool, List, [], length, take, OnOk, IfOk, IfSome};
+ghost use Rattle.std.specs.Prelude.{◌≡◌, ◌<◌, ◌≤◌, ◌+◌, ◌-◌, ◌*◌, ◌/◌, ◌%◌, ◌^◌, ◌++◌, true, false, ℕ, Bool, List, [], length, take, OnOk, IfOk, IfSome, IfNone};
 ghost use Rattle.lk_base.specs.Checksum.{bits_of, bits_of_bytes};
 ghost use Rattle.lk_base.specs.Link.{Settings};
 ghost use Rattle.lane_lock.specs.Bytes.{Brings, steps_of_bits};
@@ -6,7 +6,7 @@ ghost use Rattle.lane_lock.specs.Standing.{IsReport};
 ghost use Rattle.lane_events.specs.declared.types.LaneEvent.{LaneEvent as Event};
 ghost use Rattle.lane_events.specs.Events.{AreLaneEvents};
 ghost use Rattle.lane_events.specs.Balance.{balance_after as balance_with};
-ghost use Rattle.lane_events.specs.Inspection.{Finds, Inspects, IsCounted, IsPassed, IsPushed, IsShown, IsTold, events_in, excess_before};
+ghost use Rattle.lane_events.specs.Inspection.{Finds, GoesOn, Inspects, IsCounted, IsPassed, IsPushed, IsShown, IsTold, ShowsNone, events_in, excess_before, shown_in};
 
 use crate::balance::balance_with;
 use crate::told::{balance_after, balance_before, is_plain, told};
@@ -14,7 +14,7 @@ use crate::types::LaneEvent;
 use crate::windows::{code_in, number_at, pushed};
 use crate::word_events::WordEvents;
 use lane_lock::{Completed, LaneLock};
-use lk_base::{Link, OutOfMemory};
+use lk_base::{Link, OutOfMemory, tail};
 use lock_model::{LaneReport, LaneStep};
 use std::alloc::Global;
 use std::marker::Model;
@@ -74,12 +74,9 @@ impl LaneInspector {
         ensures events { (s : Settings) (so_far : List Bool) (events : List Event) → Inspects self.old s so_far → AreLaneEvents s so_far events →
             AreLaneEvents s (so_far ++ bits_of (8 * count) bits) (events ++ events_in result) }
     {
-        match self.push(bits, count) {
+        match self.next_events(bits, count) {
+            Some(events) => events,
             None => WordEvents::none(0),
-            Some(word) => {
-                let after = self.lock.report();
-                self.shown(&after, word.step, 8 * count - 1 - word.place)
-            }
         }
     }
 
@@ -155,46 +152,39 @@ impl LaneInspector {
         true
     }
 
-    // Appends the events of the word of a step after which this many bits came. Few words come to it: it is kept out of the loops.
+    // The events of the word of a step after which this many bits came. Few words come to it: it is kept out of the loops.
     #[inline(never)]
-    fn tell(
-        &mut self,
-        step: LaneStep,
-        further: u32,
-        found: &mut Vec<LaneEvent>,
-    ) -> Result<(), OutOfMemory>
+    fn tell(&mut self, step: LaneStep, further: u32) -> WordEvents
         requires { further ≤ 55 }
-        ensures told { OnOk result (IsTold self.old self.new step further found.old.items found.new.items) }
-        ensures few { OnOk result (length found.new.items ≤ length found.old.items + 12) }
+        ensures { IsTold self.old self.new step further (events_in result) }
     {
         let after = self.lock.report();
-        self.shown(&after, step, further).append_to(found)
+        self.shown(&after, step, further)
     }
 
-    // Takes the next bytes, at most seven, and appends the events of the word that ends within them, if one does.
+    // Takes the next bytes, at most seven. Returns the events of the word that ends within them, if it shows any.
     #[inline(always)]
-    fn append(
-        &mut self,
-        bits: u64,
-        count: u32,
-        found: &mut Vec<LaneEvent>,
-    ) -> Result<(), OutOfMemory>
+    fn next_events(&mut self, bits: u64, count: u32) -> Option<WordEvents>
         requires some { 1 ≤ count }
         requires most { count ≤ 7 }
         requires bits { bits < 2 ^ (8 * count) }
         requires few { self.old.taken + 8 * count ≤ 2 ^ 60 }
-        ensures taken { OnOk result (self.new.taken ≡ self.old.taken + 8 * count) }
-        ensures finds { OnOk result (Finds self.old self.new (bits_of (8 * count) bits) found.old.items found.new.items) }
-        ensures few { OnOk result (length found.new.items ≤ length found.old.items + 12) }
+        ensures taken { self.new.taken ≡ self.old.taken + 8 * count }
+        ensures goes_on { GoesOn self.old self.new (bits_of (8 * count) bits) (shown_in result) }
+        ensures some { IfSome result (λ events. events_in events ≡ [] → ⊥) }
     {
         let Some(word) = self.push(bits, count) else {
-            return Ok(());
+            return None;
         };
         let further = 8 * count - 1 - word.place;
         if self.passes(word.step, further) {
-            return Ok(());
+            return None;
         }
-        self.tell(word.step, further, found)
+        let events = self.tell(word.step, further);
+        if events.is_empty() {
+            return None;
+        }
+        Some(events)
     }
 
     /// Takes the next byte of the lane, and returns the events of the word that ends within it, if one does. At most 2^60 bits come in
@@ -209,40 +199,91 @@ impl LaneInspector {
         self.take(byte as u64, 1)
     }
 
+    /// Takes the next bytes of the lane, up to a word that shows events, and takes no memory. Returns how many bytes it took, and the
+    /// events of that word: these come right after the events of the bytes before. `None` says that no word shows any: then all bytes
+    /// were taken. Else the word ends within the last seven bytes that were taken. At most 2^60 bits come in all.
+    pub fn take_until_events(&mut self, bytes: &[u8]) -> (usize, Option<WordEvents>)
+        requires few { self.old.taken + 8 * length bytes.now ≤ 2 ^ 60 }
+        ensures within { result.0 ≤ length bytes.now }
+        ensures some { 1 ≤ length bytes.now → 1 ≤ result.0 }
+        ensures taken { self.new.taken ≡ self.old.taken + 8 * result.0 }
+        ensures goes_on { GoesOn self.old self.new (bits_of_bytes (take result.0 bytes.now)) (shown_in result.1) }
+        ensures shown { IfSome result.1 (λ events. events_in events ≡ [] → ⊥) }
+        ensures all { IfNone result.1 (result.0 ≡ length bytes.now) }
+        ensures soon { (n : ℕ) → n + 7 ≤ result.0 → ShowsNone self.old (bits_of_bytes (take n bytes.now)) }
+    {
+        let (at, shown) = self.take_sevens(bytes);
+        if shown.is_some() {
+            return (at, shown);
+        }
+        let left = bytes.len() - at;
+        if left == 0 {
+            return (at, None);
+        }
+        let shown = self.next_events(number_at(bytes, at, left), left as u32);
+        (bytes.len(), shown)
+    }
+
+    // Takes bytes in pieces of seven, while more than seven are left and none showed an event. Returns how many it took, and the events
+    // of the word that showed some.
+    fn take_sevens(&mut self, bytes: &[u8]) -> (usize, Option<WordEvents>)
+        requires few { self.old.taken + 8 * length bytes.now ≤ 2 ^ 60 }
+        ensures within { result.0 ≤ length bytes.now }
+        ensures taken { self.new.taken ≡ self.old.taken + 8 * result.0 }
+        ensures goes_on { GoesOn self.old self.new (bits_of_bytes (take result.0 bytes.now)) (shown_in result.1) }
+        ensures shown { IfSome result.1 (λ events. (events_in events ≡ [] → ⊥) × (1 ≤ result.0)) }
+        ensures rest { IfNone result.1 (length bytes.now ≤ result.0 + 7) }
+        ensures soon { (n : ℕ) → n + 7 ≤ result.0 → ShowsNone self.old (bits_of_bytes (take n bytes.now)) }
+    {
+        let mut at = 0;
+        while bytes.len() - at > PIECE {
+            let shown = self.next_events(number_at(bytes, at, PIECE), PIECE as u32);
+            at += PIECE;
+            if shown.is_some() {
+                return (at, shown);
+            }
+        }
+        (at, None)
+    }
+
     /// Takes the next bytes of the lane, and appends the events of the words that end within them, at most twelve a byte. At most 2^60
     /// bits come in all.
+    ///
+    /// # Errors
+    ///
+    /// `OutOfMemory` if memory ran out for the events: then some of the bytes were taken, and some of their events appended.
     pub fn inspect(&mut self, bytes: &[u8], found: &mut Vec<LaneEvent>) -> Result<(), OutOfMemory>
         requires few { self.old.taken + 8 * length bytes.now ≤ 2 ^ 60 }
         ensures taken { OnOk result (self.new.taken ≡ self.old.taken + 8 * length bytes.now) }
         ensures finds { OnOk result (Finds self.old self.new (bits_of_bytes bytes.now) found.old.items found.new.items) }
         ensures few { OnOk result (length found.new.items ≤ length found.old.items + 12 * length bytes.now) }
     {
-        let at = self.inspect_sevens(bytes, found)?;
-        let left = bytes.len() - at;
-        if left == 0 {
-            return Ok(());
+        let mut at = 0;
+        while at < bytes.len() {
+            at += self.inspect_more(tail(bytes, at), found)?;
         }
-        self.append(number_at(bytes, at, left), left as u32, found)
+        Ok(())
     }
 
-    // Takes bytes in pieces of seven, while more than seven are left, and returns how many it took.
-    fn inspect_sevens(
+    // Takes the next bytes of the lane, up to a word that shows events, and appends these. Returns how many bytes it took.
+    fn inspect_more(
         &mut self,
         bytes: &[u8],
         found: &mut Vec<LaneEvent>,
     ) -> Result<usize, OutOfMemory>
         requires few { self.old.taken + 8 * length bytes.now ≤ 2 ^ 60 }
-        ensures rest { IfOk result (λ at. (at ≤ length bytes.now) × (length bytes.now ≤ at + 7)) }
-        ensures taken { IfOk result (λ at. self.new.taken ≡ self.old.taken + 8 * at) }
-        ensures finds { IfOk result (λ at. Finds self.old self.new (bits_of_bytes (take at bytes.now)) found.old.items found.new.items) }
-        ensures few { IfOk result (λ at. length found.new.items ≤ length found.old.items + 12 * at) }
+        requires some { 1 ≤ length bytes.now }
+        ensures within { IfOk result (λ count. (1 ≤ count) × (count ≤ length bytes.now)) }
+        ensures taken { IfOk result (λ count. self.new.taken ≡ self.old.taken + 8 * count) }
+        ensures finds { IfOk result (λ count. Finds self.old self.new (bits_of_bytes (take count bytes.now)) found.old.items found.new.items) }
+        ensures few { IfOk result (λ count. length found.new.items ≤ length found.old.items + 12) }
     {
-        let mut at = 0;
-        while bytes.len() - at > PIECE {
-            self.append(number_at(bytes, at, PIECE), PIECE as u32, found)?;
-            at += PIECE;
-        }
-        Ok(at)
+        let (count, shown) = self.take_until_events(bytes);
+        let Some(events) = shown else {
+            return Ok(count);
+        };
+        events.append_to(found)?;
+        Ok(count)
     }
 
     /// The report over the bits so far.

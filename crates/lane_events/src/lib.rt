@@ -2,6 +2,7 @@
 #![tactic(auto)]
 
 mod balance;
+mod due_events;
 pub mod examples;
 mod inspector;
 pub mod laws;
@@ -10,6 +11,7 @@ mod types;
 mod windows;
 mod word_events;
 
+pub use due_events::DueEvents;
 pub use inspector::LaneInspector;
 pub use types::{EventKind, LaneEvent};
 pub use word_events::WordEvents;

@@ -6,8 +6,8 @@ ghost use Rattle.lane_events.specs.Inspection.{events_in, has_kind};
 use crate::types::{EventKind, LaneEvent};
 use lk_base::OutOfMemory;
 
-// The kinds, in the order of the events of one word.
-const KINDS: [EventKind; 12] = [
+/// The kinds, in the order of the events of one word.
+pub const KINDS: [EventKind; 12] = [
     EventKind::Bad,
     EventKind::Sync,
     EventKind::State,
@@ -86,7 +86,8 @@ impl WordEvents {
 
     /// Whether the word has no event.
     pub fn is_empty(&self) -> bool
-        ensures { result ≡ true → events_in self.now ≡ [] }
+        ensures none { result ≡ true → events_in self.now ≡ [] }
+        ensures some { result ≡ false → events_in self.now ≡ [] → ⊥ }
     {
         let wrong = self.bad || self.sync || self.state || self.skip || self.diag || self.health;
         let balance = self.balance || self.lock;

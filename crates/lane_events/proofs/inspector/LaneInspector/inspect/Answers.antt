@@ -1,21 +1,33 @@
--- The pieces of seven bytes, and the bytes after them.
-use Rattle.std.proofs.Common.{◌+◌, ◌-◌, length, arith}
-use Rattle.std.proofs.lemmas.Result.{on_ok_weaker}
+-- Up to one word after another.
+use Rattle.std.proofs.Common.{ℕ, List, ap, subst, length, take, arith}
+use Rattle.std.proofs.lemmas.List.{length-drop}
+use Rattle.lk_base.specs.Checksum.{bits_of_bytes}
+use Rattle.lane_events.specs.Inspection.{Finds}
 use Rattle.lane_events.proofs.Appending.{found_all, found_more}
 use Rattle.lane_events.proofs.inspector.LaneInspector.inspect.Goals as goal
 
-pub returns-then-left-eq0-clause-finds : goal.returns-then-left-eq0-clause-finds
-returns-then-left-eq0-clause-finds c =
-    let none = c.if-left-eq0.true in
-    found_all c.args.self.now c.inspect_sevens.new.self c.args.bytes.now c.in_ok-at.at c.args.found.now.items c.inspect_sevens.new.found.items (omega (arith, none)) c.in_ok-at.ensures.finds
+pub loop-at-preserved : goal.loop-at-preserved
+loop-at-preserved c =
+    let bytes = c.args.bytes.now in
+    let at = c.loop-at.at in
+    let count = c.in_ok-at.field-0 in
+    let within = c.in_ok-at.ensures.within in
+    let left = ap length c.tail.ensures in
+    let rest = length-drop at bytes in
+    let there = c.loop-at.invariant.there in
+    let before = c.loop-at.invariant.taken in
+    let taken = c.in_ok-at.ensures.taken in
+    let few = c.loop-at.invariant.few in
+    let fewer = c.in_ok-at.ensures.few in
+    record {
+      there = omega (arith, within.1, left, rest, there);
+      taken = omega (arith, before, taken);
+      finds = found_more c.args.self.now c.loop-at.self c.inspect_more.new.self bytes at count c.args.found.now.items c.loop-at.found.items c.inspect_more.new.found.items c.loop-at.invariant.finds
+          (subst (λ (bs : List ℕ). Finds c.loop-at.self c.inspect_more.new.self (bits_of_bytes (take count bs)) c.loop-at.found.items c.inspect_more.new.found.items) c.tail.ensures c.in_ok-at.ensures.finds);
+      few = omega (arith, few, fewer, within.0);
+    }
 
 pub returns-clause-finds : goal.returns-clause-finds
 returns-clause-finds c =
-    let bytes = c.args.bytes.now in
-    let at = c.in_ok-at.at in
-    let left = length bytes - at in
-    on_ok_weaker c.append.result
-    (λ further. found_all c.args.self.now c.append.new.self bytes (at + left) c.args.found.now.items c.append.new.found.items (omega arith)
-    (found_more c.args.self.now c.inspect_sevens.new.self c.append.new.self bytes at left c.number_at.result c.args.found.now.items c.inspect_sevens.new.found.items c.append.new.found.items
-    c.number_at.ensures.bits c.in_ok-at.ensures.finds further))
-    c.append.ensures.finds
+    let over = c.loop-at-test.false in
+    found_all c.args.self.now c.loop-at.self c.args.bytes.now c.loop-at.at c.args.found.now.items c.loop-at.found.items (omega (arith, over)) c.loop-at.invariant.finds

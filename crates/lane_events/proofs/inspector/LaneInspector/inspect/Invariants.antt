@@ -1,7 +1,7 @@
 use Rattle.std.proofs.Common.{◌≡◌, ◌+◌, ◌-◌, ◌*◌, ◌≤◌, length, take}
 use Rattle.lk_base.specs.Checksum.{bits_of_bytes}
 use Rattle.lane_events.specs.Inspection.{Finds}
-use Rattle.lane_events.proofs.inspector.LaneInspector.inspect_sevens.Given as goal
+use Rattle.lane_events.proofs.inspector.LaneInspector.inspect.Given as goal
 
 -- the events of the bytes so far were appended
 abbrev pub invariant-loop-at : goal.invariant-loop-at

@@ -1,0 +1,12 @@
+//! An inspector of the lanes of a link behind a handle for C, and the calls on it.
+#![tactic(auto)]
+
+mod block;
+mod calls;
+mod codes;
+mod event;
+mod handle;
+
+pub use calls::{feed, finish, free, new, next, report};
+pub use event::CLaneEvent;
+pub use handle::InspectorHandle;

@@ -1,0 +1,4 @@
+-- What this crate alone cites.
+mod AllLanes
+mod Taking
+mod CallsHold
