@@ -6,7 +6,7 @@
 set -u
 . "$(dirname "$0")/program.bash"
 wants_cc
-crate=$top/crates/interlaken_c
+crate=$top/crates/c_parts
 . "$top/tools/archive.bash"
 if ! archive=$(find_archive "$top"); then
   echo "$name: skipped, no archive of these sources (rt lib in crates/interlaken_c makes it)"

@@ -109,7 +109,10 @@ enum interlaken_result {
   INTERLAKEN_PASSED = 11,         /* all named bits have passed: nothing happens to them any more */
   INTERLAKEN_NO_TRANSMITTER = 12, /* the handle has no transmitter: it is all zeros, or was freed */
   INTERLAKEN_NO_CHANNEL = 13,     /* the plan does not list the channel */
-  INTERLAKEN_BAD_LENGTH = 14      /* the packet has no bytes, or more than 262,144 */
+  INTERLAKEN_BAD_LENGTH = 14,     /* the packet has no bytes, or more than 262,144 */
+  INTERLAKEN_NO_INSPECTOR = 15,   /* the handle has no inspector: it is all zeros, or was freed */
+  INTERLAKEN_NO_CHECKER = 16,     /* the handle has no checker: it is all zeros, or was freed */
+  INTERLAKEN_WAITING = 17         /* faults wait that `next` has not returned: nothing was taken */
 };
 
 /* A handle of a receiver, or of none. All zeros is a handle of none, as in

@@ -49,6 +49,9 @@ class Result(enum.IntEnum):
     NO_TRANSMITTER = 12
     NO_CHANNEL = 13
     BAD_LENGTH = 14
+    NO_INSPECTOR = 15
+    NO_CHECKER = 16
+    WAITING = 17
 
 
 class Cause(enum.IntEnum):

@@ -1,22 +1,7 @@
-//! Calls for C: a receiver of the lanes of a link, a transmitter of them, and damage of lanes on their way, each behind a handle.
+//! Calls for C: a receiver of the lanes of a link, a transmitter of them, and damage of lanes on their way, each behind a handle. Each
+//! export is the call of its name in the crate of its handle.
 #![tactic(auto)]
 
-mod calls;
-mod codes;
-mod damage_block;
-mod damage_calls;
-mod damage_handle;
-mod event;
-mod far_end;
-mod handle;
-pub mod laws;
-mod misuse;
-mod parts;
+mod damage;
 mod receiver;
-mod refusal;
-mod report;
-mod sent;
-mod session;
-mod transmitter_block;
-mod transmitter_calls;
-mod transmitter_handle;
+mod transmitter;

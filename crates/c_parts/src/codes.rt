@@ -1,0 +1,238 @@
+//! The numbers that C sees, by the names of the header without its prefix: results, kinds of events, causes and keys of refusals, drops,
+//! faults and states of lanes.
+ghost use Rattle.std.specs.Prelude.{◌≡◌};
+ghost use Rattle.c_parts.specs.Codes.{code_of, plan_code, state_code};
+
+use crate::misuse::Misuse;
+use lock_model::LaneState;
+use plan_errors::PlanError;
+
+// ---- results
+
+/// The call did what it was asked.
+pub const DONE: u32 = 0;
+
+/// Memory ran out.
+pub const OUT_OF_MEMORY: u32 = 1;
+
+/// The plan is refused.
+pub const BAD_PLAN: u32 = 2;
+
+/// There is no such lane.
+pub const NO_LANE: u32 = 3;
+
+/// The lane, or the transmitter, was finished before.
+pub const FINISHED: u32 = 4;
+
+/// The lane has 2^40 bytes or more, or the piece has; or the channel would be given more than 2^60 bytes.
+pub const TOO_MANY: u32 = 5;
+
+/// The last event is no packet.
+pub const NO_PACKET: u32 = 6;
+
+/// There is no receiver behind the handle.
+pub const NO_RECEIVER: u32 = 7;
+
+/// There is a receiver, a transmitter, or damage, behind the handle already.
+pub const IN_USE: u32 = 8;
+
+/// There is no damage behind the handle.
+pub const NO_DAMAGE: u32 = 9;
+
+/// There are no such numbers of lanes or of bits.
+pub const OUT_OF_RANGE: u32 = 10;
+
+/// All bits that a row names have passed.
+pub const PASSED: u32 = 11;
+
+/// There is no transmitter behind the handle.
+pub const NO_TRANSMITTER: u32 = 12;
+
+/// The plan does not list the channel.
+pub const NO_CHANNEL: u32 = 13;
+
+/// A packet has no bytes, or too many.
+pub const BAD_LENGTH: u32 = 14;
+
+/// There is no inspector behind the handle.
+pub const NO_INSPECTOR: u32 = 15;
+
+/// There is no checker behind the handle.
+pub const NO_CHECKER: u32 = 16;
+
+/// Faults wait that were not given yet: nothing was taken.
+pub const WAITING: u32 = 17;
+
+// ---- kinds of events
+
+/// No event.
+pub const NONE: u32 = 0;
+
+/// A packet.
+pub const PACKET: u32 = 1;
+
+/// A dropped piece of a packet.
+pub const DROPPED: u32 = 2;
+
+/// A fault span.
+pub const SPAN: u32 = 3;
+
+/// A verified control word.
+pub const FLOW: u32 = 4;
+
+/// The end.
+pub const ENDED: u32 = 5;
+
+// ---- causes of refusals
+
+/// There is no refusal.
+pub const NO_CAUSE: u32 = 0;
+
+/// A field of the row is not UTF-8.
+pub const TEXT: u32 = 1;
+
+/// The row's first field names no key.
+pub const UNKNOWN_KEY: u32 = 2;
+
+/// The row has another number of fields.
+pub const FIELDS: u32 = 3;
+
+/// A field of the row is not of its form.
+pub const NUMBER: u32 = 4;
+
+/// A number, a length or a count of rows is out of range.
+pub const RANGE: u32 = 5;
+
+/// The row is a second one of what may stand once.
+pub const REPEAT: u32 = 6;
+
+/// No row has the key.
+pub const MISSING: u32 = 7;
+
+/// The row contradicts others.
+pub const CLASH: u32 = 8;
+
+// ---- keys that can be missing: those of a plan of lanes, which the header has, and those of other files
+
+/// No key is missing.
+pub const NO_KEY: u32 = 0;
+
+/// `lanes`.
+pub const KEY_LANES: u32 = 1;
+
+/// `metaframe`.
+pub const KEY_METAFRAME: u32 = 2;
+
+/// `channel`.
+pub const KEY_CHANNEL: u32 = 3;
+
+/// `out`.
+pub const KEY_OUT: u32 = 4;
+
+/// `oob`.
+pub const KEY_OOB: u32 = 5;
+
+/// `events`.
+pub const KEY_EVENTS: u32 = 6;
+
+/// `plan`.
+pub const KEY_PLAN: u32 = 7;
+
+/// `delay`.
+pub const KEY_DELAY: u32 = 8;
+
+/// `mark`.
+pub const KEY_MARK: u32 = 9;
+
+/// `slots`.
+pub const KEY_SLOTS: u32 = 10;
+
+// ---- why a piece is dropped
+
+/// A Bad word came before the piece was whole.
+pub const DROP_BAD: u32 = 0;
+
+/// A checksum was wrong before the piece was whole.
+pub const DROP_CRC: u32 = 1;
+
+/// The words broke the rules, or a packet began inside another or without a beginning.
+pub const DROP_PROTOCOL: u32 = 2;
+
+/// A lane lost its lock before the piece was whole.
+pub const DROP_LOST: u32 = 3;
+
+/// The words were over before the piece was whole.
+pub const DROP_END: u32 = 4;
+
+/// The packet is longer than the receiver takes.
+pub const DROP_TOO_LONG: u32 = 5;
+
+/// The plan does not list the channel.
+pub const DROP_UNLISTED: u32 = 6;
+
+/// The sender ended the packet with an error.
+pub const DROP_SENDER_ERROR: u32 = 7;
+
+// ---- what a fault span is for
+
+/// No control word was verified before.
+pub const FAULT_START: u32 = 0;
+
+/// A stretch has a Bad word.
+pub const FAULT_BAD: u32 = 1;
+
+/// A stretch's checksum is wrong.
+pub const FAULT_CRC: u32 = 2;
+
+/// A stretch's words break the rules of bursts and ends.
+pub const FAULT_PROTOCOL: u32 = 3;
+
+/// A lane lost its lock.
+pub const FAULT_LOST: u32 = 4;
+
+/// A lane's bits, or the words, were over.
+pub const FAULT_END: u32 = 5;
+
+// ---- states of lanes
+
+/// The lane has no word lock.
+pub const LANE_SEARCHING: u32 = 0;
+
+/// A word lock of the lane goes on, without a declared lock.
+pub const LANE_WORD_LOCK: u32 = 1;
+
+/// A declared lock of the lane goes on.
+pub const LANE_DECLARED: u32 = 2;
+
+/// The number of a lane's state.
+pub fn state_code(state: LaneState) -> u32
+    ensures { result ≡ state_code state }
+{
+    match state {
+        LaneState::Searching => LANE_SEARCHING,
+        LaneState::WordLock => LANE_WORD_LOCK,
+        LaneState::Declared => LANE_DECLARED,
+    }
+}
+
+/// The result of a misuse.
+pub fn code_of(why: Misuse) -> u32
+    ensures { result ≡ code_of why }
+{
+    match why {
+        Misuse::NoLane => NO_LANE,
+        Misuse::Finished => FINISHED,
+        Misuse::TooMany => TOO_MANY,
+        Misuse::NoPacket => NO_PACKET,
+    }
+}
+
+/// The result of a plan that is refused.
+pub fn plan_code(why: PlanError) -> u32
+    ensures { result ≡ plan_code why }
+{
+    match why {
+        PlanError::OutOfMemory => OUT_OF_MEMORY,
+        _ => BAD_PLAN,
+    }
+}

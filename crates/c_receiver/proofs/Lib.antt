@@ -1,0 +1,4 @@
+mod Feeding
+mod Following
+mod Hearing
+mod ReceiverBox

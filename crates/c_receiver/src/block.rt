@@ -1,0 +1,53 @@
+//! The pointer that C holds to a session, or to none.
+ghost use Rattle.std.specs.Prelude.{◌≡◌, true, is_some, Option, Some, None};
+ghost use Rattle.c_receiver.specs.Owned.{block_owns, session_coded};
+ghost use Rattle.c_receiver.specs.declared.session.Session.{Session};
+
+use crate::session::Session;
+use c_parts::Parts;
+use std::alloc::Global;
+use std::marker::Model;
+use std::ptr;
+
+/// A pointer to a session, which owns it: the session is at the pointer, and its block may be given back. If there is no
+/// session, it owns nothing.
+#[repr(C)]
+#[derive(Drop)]
+pub struct ReceiverBlock {
+    ptr: *mut u8,
+    alloc: Global,
+    pub ghost session: { Option Session } by { session_coded },
+}
+
+impl Model for ReceiverBlock {
+    ghost also_owns = { λ h. block_owns h.alloc h.ptr h.session };
+}
+
+impl ReceiverBlock {
+    /// No session.
+    pub fn absent(alloc: Global) -> ReceiverBlock
+        ensures { result.session ≡ None }
+    {
+        let ptr = ptr::null_mut();
+        ReceiverBlock { ptr, alloc }
+    }
+
+    /// The handle of the session of these parts.
+    pub fn of(parts: Parts<Session, Global>) -> ReceiverBlock
+        ensures { result.session ≡ Some parts.value }
+    {
+        let Parts { ptr, alloc } = parts;
+        let ptr = ptr as *mut u8;
+        ReceiverBlock { ptr, alloc }
+    }
+
+    /// The parts of the session's box.
+    pub fn into_parts(self) -> Parts<Session, Global>
+        requires { is_some self.session ≡ true }
+        ensures { self.session ≡ Some result.value }
+    {
+        let ReceiverBlock { ptr, alloc } = self;
+        let ptr = ptr as *mut Session;
+        Parts { ptr, alloc }
+    }
+}

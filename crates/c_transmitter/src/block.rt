@@ -1,0 +1,53 @@
+//! The pointer that C holds to a transmitter, or to none.
+ghost use Rattle.std.specs.Prelude.{◌≡◌, true, is_some, Option, Some, None};
+ghost use Rattle.live_end.specs.States.{State};
+ghost use Rattle.c_transmitter.specs.Owned.{block_owns, transmitter_coded};
+
+use c_parts::Parts;
+use live_end::LiveTransmitter;
+use std::alloc::Global;
+use std::marker::Model;
+use std::ptr;
+
+/// A pointer to a transmitter, which owns it: the transmitter lies at the pointer, and its block may be given back. Where there is none
+/// it owns nothing.
+#[repr(C)]
+#[derive(Drop)]
+pub struct TransmitterBlock {
+    ptr: *mut u8,
+    alloc: Global,
+    pub ghost transmitter: { Option State } by { transmitter_coded },
+}
+
+impl Model for TransmitterBlock {
+    ghost also_owns = { λ b. block_owns b.alloc b.ptr b.transmitter };
+}
+
+impl TransmitterBlock {
+    /// No transmitter.
+    pub fn absent(alloc: Global) -> TransmitterBlock
+        ensures { result.transmitter ≡ None }
+    {
+        let ptr = ptr::null_mut();
+        TransmitterBlock { ptr, alloc }
+    }
+
+    /// The block of the transmitter of these parts.
+    pub fn of(parts: Parts<LiveTransmitter, Global>) -> TransmitterBlock
+        ensures { result.transmitter ≡ Some parts.value }
+    {
+        let Parts { ptr, alloc } = parts;
+        let ptr = ptr as *mut u8;
+        TransmitterBlock { ptr, alloc }
+    }
+
+    /// The parts of the transmitter's box.
+    pub fn into_parts(self) -> Parts<LiveTransmitter, Global>
+        requires { is_some self.transmitter ≡ true }
+        ensures { self.transmitter ≡ Some result.value }
+    {
+        let TransmitterBlock { ptr, alloc } = self;
+        let ptr = ptr as *mut LiveTransmitter;
+        Parts { ptr, alloc }
+    }
+}

@@ -1,7 +1,0 @@
-mod AsBox
-mod Feeding
-mod Following
-mod Hearing
-mod DamageBox
-mod TransmitterBox
-mod Holding

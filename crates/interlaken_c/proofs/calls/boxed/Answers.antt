@@ -1,7 +1,0 @@
--- A receiver in a box.
-use Rattle.std.proofs.Common.{sym, subst}
-use Rattle.interlaken_c.specs.Opens.{IsOfPlan}
-use Rattle.interlaken_c.proofs.calls.boxed.Goals as goal
-
-pub returns-clause-made : goal.returns-clause-made
-returns-clause-made c = subst (IsOfPlan c.args.plan.now) (sym c.in_ok-held.ensures) c.in_ok-session.ensures.made
