@@ -20,9 +20,9 @@ include=$folder/library/include
 strict=(-Wall -Wextra -Werror -pedantic -O1 "-I$include")
 
 holds 'calls of the header and of the archive' "$(grep -o '^uint32_t interlaken_[a-z_]*' "$include/interlaken.h" | cut -d ' ' -f 2 | sort)" \
-  "$(nm -g --defined-only "$archive" 2>/dev/null | grep -oE '\binterlaken_((receiver|transmitter|damage|plan|inspector)_[a-z_]*|version)$' | sort -u)"
+  "$(nm -g --defined-only "$archive" 2>/dev/null | grep -oE '\binterlaken_((receiver|transmitter|damage|plan|inspector|checker)_[a-z_]*|version)$' | sort -u)"
 holds 'calls of the shared library' "$(nm -D --defined-only library/lib/libinterlaken.so | awk '$2 == "T" { sub(/@.*/, "", $3); print $3 }' | sort)" \
-  "$(nm -g --defined-only "$archive" 2>/dev/null | grep -oE '\binterlaken_((receiver|transmitter|damage|plan|inspector)_[a-z_]*|version)$' | sort -u)"
+  "$(nm -g --defined-only "$archive" 2>/dev/null | grep -oE '\binterlaken_((receiver|transmitter|damage|plan|inspector|checker)_[a-z_]*|version)$' | sort -u)"
 
 # One number counts for the program, the library and the formats.
 holds 'the version of the header and of the release' "$(sed -n 's/^#define INTERLAKEN_VERSION "\(.*\)"$/\1/p' "$include/interlaken.h")" \
@@ -58,6 +58,14 @@ END
   (cd by_cmake && cmake -DCMAKE_PREFIX_PATH="$folder/library" . && cmake --build .) >cmake.txt 2>&1
   holds 'the example made by CMake' "$?" 0
 fi
+
+# Passes if a checker in Python finds in the words of a plan what `check` finds.
+same_as_check() { # WHAT PLAN
+  local out
+  out=$(awk -F, '$1 == "out" { print $2 }' "$2")
+  "$program" check "$2" >checked.txt 2>&1 || gives_up "check $2 fails"
+  holds "faults of $1" "$(python3 -B "$top/checks/clib/checked.py" "$top/examples/python" library/lib/libinterlaken.so "$2" 2>&1)" "$(cat "$out.faults.csv")"
+}
 
 # Passes where the example and `receive` print the same of these lanes, and write the same.
 same_as_receive() { # WHAT PLAN PREFIX SEED..
@@ -147,7 +155,7 @@ if ! lacks python3 python3 'examples/python'; then
 import sys
 sys.path.insert(0, sys.argv[1])
 import interlaken as i
-for kind, prefix in (i.Result, ""), (i.Cause, ""), (i.Key, "KEY_"), (i.Kind, ""), (i.Drop, "DROP_"), (i.Fault, "FAULT_"), (i.LaneState, "LANE_"), (i.LaneEventKind, "LANE_EVENT_"):
+for kind, prefix in (i.Result, ""), (i.Cause, ""), (i.Key, "KEY_"), (i.Kind, ""), (i.Drop, "DROP_"), (i.Fault, "FAULT_"), (i.LaneState, "LANE_"), (i.LaneEventKind, "LANE_EVENT_"), (i.WordKind, "WORD_"), (i.Rule, "RULE_"):
     for one in kind:
         print(one.name if one.name in ("NO_KEY", "NO_LANE_EVENT") else prefix + one.name, one.value)
 ' "$top/examples/python" | LC_ALL=C sort)" "$numbers"
@@ -193,6 +201,54 @@ OUT_OF_RANGE
 OUT_OF_RANGE
 row 1: RANGE
 $(sed -n 's/^#define INTERLAKEN_VERSION "\(.*\)"$/\1/p' "$include/interlaken.h")"
+  # Words of a source, and of received lanes: as they are, and with some changed and drawn flow rows. Generated cases too.
+  sed 's/^schedule,.*//; s/^out,.*/out,words/' damaged.plan | grep . >words.plan
+  "$program" burst words.plan >/dev/null || gives_up 'burst fails'
+  same_as_check 'the words of burst' words.plan
+  "$program" gather damaged.plan >/dev/null || gives_up 'gather fails'
+  same_as_check 'the words of gather' damaged.plan
+  for seed in $(seq 1 "${CASES:-12}"); do
+    for words in words damaged; do
+      sed 's/^out,.*/out,changed/; s/^flow,.*//' "$words.plan" | grep . >changed.plan && echo 'flow,changed.flow' >>changed.plan
+      python3 -B "$top/checks/clib/changed.py" "$words.words" changed.words changed.flow "$seed"
+      same_as_check "the changed words of $words, seed $seed" changed.plan
+    done
+    rm -f g*
+    "$program" generate "$seed" g >/dev/null 2>&1
+    [ $? -le 3 ] && [ -f g.plan ] && "$program" gather g.plan >/dev/null 2>&1 || continue
+    same_as_check "the words of case $seed" g.plan
+  done
+  rm -f g*
+  holds 'a checker in Python, misused' "$(python3 -B -c '
+import sys
+sys.path.insert(0, sys.argv[1])
+import interlaken as i
+library = "library/lib/libinterlaken.so"
+with i.Checker(open("damaged.plan", "rb").read(), library) as checker:
+    checker.word(i.WordKind.BAD)
+    for wrong in lambda: checker.word(i.WordKind.DATA, 1), lambda: checker.flow(0), lambda: checker.word(0):
+        try:
+            wrong()
+        except i.Misuse as misuse:
+            print(misuse)
+    print(checker.next(), checker.next())
+    checker.flow(0)
+    for wrong in (lambda: checker.word(4), lambda: checker.word(1 << 32), lambda: checker.word(1, 1 << 64), checker.finish, lambda: checker.word(1),
+                  lambda: checker.flow(0), lambda: checker.word(0), checker.finish, checker.close, checker.next, lambda: checker.word(1),
+                  lambda: i.Checker(b"lanes,0", library)):
+        try:
+            wrong()
+        except (i.Misuse, i.BadPlan, ValueError) as error:
+            print(error)
+' "$top/examples/python" 2>&1)" "WAITING
+WAITING
+WAITING
+RuleFault(word=0, rule=<Rule.BAD: 1>, channel=None) None
+OUT_OF_RANGE
+no kind of a word: 4294967296
+no word: 18446744073709551616
+$(printf '%s\n' FINISHED FINISHED FINISHED NO_CHECKER NO_CHECKER)
+row 1: RANGE"
   # Rows are given at drawn times before their bits, and lanes pass in drawn pieces.
   "$program" send drawn.plan >/dev/null || gives_up 'send fails'
   python3 -c '

@@ -2,6 +2,8 @@
  *
  * - A receiver: feed it bytes of lanes; it returns packets, fault spans and control words.
  * - A transmitter: give it packets and flow control at any time, and take bytes of lanes.
+ * - A checker: give it the words of a sender, as they were received and aligned; it returns each
+ *   rule that a word breaks.
  * - Damage: it inverts bits of lanes on their way, or forces them to 0, while a bench runs.
  * - The numbers of a plan, and the place of a word on the lanes: calls without a handle.
  * - An inspector: feed it bytes of lanes; it returns what each lane shows and at which bit: wrong
@@ -32,6 +34,7 @@
  *   bytes before, take the other lanes: too many of their bytes wait.
  * - An inspector: INTERLAKEN_NO_LANE_EVENT means that no event is due on any lane. All events of
  *   the bytes that were taken were returned: feed more bytes.
+ * - A checker: INTERLAKEN_RULE_NONE means that no fault is due. Give it the next word.
  *
  * Threads
  *
@@ -163,6 +166,13 @@ typedef struct interlaken_transmitter_status {
   uint32_t held;    /* 1 if 4,088 bytes or more of some lane wait, so that no word is made before
                        some of them are taken; otherwise 0 */
 } interlaken_transmitter_status;
+
+/* A handle of a checker, or of none. All zeros is a handle of none. Both members belong to the
+ * library. */
+typedef struct interlaken_checker {
+  void *at;
+  uint8_t live;
+} interlaken_checker;
 
 /* A handle of the damage of lanes, or of none. All zeros is a handle of none. Both members belong
  * to the library. */
@@ -482,6 +492,99 @@ uint32_t interlaken_transmitter_status_of(interlaken_transmitter *transmitter, u
  * from 0. What is given now counts from that word on.
  * Results: DONE, NO_TRANSMITTER; `slots` is 0 if it is not DONE. */
 uint32_t interlaken_transmitter_slots(interlaken_transmitter *transmitter, uint64_t *slots);
+
+/* A checker of the words that a sender makes, by the rules of the command `check`. The words are
+ * those of all lanes in turn, without framing words: `word` takes them one by one, word 0 first.
+ *
+ * The faults of a word are due as soon as it was given, in the order of the rules. Only
+ * INTERLAKEN_RULE_EMPTY needs the next word: it comes with that word, before that word's own
+ * faults. So the faults are the rows of OUT.faults.csv for the words so far, but each row of
+ * `empty` comes one word later.
+ *
+ * Take all faults with `next` before you give the next word: until then `word` and `flow` return
+ * WAITING. If several results apply, a call on a checker returns the first of NO_CHECKER, IN_USE,
+ * FINISHED, WAITING, TOO_MANY, OUT_OF_RANGE. After `interlaken_checker_new` no call on a checker
+ * allocates memory. A thread that calls `interlaken_checker_new` needs a stack of 128 KiB. */
+
+/* Kinds of words: the tags of a words file. */
+enum interlaken_word_kind {
+  INTERLAKEN_WORD_DATA = 1,    /* a data word */
+  INTERLAKEN_WORD_CONTROL = 2, /* a word with a control header */
+  INTERLAKEN_WORD_BAD = 3      /* a bad word; its number is ignored */
+};
+
+/* The rules of a sender's words, in their order. A burst word is a control word with bit 62. */
+enum interlaken_rule {
+  INTERLAKEN_RULE_NONE = 0,      /* no fault is due */
+  INTERLAKEN_RULE_BAD = 1,       /* the word is bad */
+  INTERLAKEN_RULE_CONTROL = 2,   /* no receiver accepts the control word */
+  INTERLAKEN_RULE_CRC = 3,       /* the CRC24 is wrong */
+  INTERLAKEN_RULE_DATA = 4,      /* data after a control word that is no burst word, or before any
+                                    word */
+  INTERLAKEN_RULE_MAX = 5,       /* the burst is longer than BurstMax; its channel */
+  INTERLAKEN_RULE_EMPTY = 6,     /* a control word follows the burst word; its channel */
+  INTERLAKEN_RULE_SHORT = 7,     /* the burst word is less than BurstShort after the burst word
+                                    before it; its channel */
+  INTERLAKEN_RULE_END = 8,       /* an end format that ends no data of a burst */
+  INTERLAKEN_RULE_FILL = 9,      /* bytes of the last data word after the end are not 0; the channel
+                                    of the burst */
+  INTERLAKEN_RULE_PART = 10,     /* a burst that does not end a packet is no multiple of 32 bytes;
+                                    the channel of the burst */
+  INTERLAKEN_RULE_MIN = 11,      /* a part of a packet is shorter than BurstMin; the channel of the
+                                    burst */
+  INTERLAKEN_RULE_SOP = 12,      /* SOP inside a packet; its channel */
+  INTERLAKEN_RULE_OPEN = 13,     /* no SOP, and no packet is open; its channel */
+  INTERLAKEN_RULE_CHANNEL = 14,  /* the plan does not list the channel of the burst word */
+  INTERLAKEN_RULE_LONG = 15,     /* the packet is longer than `max_packet`; the channel of the
+                                    burst */
+  INTERLAKEN_RULE_IDLE = 16,     /* an idle word with SOP, a channel or multiple use */
+  INTERLAKEN_RULE_MULTI = 17,    /* multiple use, if channel numbers have 8 bits; its channel */
+  INTERLAKEN_RULE_CALENDAR = 18, /* Reset Calendar is missing or too early, or a flow bit after the
+                                    last entry is 0 */
+  INTERLAKEN_RULE_OFF = 19       /* a burst word on a channel that is off; its channel */
+};
+
+/* A fault: a word that breaks a rule. All members are 0 if no fault is due. */
+typedef struct interlaken_rule_fault {
+  uint32_t rule;        /* an enum interlaken_rule */
+  uint32_t has_channel; /* 1 if the rule is on a channel; otherwise 0 */
+  uint32_t channel;     /* the channel; 0 without one */
+  uint32_t reserved;    /* 0 */
+  uint64_t word;        /* the number of the word, from 0 */
+} interlaken_rule_fault;
+
+/* Opens a checker behind a handle that has none. `plan` is the text of a plan file, of any length;
+ * it is not kept. All its rows are read, and refused if they are wrong, but no file that they name
+ * is opened. The checker has the plan's sizes of bursts and packets, its channels and its calendar.
+ * No word was given yet, and all channels are on. `refusal` has the cause INTERLAKEN_NO_CAUSE if
+ * the plan is not refused.
+ * Results: DONE, OUT_OF_MEMORY, BAD_PLAN, IN_USE. */
+uint32_t interlaken_checker_new(interlaken_checker *checker, const uint8_t *plan, size_t count,
+                                interlaken_refusal *refusal);
+
+/* Frees a checker with all its memory. Its handle has none afterwards.
+ * Results: DONE, NO_CHECKER. */
+uint32_t interlaken_checker_free(interlaken_checker *checker);
+
+/* Gives the next word: `kind` is an enum interlaken_word_kind, and `number` has the 64 bits. The
+ * result is OUT_OF_RANGE if there is no such kind, and TOO_MANY after 2^57 words.
+ * Results: DONE, FINISHED, TOO_MANY, OUT_OF_RANGE, NO_CHECKER, WAITING. */
+uint32_t interlaken_checker_word(interlaken_checker *checker, uint32_t kind, uint64_t number);
+
+/* Passes on a control word of the far end that the caller has verified, as INTERLAKEN_FLOW has it.
+ * It counts from the next word on, as it does for a transmitter: a burst on a channel that is off
+ * breaks INTERLAKEN_RULE_OFF. After a fault span pass 0, as to a transmitter.
+ * Results: DONE, FINISHED, NO_CHECKER, WAITING. */
+uint32_t interlaken_checker_flow(interlaken_checker *checker, uint64_t word);
+
+/* Ends the words: no word and no flow control may follow. Faults that are due stay due, and none is
+ * added. A second call changes nothing.
+ * Results: DONE, NO_CHECKER. */
+uint32_t interlaken_checker_finish(interlaken_checker *checker);
+
+/* Writes the next fault that is due, or INTERLAKEN_RULE_NONE if there is none.
+ * Results: DONE, NO_CHECKER; the fault is INTERLAKEN_RULE_NONE if it is not DONE. */
+uint32_t interlaken_checker_next(interlaken_checker *checker, interlaken_rule_fault *fault);
 
 /* Damage of lanes on their way. The bytes of each lane pass through `apply`, in pieces of any
  * length; feed the result to a receiver, or to a device. Bits of a lane are counted from 0 over all

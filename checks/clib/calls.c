@@ -403,6 +403,175 @@ static void damage_sequence(void) {
   want("nothing of damage leaks", live == 0);
 }
 
+/* ---- a checker */
+
+/* Words of a few kinds, whose faults are foretold here: with BurstMax 256, BurstShort 64, BurstMin 0, and channel 1 as the first of two
+ * entries. A burst word has SOP and no word an end format. */
+#define IDLE 0x81ffff0000000000u
+#define BURST 0xe1ffff0100000000u
+#define BURST_WORDS 32
+#define SHORT_WORDS 8
+
+/* A handle of a checker, the faults of the last word, and what the rules read of the words before. */
+struct judged {
+  interlaken_checker checker;
+  int has, over, off;
+  uint64_t words;
+  interlaken_rule_fault due[8];
+  uint32_t count, given;
+  uint32_t crc;        /* of the data words after the last control word */
+  int empty;           /* the last word is a burst word */
+  int burst, after_bad; /* what stands right before the last data words: a burst word, a bad word */
+  uint32_t data;       /* how many these are */
+  int opened;          /* a burst word came after the last bad word */
+  uint32_t since;      /* how many words came after the last of them */
+};
+
+static uint32_t crc24(uint32_t crc, uint64_t word) {
+  int n;
+  for (n = 63; n >= 0; n--) crc = (crc << 1 & 0xffffff) ^ (((crc >> 23) ^ (uint32_t)(word >> n)) & 1 ? 0x328b63 : 0);
+  return crc;
+}
+
+static void add_fault(struct judged *k, uint32_t rule, uint64_t word, uint32_t channel) {
+  interlaken_rule_fault *fault = &k->due[k->count++];
+  fault->rule = rule, fault->word = word, fault->has_channel = channel != 0, fault->channel = channel, fault->reserved = 0;
+}
+
+/* A control word as its sender makes it: with the CRC24 of the data before it. */
+static uint64_t sealed(const struct judged *k, uint64_t word) { return word | (~crc24(k->crc, word) & 0xffffff); }
+
+static void after_control(struct judged *k, int burst) {
+  k->crc = 0xffffff, k->data = 0, k->after_bad = 0, k->burst = k->empty = burst;
+  if (burst) k->opened = 1, k->since = 0;
+  else k->since++;
+}
+
+static void judge_data(struct judged *k, uint64_t number) {
+  if (k->data == 0 && !k->burst && !k->after_bad) add_fault(k, INTERLAKEN_RULE_DATA, k->words, 0);
+  if (k->burst && k->data == BURST_WORDS) add_fault(k, INTERLAKEN_RULE_MAX, k->words, 1);
+  k->crc = crc24(k->crc, number), k->data++, k->since++, k->empty = 0;
+}
+
+static void judge_bad(struct judged *k) {
+  add_fault(k, INTERLAKEN_RULE_BAD, k->words, 0);
+  k->data = 0, k->burst = k->empty = k->opened = 0, k->after_bad = 1;
+}
+
+/* It is no control word that a receiver accepts. */
+static void judge_zero(struct judged *k) {
+  if (k->empty) add_fault(k, INTERLAKEN_RULE_EMPTY, k->words - 1, 1);
+  add_fault(k, INTERLAKEN_RULE_CONTROL, k->words, 0);
+  if (!k->after_bad) add_fault(k, INTERLAKEN_RULE_CRC, k->words, 0);
+  after_control(k, 0);
+}
+
+static void judge_control(struct judged *k, int burst) {
+  if (k->empty) add_fault(k, INTERLAKEN_RULE_EMPTY, k->words - 1, 1);
+  if (burst && k->opened && k->since < SHORT_WORDS) add_fault(k, INTERLAKEN_RULE_SHORT, k->words, 1);
+  if (k->burst && k->data % 4 != 0) add_fault(k, INTERLAKEN_RULE_PART, k->words, 1);
+  if (burst && k->opened) add_fault(k, INTERLAKEN_RULE_SOP, k->words, 1);
+  if (burst && k->off) add_fault(k, INTERLAKEN_RULE_OFF, k->words, 1);
+  after_control(k, burst);
+}
+
+static uint32_t checker_result(const struct judged *k) {
+  if (!k->has) return INTERLAKEN_NO_CHECKER;
+  if (k->over) return INTERLAKEN_FINISHED;
+  return k->given < k->count ? INTERLAKEN_WAITING : INTERLAKEN_DONE;
+}
+
+static void try_checker_new(struct judged *k) {
+  static struct judged none_of_it;
+  interlaken_checker old = k->checker;
+  interlaken_refusal refusal;
+  int bad = below(4) == 0, fails = may_fail();
+  uint32_t wanted = k->has ? INTERLAKEN_IN_USE : bad ? INTERLAKEN_BAD_PLAN : INTERLAKEN_DONE, result;
+  result = interlaken_checker_new(&k->checker, bad ? (const uint8_t *)"lanes,x\n" : plan.at, bad ? 8 : plan.count, &refusal);
+  failing = -1;
+  want("checker new", result == wanted || (fails && !k->has && result == INTERLAKEN_OUT_OF_MEMORY));
+  want("checker refusal", (refusal.cause != 0) == (result == INTERLAKEN_BAD_PLAN));
+  want("a checker stays", !k->has || k->checker.at == old.at);
+  if (result != INTERLAKEN_DONE) return;
+  old = k->checker;
+  *k = none_of_it;
+  k->checker = old, k->has = 1, k->crc = 0xffffff;
+}
+
+static void try_checker_free(struct judged *k) {
+  want("checker free", interlaken_checker_free(&k->checker) == (uint32_t)(k->has ? INTERLAKEN_DONE : INTERLAKEN_NO_CHECKER));
+  want("checker freed", k->checker.live == 0);
+  k->has = 0;
+}
+
+static void try_checker_finish(struct judged *k) {
+  want("checker finish", interlaken_checker_finish(&k->checker) == (uint32_t)(k->has ? INTERLAKEN_DONE : INTERLAKEN_NO_CHECKER));
+  if (k->has) k->over = 1;
+}
+
+static void try_word(struct judged *k) {
+  static const uint32_t no_kind[] = {0, 4, 5, 0xffffffff};
+  uint32_t drawn = k->burst && k->data > 12 && below(8) > 0 ? 19 : below(20), wanted = checker_result(k), kind = INTERLAKEN_WORD_CONTROL, result;
+  uint64_t number = 0;
+  if (drawn == 0) {
+    if (wanted == INTERLAKEN_DONE) wanted = INTERLAKEN_OUT_OF_RANGE;
+    want("no kind of a word", interlaken_checker_word(&k->checker, no_kind[below(4)], number) == wanted);
+    return;
+  }
+  if (drawn == 1) kind = INTERLAKEN_WORD_BAD, number = below(1000);
+  else if (drawn == 2) number = 0;
+  else if (drawn < 5) number = sealed(k, IDLE);
+  else if (drawn < 7) number = sealed(k, BURST);
+  else kind = INTERLAKEN_WORD_DATA, number = (uint64_t)below(0x7fffffff) << 33 | below(0x7fffffff);
+  result = interlaken_checker_word(&k->checker, kind, number);
+  want("word", result == wanted);
+  if (result != INTERLAKEN_DONE) return;
+  k->count = k->given = 0;
+  if (kind == INTERLAKEN_WORD_DATA) judge_data(k, number);
+  else if (kind == INTERLAKEN_WORD_BAD) judge_bad(k);
+  else if (number == 0) judge_zero(k);
+  else judge_control(k, drawn >= 5);
+  k->words++;
+}
+
+/* The word's checksum is not looked at. Without Reset Calendar it tells of no channel here. */
+static void try_heard(struct judged *k) {
+  static const uint64_t words[] = {0x8100000000000000u, 0x8180000000000000u, 0x8140000000000000u, 0x81c0000000000000u, 0, 0x8000000000000000u};
+  uint64_t word = words[below(6)] | below(0x1000000);
+  uint32_t wanted = checker_result(k), result;
+  if (word < 0x1000000) word = 0;
+  result = interlaken_checker_flow(&k->checker, word);
+  want("heard", result == wanted);
+  if (result == INTERLAKEN_DONE && (word >> 56 & 1) != 0) k->off = !(word >> 55 & 1);
+}
+
+static void try_fault(struct judged *k) {
+  interlaken_rule_fault fault, none_of_it;
+  memset(&fault, 0xa5, sizeof fault), memset(&none_of_it, 0, sizeof none_of_it);
+  want("fault", interlaken_checker_next(&k->checker, &fault) == (uint32_t)(k->has ? INTERLAKEN_DONE : INTERLAKEN_NO_CHECKER));
+  if (!k->has || k->given == k->count) want("no fault is due", memcmp(&fault, &none_of_it, sizeof fault) == 0);
+  else want("the fault that is due", memcmp(&fault, &k->due[k->given++], sizeof fault) == 0);
+}
+
+static void checker_sequence(void) {
+  static struct judged one;
+  uint32_t calls = 20 + below(1000);
+  while (calls-- > 0) {
+    long before = allocations;
+    int takes_memory = 0;
+    switch (below(60)) {
+      case 0: case 1: try_checker_new(&one), takes_memory = 1; break;
+      case 2: if (below(10) == 0) try_checker_free(&one); break;
+      case 3: if (below(10) == 0) try_checker_finish(&one); break;
+      case 4: case 5: case 6: case 7: try_heard(&one); break;
+      default: if (below(5) < 3) try_word(&one); else try_fault(&one); break;
+    }
+    want("no allocation but of checker new", takes_memory || allocations == before);
+  }
+  try_checker_free(&one);
+  want("nothing of a checker leaks", live == 0);
+}
+
 /* ---- a transmitter */
 
 #define GIVEN 30
@@ -1013,6 +1182,7 @@ int main(int argc, char **argv) {
   for (left = atol(argv[4]); left > 0; left--) {
     state = (uint64_t)left * 2654435761u + 88172645463325252u;
     sequence();
+    checker_sequence();
     damage_sequence();
     sender_sequence();
     plan_sequence();

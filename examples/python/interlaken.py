@@ -14,6 +14,13 @@ Where bytes come live, call `feed` and `finish` for each lane, and take `events(
 
 Where lanes go live, call `take` for each in turn, and `packet`, `flow` and `local` at any time between.
 
+    with Checker(plan, library="lib/libinterlaken.so") as checker:
+        checker.word(WordKind.CONTROL, 0x81ffff0000188177)
+        for fault in checker.faults():
+            ...
+
+Give `flow` between words, as to a transmitter. Take all faults before the next word.
+
     with Damage(2, library="lib/libinterlaken.so") as damage:
         damage.flip(0, 12345)
         damaged = damage.apply(0, data)
@@ -122,6 +129,39 @@ class Fault(enum.IntEnum):
     PROTOCOL = 3
     LOST = 4
     END = 5
+
+
+class WordKind(enum.IntEnum):
+    """Kinds of words: the tags of a words file."""
+
+    DATA = 1
+    CONTROL = 2
+    BAD = 3
+
+
+class Rule(enum.IntEnum):
+    """The rules of a sender's words, in their order."""
+
+    NONE = 0
+    BAD = 1
+    CONTROL = 2
+    CRC = 3
+    DATA = 4
+    MAX = 5
+    EMPTY = 6
+    SHORT = 7
+    END = 8
+    FILL = 9
+    PART = 10
+    MIN = 11
+    SOP = 12
+    OPEN = 13
+    CHANNEL = 14
+    LONG = 15
+    IDLE = 16
+    MULTI = 17
+    CALENDAR = 18
+    OFF = 19
 
 
 class LaneState(enum.IntEnum):
@@ -233,6 +273,15 @@ class Report:
 
 
 @dataclass(frozen=True)
+class RuleFault:
+    """A word, counted from 0, that breaks a rule, and the channel, where the rule is on one."""
+
+    word: int
+    rule: Rule
+    channel: Optional[int]
+
+
+@dataclass(frozen=True)
 class Counts:
     """What a transmitter was given on a channel, and what it sent of it. A burst is sent once its burst word was made: then all its bytes
     count, and its packet where it is the last burst of one."""
@@ -309,6 +358,10 @@ class _Event(ctypes.Structure):
     ]
 
 
+class _RuleFault(ctypes.Structure):
+    _fields_ = [(name, ctypes.c_uint32) for name in ("rule", "has_channel", "channel", "reserved")] + [("word", ctypes.c_uint64)]
+
+
 class _Report(ctypes.Structure):
     _fields_ = [
         (name, ctypes.c_uint64)
@@ -366,6 +419,14 @@ _TRANSMITTER_CALLS = {
     "sent": (_handle, ctypes.c_uint16, ctypes.POINTER(_Counts)),
     "status_of": (_handle, _u32, ctypes.POINTER(_Status)),
     "slots": (_handle, ctypes.POINTER(_u64)),
+}
+_CHECKER_CALLS = {
+    "new": (_handle, ctypes.c_char_p, _size, ctypes.POINTER(_Refusal)),
+    "free": (_handle,),
+    "word": (_handle, _u32, _u64),
+    "flow": (_handle, _u64),
+    "finish": (_handle,),
+    "next": (_handle, ctypes.POINTER(_RuleFault)),
 }
 _DAMAGE_CALLS = {
     "new": (_handle, _u32),
@@ -674,6 +735,39 @@ class Transmitter(_OfPlan):
     def _has_ended(self, lane: int) -> bool:
         status = self.status(lane)
         return status.ended and status.waiting == 0
+
+
+class Checker(_OfPlan):
+    """A checker of the words of a sender by the rules of a plan. The faults of a word are due once it was given; a burst word that a control
+    word follows breaks Rule.EMPTY, which is told with that word. As a context manager it is closed at the end."""
+
+    def __init__(self, plan: bytes, library: str = "libinterlaken.so"):
+        """`plan` is the text of a plan file, and `library` the path of the shared library."""
+        super().__init__(plan, library, "interlaken_checker_", _CHECKER_CALLS)
+
+    def word(self, kind: int, number: int = 0) -> None:
+        """Gives the next word: a WordKind and its 64 bits. While faults are due it raises Misuse, of WAITING."""
+        self._call("word", _within(kind, 32, "kind of a word"), _within(number, 64, "word"))
+
+    def flow(self, word: int) -> None:
+        """Gives a control word of the far end, as a receiver's Flow has it: it counts from the next word on, as for a transmitter. While faults
+        are due it raises Misuse, of WAITING."""
+        self._call("flow", _within(word, 64, "word"))
+
+    def finish(self) -> None:
+        """No further word comes. Faults that are due stay due."""
+        self._call("finish")
+
+    def next(self) -> Optional[RuleFault]:
+        """The next fault that is due; None where none is."""
+        fault = _RuleFault()
+        self._call("next", fault)
+        return RuleFault(fault.word, Rule(fault.rule), fault.channel if fault.has_channel else None) if fault.rule else None
+
+    def faults(self) -> Iterator[RuleFault]:
+        """The faults that are due."""
+        while (fault := self.next()) is not None:
+            yield fault
 
 
 class Damage(_Opened):

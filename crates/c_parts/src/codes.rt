@@ -1,5 +1,5 @@
 //! The numbers that C sees, by the names of the header without its prefix: results, kinds of events, causes and keys of refusals, drops,
-//! faults and states of lanes.
+//! faults and states of lanes, kinds of words and rules of words.
 ghost use Rattle.std.specs.Prelude.{◌≡◌};
 ghost use Rattle.c_parts.specs.Codes.{code_of, plan_code, state_code};
 
@@ -244,6 +244,79 @@ pub const LANE_EVENT_LOST_STATE: u32 = 11;
 
 /// A search is lost before a declaration, or given up.
 pub const LANE_EVENT_UNFRAMED: u32 = 12;
+
+// ---- kinds of words, the tags of a words file
+
+/// A data word.
+pub const WORD_DATA: u32 = 1;
+
+/// A control word.
+pub const WORD_CONTROL: u32 = 2;
+
+/// A Bad word, whose number is not looked at.
+pub const WORD_BAD: u32 = 3;
+
+// ---- the rules of a sender's words
+
+/// No rule is broken.
+pub const RULE_NONE: u32 = 0;
+
+/// A word that is neither data nor control.
+pub const RULE_BAD: u32 = 1;
+
+/// A control word that no receiver accepts.
+pub const RULE_CONTROL: u32 = 2;
+
+/// A CRC24 that is not that of the data words before the word and of itself.
+pub const RULE_CRC: u32 = 3;
+
+/// Data after a control word that begins no burst, or before any word.
+pub const RULE_DATA: u32 = 4;
+
+/// A burst of more than BurstMax.
+pub const RULE_MAX: u32 = 5;
+
+/// A burst word with no data after it.
+pub const RULE_EMPTY: u32 = 6;
+
+/// A burst word fewer than BurstShort after the burst word before it.
+pub const RULE_SHORT: u32 = 7;
+
+/// An end format after no data of a burst.
+pub const RULE_END: u32 = 8;
+
+/// A last data word whose bytes past the end are not all 0.
+pub const RULE_FILL: u32 = 9;
+
+/// A burst that does not end a packet and is no multiple of 32 bytes.
+pub const RULE_PART: u32 = 10;
+
+/// A burst of fewer bytes than BurstMin that is not the whole of a packet.
+pub const RULE_MIN: u32 = 11;
+
+/// SOP on a channel whose packet has not ended.
+pub const RULE_SOP: u32 = 12;
+
+/// No SOP on a channel whose packet has ended, or that has none yet.
+pub const RULE_OPEN: u32 = 13;
+
+/// A burst on a channel that is not listed.
+pub const RULE_CHANNEL: u32 = 14;
+
+/// A packet of more bytes than `max_packet`.
+pub const RULE_LONG: u32 = 15;
+
+/// An idle with bits that no idle has.
+pub const RULE_IDLE: u32 = 16;
+
+/// A burst word with multiple use where channel numbers are narrow.
+pub const RULE_MULTI: u32 = 17;
+
+/// Reset Calendar that is not as is due, or a flow bit past the last entry that is 0.
+pub const RULE_CALENDAR: u32 = 18;
+
+/// A burst on a channel that flow control has turned off.
+pub const RULE_OFF: u32 = 19;
 
 /// The number of a lane's state.
 pub fn state_code(state: LaneState) -> u32

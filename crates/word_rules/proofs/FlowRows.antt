@@ -1,14 +1,15 @@
 -- The rows after slot t tell nothing of it.
-use Rattle.std.proofs.Common.{ℕ, zero, suc, ◌+◌, ◌-◌, ◌*◌, ◌≡◌, ◌≤◌, ◌<◌, ◌==◌, nat_le, refl, sym, ap, ap₂, ◌∙◌, Bool, true, false, ◌&&◌, List, [], ◌∷◌, ◌++◌, length, map, filter, reverse, take, drop, get_or, slice_index, min, Option, Some, None, arith}
+use Rattle.std.proofs.Common.{ℕ, zero, suc, ◌+◌, ◌-◌, ◌*◌, ◌≡◌, ◌≤◌, ◌<◌, ◌==◌, nat_le, refl, sym, ap, ap₂, ◌∙◌, subst, Bool, true, false, ◌&&◌, List, [], ◌∷◌, ◌++◌, length, map, filter, reverse, take, drop, get_or, slice_index, min, Option, Some, None, arith}
 use Rattle.std.specs.Option.{option_map_or}
 use Rattle.std.specs.Int.{bit_at}
 use Rattle.std.specs.List.{range_with_len}
 use Rattle.std.proofs.lemmas.Bool.Decides.{nat_tests}
-use Rattle.std.proofs.lemmas.List.{get_or-drop, length-drop}
-use Rattle.std.proofs.lemmas.List.Elements.{filter-append}
+use Rattle.std.proofs.Math.Seq.{take-append-add}
+use Rattle.std.proofs.lemmas.List.{get_or-drop, length-drop, get_or-append-add, length-append, take_all}
+use Rattle.std.proofs.lemmas.List.Elements.{filter-append, All-append}
 use Rattle.stream_model.specs.declared.rows.FlowRow.{FlowRow}
 use Rattle.stream_model.specs.Calendar.{Told, told_by_word, told_by_row, told_from, told_by, on_by_latest, is_on, word_number}
-use Rattle.word_rules.specs.Flows.{no_row, InOrder}
+use Rattle.word_rules.specs.Flows.{no_row, InOrder, NoneLater, with_row}
 
 Later : ℕ → List FlowRow → Type 0
 Later t [] = Unit {0}
@@ -83,4 +84,43 @@ on_by_part entries rows k channel t part ord late =
     on_counts entries (take k rows) channel t
     ∙ ap (λ (l : List Told). on_by_latest (reverse l)) (sym (drop_later entries channel t 0 [] (take k rows) (drop k rows) rest))
     ∙ ap (λ (l : List FlowRow). on_by_latest (reverse (filter (counts channel t) (told_by entries l)))) (take_drop k rows)
+    ∙ sym (on_counts entries rows channel t)
+
+-- so do the rows that were heard with the first of the others
+pub on_by_first : (entries : List ℕ) (heard items rows : List FlowRow) (k channel t : ℕ) → heard ++ items ≡ rows → k ≤ length items → InOrder rows → (k < length items → t < (get_or items k no_row).slot) →
+    is_on entries (heard ++ take k items) channel t ≡ is_on entries rows channel t
+on_by_first entries heard items rows k channel t shown part ord late =
+    let n : ℕ = length heard + k in
+    let whole : length rows ≡ length heard + length items = ap (λ (xs : List FlowRow). length xs) (sym shown) ∙ length-append heard items in
+    let first : take n rows ≡ heard ++ take k items = ap (λ (xs : List FlowRow). take n xs) (sym shown) ∙ take-append-add heard items k in
+    let at : get_or rows n no_row ≡ get_or items k no_row = ap (λ (xs : List FlowRow). get_or xs n no_row) (sym shown) ∙ get_or-append-add heard items k no_row in
+    ap (λ (xs : List FlowRow). is_on entries xs channel t) (sym first)
+    ∙ on_by_part entries rows n channel t (omega arith) ord (λ lt. (let h = late (omega arith) in rw at h))
+
+-- where none of the rows is of a later slot, all of them are taken
+pub all_first : (heard items rows : List FlowRow) (k t : ℕ) → heard ++ items ≡ rows → k ≤ length items → NoneLater rows t → (k < length items → t < (get_or items k no_row).slot) → take k items ≡ items
+all_first heard items rows k t shown part none late =
+    let whole : length rows ≡ length heard + length items = ap (λ (xs : List FlowRow). length xs) (sym shown) ∙ length-append heard items in
+    let at : get_or rows (length heard + k) no_row ≡ get_or items k no_row = ap (λ (xs : List FlowRow). get_or xs (length heard + k) no_row) (sym shown) ∙ get_or-append-add heard items k no_row in
+    let not_less : k < length items → ⊥ = (λ lt. (
+    let h = late lt in
+    let n : (get_or rows (length heard + k) no_row).slot ≤ t = none (length heard + k) no_row (omega arith) in
+    let m : (get_or items k no_row).slot ≤ t = subst (λ (row : FlowRow). row.slot ≤ t) at n in
+    omega arith)) in
+    let all : length items ≤ k = omega (arith, not_less) in
+    take_all k items all
+
+pub none_later : (rows : List FlowRow) (t word : ℕ) → NoneLater rows t → NoneLater (with_row rows t word) t
+none_later rows t word h = All-append (λ (row : FlowRow). row.slot ≤ t) rows (record { slot = t; word = word } ∷ []) h one where
+  one : NoneLater (record { slot = t; word = word } ∷ []) t
+  one zero d lt = omega arith
+  one (suc i) d lt = omega arith
+
+-- a row of a slot after t says nothing of slot t
+pub on_before : (entries : List ℕ) (rows : List FlowRow) (slot word channel t : ℕ) → t < slot → is_on entries (with_row rows slot word) channel t ≡ is_on entries rows channel t
+unfolding Later
+on_before entries rows slot word channel t lt =
+    let later : Later t (record { slot = slot; word = word } ∷ []) = (lt, tt) in
+    on_counts entries (with_row rows slot word) channel t
+    ∙ ap (λ (l : List Told). on_by_latest (reverse l)) (drop_later entries channel t 0 [] rows (record { slot = slot; word = word } ∷ []) later)
     ∙ sym (on_counts entries rows channel t)

@@ -1,5 +1,5 @@
 -- One word more: what is kept, and the rows of a Control word.
-use Rattle.std.proofs.Common.{ℕ, ◌^◌, ◌≡◌, ◌≤◌, ◌<◌, refl, sym, ap, ap₂, ◌∙◌, subst, Bool, not, ◌&&◌, List, ◌∷◌, ◌++◌, length, Option, Some, None, IfSome, append_assoc, arith}
+use Rattle.std.proofs.Common.{ℕ, ◌^◌, ◌≡◌, ◌≤◌, ◌<◌, refl, sym, ap, ap₂, ◌∙◌, subst, Bool, true, not, ◌&&◌, List, ◌∷◌, ◌++◌, length, Option, Some, None, IfSome, append_assoc, arith}
 use Rattle.lk_base.specs.declared.word.RxWord.{RxWord}
 use Rattle.lk_base.specs.declared.word.RxWord.TheVariants.{Control}
 use Rattle.lk_base.specs.Fields.{channel_number}
@@ -33,7 +33,10 @@ some_more m n h None s = tt
 some_more m n h (Some k) s = omega arith
 
 pub flow_later : (f : Flow) (entries : List ℕ) (rows : List FlowRow) (t u : ℕ) → t ≤ u → IsFlow f entries rows t → IsFlow f entries rows u
-flow_later f entries rows t u h s = record { shown = s.shown; stands = s.stands; part = s.part; early = λ i d lt. (let k = s.early i d lt in omega arith) }
+flow_later f entries rows t u h s = record { heard = s.heard; shown = s.shown; stands = s.stands; part = s.part; gone = λ i d lt. (let k = s.gone i d lt in omega arith); early = λ i d lt. (let k = s.early i d lt in omega arith) }
+
+pub off_on : (a b x y : Bool) → a ≡ true → b ≡ true → x ≡ y → x ≡ (a && (b && y))
+off_on a b x y is_a is_b h = rw (is_a, is_b) h
 
 regroup : (o w u k f : List Fault) → (o ++ (w ++ (u ++ k))) ++ f ≡ o ++ (w ++ (u ++ (k ++ f)))
 regroup o w u k f = simp append_assoc

@@ -1,5 +1,6 @@
 -- What other crates cite.
 pub mod Making
+pub mod LaterRows
 -- What this crate alone cites.
 mod Runs
 mod ExamplesHold

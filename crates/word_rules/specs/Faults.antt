@@ -27,6 +27,10 @@ pub record Plan : Type 0 where
 abbrev pub plan_by : WordPlan → Plan
 plan_by p = record { limits = p.limits; channels = p.channels.now; entries = p.entries.now; flow = p.flow.now }
 
+-- the plan with these rows of flow control
+abbrev pub with_flow : Plan → List FlowRow → Plan
+with_flow p rows = record { limits = p.limits; channels = p.channels; entries = p.entries; flow = rows }
+
 -- one row where the rule is broken
 abbrev pub row : ℕ → WordRule → Option ℕ → Bool → List Fault
 row t rule channel broken = cond broken (record { word = t; rule = rule; channel = channel } ∷ []) []
@@ -87,3 +91,12 @@ faults_from p earlier (word ∷ words) = faults_at p earlier word (first_of word
 -- the faults of a list of words
 abbrev pub faults : Plan → List RxWord → List Fault
 faults p words = faults_from p [] words
+
+-- ---- told as words come
+
+-- the row of `empty` of the word before a place, if the word at the place shows that it is broken
+abbrev pub empty_rows : WordLimits → List RxWord → RxWord → List Fault
+empty_rows s [] word = []
+empty_rows s (Data x ∷ earlier) word = []
+empty_rows s (Control x ∷ earlier) word = row (length earlier) rules.Empty (Some (channel_number s.wide x)) (breaks_empty x (Some word))
+empty_rows s (Bad ∷ earlier) word = []

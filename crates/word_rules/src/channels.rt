@@ -1,5 +1,5 @@
 //! What is kept of the channels, by number.
-ghost use Rattle.std.specs.Prelude.{◌≡◌, ◌<◌, ◌^◌, ◌++◌, length, slice_index_or, OnOk};
+ghost use Rattle.std.specs.Prelude.{◌≡◌, ◌≤◌, ◌<◌, ◌+◌, ◌^◌, ◌++◌, length, slice_index_or, IsOk, OnOk, vec_capacity, vec_len};
 ghost use Rattle.word_rules.specs.Channels.{kept_after, long_at, none_kept, open_by, packet_rows_by, seen_by, sop_by};
 
 use crate::before::{Before, is_burst_word};
@@ -85,7 +85,10 @@ pub fn packet_rows(
     word: ControlWord,
     faults: &mut Vec<Fault>,
 ) -> Result<(), OutOfMemory>
-    ensures { OnOk result (faults.new.items ≡ faults.old.items ++ packet_rows_by limits before own word.0) }
+    ensures rows { OnOk result (faults.new.items ≡ faults.old.items ++ packet_rows_by limits before own word.0) }
+    ensures room { vec_len faults.old + 4 ≤ vec_capacity faults.old → IsOk result }
+    ensures kept { vec_capacity faults.old ≤ vec_capacity faults.new }
+    ensures few { vec_len faults.new ≤ vec_len faults.old + 4 }
 {
     let number = before.number;
     let channel = Some(word.channel(limits.wide));

@@ -1,11 +1,12 @@
 //! The pass over a sender's words.
-ghost use Rattle.std.specs.Prelude.{◌≡◌, ◌<◌, ◌+◌, ◌^◌, ◌++◌, ◌∷◌, [], ℕ, List, map, Option, true, slice_get, slice_set, IfOk, OnOk, length};
+ghost use Rattle.std.specs.Prelude.{◌≡◌, ◌≤◌, ◌<◌, ◌+◌, ◌^◌, ◌++◌, ◌∷◌, [], ℕ, List, map, Option, true, slice_get, slice_set, IfOk, IsOk, OnOk, length, vec_capacity, vec_len};
+ghost use Rattle.std.specs.Option.{option_to_list};
 ghost use Rattle.lk_base.specs.declared.word.RxWord.{RxWord};
 ghost use Rattle.lk_base.specs.declared.word.RxWord.TheVariants.{Data, Control, Bad};
-ghost use Rattle.word_rules.specs.Faults.{Plan, faults, faults_at, faults_from, plan_by};
+ghost use Rattle.word_rules.specs.Faults.{Plan, empty_rows, faults, faults_at, faults_from, plan_by, with_flow};
 ghost use Rattle.word_rules.specs.Made.{AreUnused, unused};
 ghost use Rattle.word_rules.specs.Checks.{Keeps};
-ghost use Rattle.word_rules.specs.Flows.{InOrder};
+ghost use Rattle.word_rules.specs.Flows.{InOrder, NoneLater, with_row};
 ghost use Rattle.word_rules.specs.Runs.{run_after};
 
 use crate::before::Before;
@@ -93,11 +94,11 @@ impl Checker {
     }
 
     /// Takes the next word, and puts the rows of its faults after the others, in the order of the rules; `next` is the word after it,
-    /// if there is one.
+    /// if there is one. At most 16 rows are added.
     ///
     /// # Errors
     ///
-    /// `OutOfMemory`. What the checker gives after it means nothing.
+    /// `OutOfMemory`. What the checker gives after it means nothing. Where there is room for 16 rows more, it is not returned.
     pub fn step(
         &mut self,
         word: RxWord,
@@ -107,6 +108,9 @@ impl Checker {
         requires { (p : Plan) × (earlier : List RxWord) × Keeps self.old p earlier × (length earlier < 2 ^ 57) }
         ensures rows { (p : Plan) (earlier : List RxWord) → Keeps self.old p earlier → InOrder p.flow → OnOk result (faults.new.items ≡ faults.old.items ++ faults_at p earlier word next) }
         ensures keeps { (p : Plan) (earlier : List RxWord) → Keeps self.old p earlier → OnOk result (Keeps self.new p (word ∷ earlier)) }
+        ensures room { vec_len faults.old + 16 ≤ vec_capacity faults.old → IsOk result }
+        ensures kept { vec_capacity faults.old ≤ vec_capacity faults.new }
+        ensures few { vec_len faults.new ≤ vec_len faults.old + 16 }
     {
         match word {
             RxWord::Data(number) => self.data(number, faults),
@@ -115,11 +119,39 @@ impl Checker {
         }
     }
 
+    /// How many words came.
+    pub fn count(&self) -> u64
+        requires { (p : Plan) × (earlier : List RxWord) × Keeps self.now p earlier }
+        ensures { (p : Plan) (earlier : List RxWord) → Keeps self.now p earlier → result ≡ length earlier }
+    {
+        self.before.number
+    }
+
+    /// The row of `empty` of the last word that came, if the next word shows that it is broken.
+    pub fn empty_before(&self, next: RxWord) -> Option<Fault>
+        requires { (p : Plan) × (earlier : List RxWord) × Keeps self.now p earlier }
+        ensures { (p : Plan) (earlier : List RxWord) → Keeps self.now p earlier → option_to_list result ≡ empty_rows p.limits earlier next }
+    {
+        self.before.empty_before(self.limits, next)
+    }
+
+    /// Hears a word of flow control: it counts from the next word on, as a row whose slot is the number of words so far. No row of the
+    /// plan is of a later slot.
+    pub fn hear(&mut self, word: u64)
+        requires { (p : Plan) × (earlier : List RxWord) × Keeps self.old p earlier }
+        ensures { (p : Plan) (earlier : List RxWord) → Keeps self.old p earlier → NoneLater p.flow (length earlier) → Keeps self.new (with_flow p (with_row p.flow (length earlier) word)) earlier }
+    {
+        self.flow.hear(word, self.before.number);
+    }
+
     // Takes a Data word.
     fn data(&mut self, word: u64, faults: &mut Vec<Fault>) -> Result<(), OutOfMemory>
         requires { (p : Plan) × (earlier : List RxWord) × Keeps self.old p earlier × (length earlier < 2 ^ 57) }
         ensures rows { (p : Plan) (earlier : List RxWord) (next : Option RxWord) → Keeps self.old p earlier → OnOk result (faults.new.items ≡ faults.old.items ++ faults_at p earlier (Data word) next) }
         ensures keeps { (p : Plan) (earlier : List RxWord) → Keeps self.old p earlier → OnOk result (Keeps self.new p (Data word ∷ earlier)) }
+        ensures room { vec_len faults.old + 2 ≤ vec_capacity faults.old → IsOk result }
+        ensures kept { vec_capacity faults.old ≤ vec_capacity faults.new }
+        ensures few { vec_len faults.new ≤ vec_len faults.old + 2 }
     {
         self.before.data_rows(self.limits, faults)?;
         self.before = self.before.after_data(word);
@@ -160,6 +192,9 @@ impl Checker {
         requires { (p : Plan) × (earlier : List RxWord) × Keeps self.old p earlier × (length earlier < 2 ^ 57) }
         ensures rows { (p : Plan) (earlier : List RxWord) (next : Option RxWord) → Keeps self.old p earlier → OnOk result (faults.new.items ≡ faults.old.items ++ faults_at p earlier Bad next) }
         ensures keeps { (p : Plan) (earlier : List RxWord) → Keeps self.old p earlier → OnOk result (Keeps self.new p (Bad ∷ earlier)) }
+        ensures room { vec_len faults.old + 1 ≤ vec_capacity faults.old → IsOk result }
+        ensures kept { vec_capacity faults.old ≤ vec_capacity faults.new }
+        ensures few { vec_len faults.new ≤ vec_len faults.old + 1 }
     {
         tell(faults, self.before.number, WordRule::Bad, None, true)?;
         self.before = self.before.after_bad_word();
@@ -178,6 +213,9 @@ impl Checker {
         requires { (p : Plan) × (earlier : List RxWord) × Keeps self.old p earlier × (length earlier < 2 ^ 57) }
         ensures rows { (p : Plan) (earlier : List RxWord) → Keeps self.old p earlier → InOrder p.flow → OnOk result (faults.new.items ≡ faults.old.items ++ faults_at p earlier (Control word.0) next) }
         ensures keeps { (p : Plan) (earlier : List RxWord) → Keeps self.old p earlier → OnOk result (Keeps self.new p (Control word.0 ∷ earlier)) }
+        ensures room { vec_len faults.old + 16 ≤ vec_capacity faults.old → IsOk result }
+        ensures kept { vec_capacity faults.old ≤ vec_capacity faults.new }
+        ensures few { vec_len faults.new ≤ vec_len faults.old + 16 }
     {
         let (limits, number) = (self.limits, self.before.number);
         let off = breaks_off(&mut self.flow, &self.kept, limits, number, word);

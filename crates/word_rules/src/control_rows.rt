@@ -1,5 +1,5 @@
 //! The rows of a Control word.
-ghost use Rattle.std.specs.Prelude.{◌≡◌, ◌<◌, ◌^◌, ◌++◌, ℕ, List, OnOk, length};
+ghost use Rattle.std.specs.Prelude.{◌≡◌, ◌≤◌, ◌<◌, ◌+◌, ◌^◌, ◌++◌, ℕ, List, IsOk, OnOk, length, vec_capacity, vec_len};
 ghost use Rattle.stream_model.specs.declared.rows.FlowRow.{FlowRow};
 ghost use Rattle.word_rules.specs.Rules.{breaks_idle, breaks_multi};
 ghost use Rattle.word_rules.specs.ControlRows.{control_rows_by, field_rows_by, off_by};
@@ -60,7 +60,10 @@ pub fn control_rows(
     faults: &mut Vec<Fault>,
 ) -> Result<(), OutOfMemory>
     requires { before.size < 2 ^ 60 }
-    ensures { OnOk result (faults.new.items ≡ faults.old.items ++ control_rows_by limits before own word.0 next) }
+    ensures rows { OnOk result (faults.new.items ≡ faults.old.items ++ control_rows_by limits before own word.0 next) }
+    ensures room { vec_len faults.old + 12 ≤ vec_capacity faults.old → IsOk result }
+    ensures kept { vec_capacity faults.old ≤ vec_capacity faults.new }
+    ensures few { vec_len faults.new ≤ vec_len faults.old + 12 }
 {
     before.word_rows(limits, word, next, faults)?;
     before.burst_rows(limits, word, faults)?;
@@ -76,7 +79,10 @@ pub fn field_rows(
     word: ControlWord,
     faults: &mut Vec<Fault>,
 ) -> Result<(), OutOfMemory>
-    ensures { OnOk result (faults.new.items ≡ faults.old.items ++ field_rows_by limits number calendar off word.0) }
+    ensures rows { OnOk result (faults.new.items ≡ faults.old.items ++ field_rows_by limits number calendar off word.0) }
+    ensures room { vec_len faults.old + 4 ≤ vec_capacity faults.old → IsOk result }
+    ensures kept { vec_capacity faults.old ≤ vec_capacity faults.new }
+    ensures few { vec_len faults.new ≤ vec_len faults.old + 4 }
 {
     let own = Some(word.channel(limits.wide));
     let (idle, multi) = (breaks_idle(word), breaks_multi(limits, word));

@@ -1,9 +1,9 @@
 //! Which channels flow control has turned off at a slot.
-ghost use Rattle.std.specs.Prelude.{◌≡◌, ◌≤◌, ◌<◌, ◌++◌, ◌∷◌, [], ℕ, List, All, IfOk, length, take, get_or, not};
+ghost use Rattle.std.specs.Prelude.{◌≡◌, ◌≤◌, ◌<◌, ◌++◌, ◌∷◌, [], ℕ, List, IfOk, length, take, get_or, not};
 ghost use Rattle.stream_model.specs.Calendar.{is_on};
 ghost use Rattle.stream_model.specs.declared.rows.FlowRow.{FlowRow};
 ghost use Rattle.calendar.specs.Incoming.{Stands};
-ghost use Rattle.word_rules.specs.Flows.{InOrder, IsFlow, no_row};
+ghost use Rattle.word_rules.specs.Flows.{InOrder, IsFlow, NoneLater, no_row, with_row};
 
 use arrayvec::ArrayVec;
 use calendar::{CalendarIn, valid_word};
@@ -23,10 +23,10 @@ fn take_row(calendar: &mut CalendarIn, row: FlowRow)
 // Takes the rows up to a slot, from number `taken` on, and returns how many are taken then.
 fn take_rows(calendar: &mut CalendarIn, rows: &[FlowRow], taken: usize, slot: u64) -> usize
     requires part { taken ≤ length rows.now }
-    requires stands { (entries : List ℕ) × Stands calendar.old entries (take taken rows.now) }
+    requires stands { (entries : List ℕ) × (heard : List FlowRow) × Stands calendar.old entries (heard ++ take taken rows.now) }
     ensures part { result ≤ length rows.now }
-    ensures stands { (entries : List ℕ) → Stands calendar.old entries (take taken rows.now) → Stands calendar.new entries (take result rows.now) }
-    ensures early { All (λ (row : FlowRow). row.slot ≤ slot) (take taken rows.now) → All (λ (row : FlowRow). row.slot ≤ slot) (take result rows.now) }
+    ensures stands { (entries : List ℕ) (heard : List FlowRow) → Stands calendar.old entries (heard ++ take taken rows.now) → Stands calendar.new entries (heard ++ take result rows.now) }
+    ensures early { NoneLater (take taken rows.now) slot → NoneLater (take result rows.now) slot }
     ensures late { result < length rows.now → slot < (get_or rows.now result no_row).slot }
 {
     for n in taken..rows.len() {
@@ -39,7 +39,7 @@ fn take_rows(calendar: &mut CalendarIn, rows: &[FlowRow], taken: usize, slot: u6
     rows.len()
 }
 
-/// The rows of flow control, of which the first were taken.
+/// The rows of flow control, of which the first were taken: words that were heard, which are not kept, and the first of those that are.
 #[derive(Drop)]
 pub struct Flow {
     calendar: CalendarIn,
@@ -69,5 +69,16 @@ impl Flow {
     {
         self.taken = take_rows(&mut self.calendar, &self.rows, self.taken, slot);
         !self.calendar.is_on(channel)
+    }
+
+    /// Takes a word that counts from a slot on, after all rows. None of these is of a later slot, and they are not kept any more.
+    pub fn hear(&mut self, word: u64, slot: u64)
+        requires flow { (entries : List ℕ) × (rows : List FlowRow) × (s : ℕ) × IsFlow self.old entries rows s }
+        ensures flow { (entries : List ℕ) (rows : List FlowRow) (s : ℕ) → IsFlow self.old entries rows s → NoneLater rows slot → IsFlow self.new entries (with_row rows slot word) slot }
+    {
+        take_rows(&mut self.calendar, &self.rows, self.taken, slot);
+        take_row(&mut self.calendar, FlowRow { slot, word });
+        self.rows.clear();
+        self.taken = 0;
     }
 }

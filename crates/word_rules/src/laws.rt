@@ -1,9 +1,10 @@
 //! Laws on the definitions.
-ghost use Rattle.std.specs.Prelude.{◌≡◌, ◌==◌, List, ◌∷◌, ◌++◌, filter, length, reverse};
+ghost use Rattle.std.specs.Prelude.{◌≡◌, ◌<◌, ◌==◌, ℕ, Option, List, ◌∷◌, ◌++◌, filter, length, reverse};
 ghost use Rattle.lk_base.specs.declared.word.RxWord.{RxWord};
 ghost use Rattle.receive_model.specs.Lists.{first_of};
 ghost use Rattle.word_rules.specs.Examples.{Examples};
-ghost use Rattle.word_rules.specs.Faults.{Plan, faults, faults_at};
+ghost use Rattle.word_rules.specs.Faults.{Plan, faults, faults_at, with_flow};
+ghost use Rattle.word_rules.specs.Flows.{with_row};
 ghost use Rattle.word_rules.specs.Order.{InOrderOfWord};
 ghost use Rattle.word_rules.specs.declared.fault.Fault.{Fault};
 
@@ -20,4 +21,10 @@ pub fn rows_of_a_word()
 /// Rows stand in order of word.
 pub fn rows_stand_in_order()
     ensures { (p : Plan) (words : List RxWord) → InOrderOfWord (faults p words) }
+{}
+
+/// A row of flow control whose slot is after a word changes no row of the word.
+pub fn rows_to_come_change_nothing()
+    ensures { (p : Plan) (earlier : List RxWord) (word : RxWord) (next : Option RxWord) (slot heard : ℕ) → length earlier < slot →
+        faults_at (with_flow p (with_row p.flow slot heard)) earlier word next ≡ faults_at p earlier word next }
 {}

@@ -1,7 +1,10 @@
 //! The rows of one word, put after those of the words before it.
-ghost use Rattle.std.specs.Prelude.{◌≡◌, ◌++◌, ◌<◌, ◌^◌, OnOk};
+ghost use Rattle.std.specs.Prelude.{◌≡◌, ◌≤◌, ◌+◌, ◌++◌, ◌<◌, ◌^◌, IsOk, List, OnOk, vec_capacity, vec_len};
+ghost use Rattle.std.specs.Option.{option_to_list};
+ghost use Rattle.lk_base.specs.declared.word.RxWord.{RxWord};
 ghost use Rattle.word_rules.specs.Rules.{breaks_control, breaks_empty, is_next_control};
-ghost use Rattle.word_rules.specs.Faults.{row};
+ghost use Rattle.word_rules.specs.Faults.{empty_rows, row};
+ghost use Rattle.word_rules.specs.Stands.{IsBefore};
 ghost use Rattle.word_rules.specs.ByFields.{burst_rows_by, channel_by, data_rows_by, word_rows_by};
 
 use crate::before::{Before, is_burst_word};
@@ -19,7 +22,10 @@ pub fn tell(
     channel: Option<u16>,
     broken: bool,
 ) -> Result<(), OutOfMemory>
-    ensures { OnOk result (faults.new.items ≡ faults.old.items ++ row word rule channel broken) }
+    ensures rows { OnOk result (faults.new.items ≡ faults.old.items ++ row word rule channel broken) }
+    ensures room { vec_len faults.old + 1 ≤ vec_capacity faults.old → IsOk result }
+    ensures kept { vec_capacity faults.old ≤ vec_capacity faults.new }
+    ensures few { vec_len faults.new ≤ vec_len faults.old + 1 }
 {
     if broken {
         faults.push(Fault {
@@ -53,9 +59,28 @@ impl Before {
         self.burst.map(|word| ControlWord(word).channel(wide))
     }
 
+    /// The row of `empty` of the word right before the place, if the word at the place shows that it is broken.
+    pub fn empty_before(self, limits: WordLimits, next: RxWord) -> Option<Fault>
+        requires { (earlier : List RxWord) × IsBefore self earlier }
+        ensures { (earlier : List RxWord) → IsBefore self earlier → option_to_list result ≡ empty_rows limits earlier next }
+    {
+        let word = self.burst?;
+        if self.size != 0 || !is_next_control(Some(next)) {
+            return None;
+        }
+        Some(Fault {
+            word: self.number - 1,
+            rule: WordRule::Empty,
+            channel: Some(ControlWord(word).channel(limits.wide)),
+        })
+    }
+
     /// Adds the rows of a Data word.
     pub fn data_rows(self, limits: WordLimits, faults: &mut Vec<Fault>) -> Result<(), OutOfMemory>
-        ensures { OnOk result (faults.new.items ≡ faults.old.items ++ data_rows_by limits self) }
+        ensures rows { OnOk result (faults.new.items ≡ faults.old.items ++ data_rows_by limits self) }
+        ensures room { vec_len faults.old + 2 ≤ vec_capacity faults.old → IsOk result }
+        ensures kept { vec_capacity faults.old ≤ vec_capacity faults.new }
+        ensures few { vec_len faults.new ≤ vec_len faults.old + 2 }
     {
         let channel = self.channel(limits.wide);
         let (data, max) = (self.breaks_data(), self.breaks_max(limits));
@@ -71,7 +96,10 @@ impl Before {
         next: Option<RxWord>,
         faults: &mut Vec<Fault>,
     ) -> Result<(), OutOfMemory>
-        ensures { OnOk result (faults.new.items ≡ faults.old.items ++ word_rows_by limits self word.0 next) }
+        ensures rows { OnOk result (faults.new.items ≡ faults.old.items ++ word_rows_by limits self word.0 next) }
+        ensures room { vec_len faults.old + 5 ≤ vec_capacity faults.old → IsOk result }
+        ensures kept { vec_capacity faults.old ≤ vec_capacity faults.new }
+        ensures few { vec_len faults.new ≤ vec_len faults.old + 5 }
     {
         let number = self.number;
         let own = Some(word.channel(limits.wide));
@@ -93,7 +121,10 @@ impl Before {
         faults: &mut Vec<Fault>,
     ) -> Result<(), OutOfMemory>
         requires { self.size < 2 ^ 60 }
-        ensures { OnOk result (faults.new.items ≡ faults.old.items ++ burst_rows_by limits self word.0) }
+        ensures rows { OnOk result (faults.new.items ≡ faults.old.items ++ burst_rows_by limits self word.0) }
+        ensures room { vec_len faults.old + 3 ≤ vec_capacity faults.old → IsOk result }
+        ensures kept { vec_capacity faults.old ≤ vec_capacity faults.new }
+        ensures few { vec_len faults.new ≤ vec_len faults.old + 3 }
     {
         let number = self.number;
         let channel = self.channel(limits.wide);

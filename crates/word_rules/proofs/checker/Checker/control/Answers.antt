@@ -40,8 +40,8 @@ returns-clause-rows c p e k ord =
     c.breaks_off-off.ensures.off p.entries p.flow at ord
     ∙ ap (λ (l : List ChannelState). off_by s.limits l p.entries p.flow s.before.number x) c.deref.ensures.value
     ∙ ap (λ (t : WordLimits). off_by t s.kept.items p.entries p.flow s.before.number x) k.limits in
-    c.in_ok-field_rows.ensures
-    ∙ ap (λ (l : List Fault). l ++ field_rows_by s.limits s.before.number c.breaks_calendar-calendar.result c.breaks_off-off.result x) c.in_ok-control_rows.ensures
+    c.in_ok-field_rows.ensures.rows
+    ∙ ap (λ (l : List Fault). l ++ field_rows_by s.limits s.before.number c.breaks_calendar-calendar.result c.breaks_off-off.result x) c.in_ok-control_rows.ensures.rows
     ∙ ap (λ (t : WordLimits). (c.args.faults.now.items ++ control_rows_by t s.before c.close_before-own.result x c.args.next) ++ field_rows_by t s.before.number c.breaks_calendar-calendar.result c.breaks_off-off.result x) k.limits
     ∙ control_faults p e s.before k.before s.due k.due s.bads s.kept.items k.all k.bursts k.listed s.entries k.entries x c.args.next
     c.close_before-own.result c.breaks_calendar-calendar.result c.breaks_off-off.result c.args.faults.now.items own c.breaks_calendar-calendar.ensures off

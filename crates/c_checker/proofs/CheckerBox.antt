@@ -1,0 +1,44 @@
+-- A block of a checker and its parts own what a box of the checker owns.
+use mir.Syntax.{impl, tnil, dnil}
+use mir.Val.{Val}
+use mathlib.Core.List.{List, [], ◌∷◌}
+use mathlib.Core.Path.{◌≡◌, refl}
+use seplogic.Ra.Ura.{Ura}
+use base.Logic.{id⊢}
+use types.Logic.{Logic}
+use types.Kit.{Goal, Seq, Item, ‵, ◌$◌, use1, rewrite}
+use denote.Signature.{Slot, plain}
+use Rattle.std.proofs.Common.{Option, Some, None, true, true≢false, sym}
+use Rattle.std.specs.Prelude.{is_some}
+use Rattle.std_alloc.proofs.BoxSteps.Form.{Bx, B}
+use Rattle.std_heap.specs.contracts.Global as Heap
+use Rattle.std_heap.specs.contracts.GlobalAllocator.TheImpl.{ghosts, dict}
+use Rattle.std_heap.proofs.Global.TheLaws as heap
+use Rattle.live_checker.specs.contracts.checker.LiveChecker as Live
+use Rattle.live_checker.proofs.checker.LiveChecker.TheLaws as live
+use Rattle.c_parts.specs.contracts.parts.Parts as Parts
+use Rattle.c_checker.specs.contracts.block.CheckerBlock as Block
+
+abbrev pub E : Bx
+E = record { row = Live.the_row; laws = live.the_row_laws; al = record { row = Heap.the_row; laws = heap.the_row_laws; g = ghosts; d = dict; drops = impl [] tnil dnil } }
+
+abbrev pub FromParts : Slot 0
+FromParts = plain (λ _. Parts.the_row Live.the_row Heap.the_row ghosts)
+
+abbrev pub OfBlock : Slot 0
+OfBlock = plain (λ _. Block.the_row)
+
+module _ {M : Type 1} {𝓤 : Ura M} {𝓛 : Logic 𝓤} {K : Type 0} {Γ : List (Item 𝓤)} {G : Goal 𝓤 𝓛.H} where
+  by_checker : K → (h : Block.the_row.Denot) (vs : List Val) (s : Option Live.the_row.Denot) → h.checker ≡ s → is_some s ≡ true
+      → ((d : Live.the_row.Denot) → h.checker ≡ Some d → Seq K 𝓛 (‵ ((B E).own_val (record { ptr = h.ptr; alloc = h.alloc; value = d }) vs) ∷ Γ) G)
+      → Seq K 𝓛 (‵ (Block.the_row.own_val h vs) ∷ Γ) G
+  by_checker t h vs None e some k = absurd (true≢false (sym some))
+  by_checker t h vs (Some d) e some k =
+      rewrite t 0 (λ (s : Option Live.the_row.Denot). ‵ (Block.the_row.own_val (record { ptr = h.ptr; alloc = h.alloc; checker = s }) vs)) e refl $
+      use1 𝓛 (‵ ((B E).own_val (record { ptr = h.ptr; alloc = h.alloc; value = d }) vs)) (id⊢ 𝓤 _) $ k d e
+
+  -- a block that has a checker is a box of it
+  pub checker_of : K → (h : Block.the_row.Denot) (vs : List Val) → is_some h.checker ≡ true
+      → ((d : Live.the_row.Denot) → h.checker ≡ Some d → Seq K 𝓛 (‵ ((B E).own_val (record { ptr = h.ptr; alloc = h.alloc; value = d }) vs) ∷ Γ) G)
+      → Seq K 𝓛 (‵ (Block.the_row.own_val h vs) ∷ Γ) G
+  checker_of t h vs some k = by_checker t h vs h.checker refl some k

@@ -1,0 +1,17 @@
+-- What a block of a checker owns: the same as a box of it, where there is any.
+use base.Fml.{Fml, ftrue}
+use base.Stored.{Coded}
+use denote.RawPtr.{Ptr}
+use Rattle.std.specs.Prelude.{Option, Some, None}
+use Rattle.std.specs.Box.Ownership.{box_owns}
+use Rattle.std.specs.Coded.{coded_option}
+use Rattle.std.specs.Global.{Global}
+use Rattle.std_heap.specs.contracts.GlobalAllocator.TheImpl.{ghosts}
+use Rattle.live_checker.specs.contracts.checker.LiveChecker.{the_row}
+
+abbrev pub block_owns : Global → Ptr → Option the_row.Denot → Fml
+block_owns alloc ptr None = ftrue
+block_owns alloc ptr (Some checker) = box_owns (ghosts.dealloc_token alloc) the_row ptr checker
+
+abbrev pub checker_coded : Coded (Option the_row.Denot)
+checker_coded = coded_option the_row.coded

@@ -1,0 +1,31 @@
+-- What was given to a checker by a list of calls.
+use Rattle.std.proofs.Common.{ℕ, suc, ◌≡◌, sym, ap, ap₂, ◌∙◌, subst, List, [], ◌∷◌, ◌++◌, length, append_assoc, append-nil, arith}
+use Rattle.std.proofs.lemmas.List.{length-append}
+use Rattle.word_rules.specs.declared.fault.Fault.{Fault}
+use Rattle.word_rules.specs.Faults.{faults, with_flow}
+use Rattle.live_checker.specs.Live.{live_faults}
+use Rattle.live_checker.specs.Standing.{Checked, nothing_checked, with_heard, with_word}
+use Rattle.live_checker.specs.Laws.{AreSameRows, Call, GiveFlow, GiveWord, LawOnCalls, after, plan_with, rows_in, words_in}
+use Rattle.live_checker.proofs.SameRows.{same_rows}
+
+words_after : (calls : List Call) (x : Checked) → (after calls x).words ≡ x.words ++ words_in calls
+words_after [] x = sym (append-nil x.words)
+words_after (GiveWord word ∷ calls) x = words_after calls (with_word word x) ∙ append_assoc x.words (word ∷ []) (words_in calls)
+words_after (GiveFlow heard ∷ calls) x = words_after calls (with_heard heard x)
+
+plan_after : (calls : List Call) (x : Checked) → (after calls x).plan ≡ with_flow x.plan (x.plan.flow ++ rows_in (length x.words) calls)
+plan_after [] x = ap (with_flow x.plan) (sym (append-nil x.plan.flow))
+plan_after (GiveWord word ∷ calls) x =
+    let n : length (x.words ++ word ∷ []) ≡ suc (length x.words) = (let l = length-append x.words (word ∷ []) in omega arith) in
+    plan_after calls (with_word word x) ∙ ap (λ (k : ℕ). with_flow x.plan (x.plan.flow ++ rows_in k calls)) n
+plan_after (GiveFlow heard ∷ calls) x =
+    plan_after calls (with_heard heard x)
+    ∙ ap (with_flow x.plan) (append_assoc x.plan.flow (record { slot = length x.words; word = heard } ∷ []) (rows_in (length x.words) calls))
+
+pub on_calls : LawOnCalls
+on_calls limits channels entries calls given finished t k =
+    let x : Checked = nothing_checked limits channels entries in
+    let told : given ++ t.due ≡ live_faults (plan_with limits channels entries (rows_in 0 calls)) (words_in calls) =
+    k.told ∙ ap₂ live_faults (plan_after calls x) (words_after calls x) in
+    subst (λ (rows : List Fault). AreSameRows rows (faults (plan_with limits channels entries (rows_in 0 calls)) (words_in calls))) (sym told)
+    (same_rows (plan_with limits channels entries (rows_in 0 calls)) (words_in calls))

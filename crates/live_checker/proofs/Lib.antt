@@ -1,0 +1,6 @@
+-- What this crate alone cites.
+mod ExamplesHold
+mod Words
+mod Standing
+mod SameRows
+mod Called

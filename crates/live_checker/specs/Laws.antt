@@ -1,0 +1,91 @@
+-- The laws on faults that are told as words come.
+use Rattle.std.specs.Prelude.{ℕ, ◌≡◌, suc, Bool, true, false, not, List, [], ◌∷◌, ◌++◌, filter}
+use Rattle.lk_base.specs.declared.word.RxWord.{RxWord}
+use Rattle.stream_model.specs.declared.rows.FlowRow.{FlowRow}
+use Rattle.word_rules.specs.declared.fault.Fault.{Fault}
+use Rattle.word_rules.specs.declared.limits.WordLimits.{WordLimits}
+use Rattle.word_rules.specs.declared.rule.WordRule.{WordRule}
+use Rattle.word_rules.specs.declared.rule.WordRule.TheVariants as rules
+use Rattle.word_rules.specs.Faults.{Plan, faults}
+use Rattle.live_checker.specs.Live.{live_faults}
+use Rattle.live_checker.specs.States.{State}
+use Rattle.live_checker.specs.Standing.{Checked, Checks, nothing_checked, with_heard, with_word}
+
+-- the one rule of which the word after a word decides
+abbrev pub is_empty_rule : WordRule → Bool
+is_empty_rule rules.Bad = false
+is_empty_rule rules.Control = false
+is_empty_rule rules.Crc = false
+is_empty_rule rules.Data = false
+is_empty_rule rules.Max = false
+is_empty_rule rules.Empty = true
+is_empty_rule rules.Short = false
+is_empty_rule rules.End = false
+is_empty_rule rules.Fill = false
+is_empty_rule rules.Part = false
+is_empty_rule rules.Min = false
+is_empty_rule rules.Sop = false
+is_empty_rule rules.Open = false
+is_empty_rule rules.Channel = false
+is_empty_rule rules.Long = false
+is_empty_rule rules.Idle = false
+is_empty_rule rules.Multi = false
+is_empty_rule rules.Calendar = false
+is_empty_rule rules.Off = false
+
+-- the rows of `empty`
+abbrev pub empties : List Fault → List Fault
+empties rows = filter (λ (f : Fault). is_empty_rule f.rule) rows
+
+-- the rows of all other rules
+abbrev pub others : List Fault → List Fault
+others rows = filter (λ (f : Fault). not (is_empty_rule f.rule)) rows
+
+-- two lists have the same rows of `empty`, in the same order, and the same rows of all other rules, in the same order
+pub record AreSameRows (one other : List Fault) : Type 0 where
+  pub same_empties : empties one ≡ empties other
+  pub same_others : others one ≡ others other
+
+-- the rows that words show as they come are their faults
+abbrev pub LiveRowsAreRows : Type 0
+LiveRowsAreRows = (p : Plan) (words : List RxWord) → AreSameRows (live_faults p words) (faults p words)
+
+-- ---- words and words of flow control, in the order in which they are given
+
+pub data Call : Type 0 where
+  -- the next word
+  GiveWord : RxWord → Call
+  -- a word of flow control, which counts from the next word on
+  GiveFlow : ℕ → Call
+
+-- the words among them
+abbrev pub words_in : List Call → List RxWord
+words_in [] = []
+words_in (GiveWord word ∷ calls) = word ∷ words_in calls
+words_in (GiveFlow heard ∷ calls) = words_in calls
+
+-- each word of flow control among them as a row: its slot is the number of words that come before it, after n words
+abbrev pub rows_in : ℕ → List Call → List FlowRow
+rows_in n [] = []
+rows_in n (GiveWord word ∷ calls) = rows_in (suc n) calls
+rows_in n (GiveFlow heard ∷ calls) = record { slot = n; word = heard } ∷ rows_in n calls
+
+-- what was given to a checker, with these given after it
+abbrev pub after : List Call → Checked → Checked
+after [] x = x
+after (GiveWord word ∷ calls) x = after calls (with_word word x)
+after (GiveFlow heard ∷ calls) x = after calls (with_heard heard x)
+
+-- the same, where these faults were given back, and the words were ended or not
+abbrev pub told_of : Checked → List Fault → Bool → Checked
+told_of x given finished = record { plan = x.plan; words = x.words; given = given; finished = finished }
+
+-- the plan with the rows
+abbrev pub plan_with : WordLimits → List ℕ → List ℕ → List FlowRow → Plan
+plan_with limits channels entries rows = record { limits = limits; channels = channels; entries = entries; flow = rows }
+
+-- What a checker gave, and then what is due, are the faults of the words by the plan with the rows.
+abbrev pub LawOnCalls : Type 0
+LawOnCalls = (limits : WordLimits) (channels entries : List ℕ) (calls : List Call) (given : List Fault) (finished : Bool) (t : State) →
+    Checks t (told_of (after calls (nothing_checked limits channels entries)) given finished) →
+    AreSameRows (given ++ t.due) (faults (plan_with limits channels entries (rows_in 0 calls)) (words_in calls))

@@ -1,0 +1,6 @@
+pub mod Live
+pub mod States
+pub mod Standing
+pub mod Calls
+pub mod Laws
+pub mod Examples
