@@ -42,7 +42,8 @@ fn read_plan_words<S: Store>(alloc: Global, store: &mut S, plan: &Plan) -> Resul
     read_words_file(alloc, store, name.as_str())
 }
 
-// Drops a plan. proof: a function that drops one by itself is slow to prove.
+/// Drops a plan.
+// proof: a function that drops one by itself is slow to prove
 pub fn let_go(_plan: Plan) {}
 
 /// The plan of this name, after it the rows of its flow file, and then the words of its words file, each read and checked whole

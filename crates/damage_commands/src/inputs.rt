@@ -65,7 +65,8 @@ fn read_plan_lanes<S: Store>(
     read_lanes(alloc, store, &names)
 }
 
-// Drops a plan. proof: a function that drops one by itself is slow to prove.
+/// Drops a plan.
+// proof: a function that drops one by itself is slow to prove
 pub fn let_go(_plan: Plan) {}
 
 /// The plan of this name, after it its schedule, where it names one, and then its lanes, each read and checked whole before the

@@ -46,7 +46,8 @@ fn inspect_lanes<S: Store>(alloc: Global, store: &mut S, read: &PlanLanes) -> Re
     write_table(alloc, store, &mut outputs, &mut lanes, &plan.link)
 }
 
-// Drops what was read. proof: `obey` drops nothing by itself, which is slow to prove.
+// Drops a plan with the names of its lanes.
+// proof: a function that drops one by itself is slow to prove
 fn let_go(_read: PlanLanes) {}
 
 /// `inspect FILE`: what each lane of a plan shows, and where, becomes a table, `OUT.events.csv`: what is wrong with the words that its

@@ -26,7 +26,8 @@ pub struct StripeInputs {
     pub words: SentFile,
 }
 
-// Drops a plan. proof: a function that drops one by itself is slow to prove.
+/// Drops a plan.
+// proof: a function that drops one by itself is slow to prove
 pub fn let_go(_plan: Plan) {}
 
 // The words of a plan's words file.

@@ -39,7 +39,8 @@ pub struct PlanSamples {
     pub samples: Vec<u8>,
 }
 
-// Drops a plan. proof: a function that drops one by itself is slow to prove.
+/// Drops a plan.
+// proof: a function that drops one by itself is slow to prove
 pub fn let_go(_plan: Plan) {}
 
 /// The plan in the file of this name, and after it its local rows. The files are as they were.

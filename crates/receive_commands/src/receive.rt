@@ -49,7 +49,8 @@ fn probe_plan_lanes<S: Store>(
     Ok(names)
 }
 
-// Drops a plan. proof: a function that drops one by itself is slow to prove.
+// Drops a plan.
+// proof: a function that drops one by itself is slow to prove
 fn let_go(_plan: Plan) {}
 
 /// The plan of this name, whose lanes are there and no longer than their limit. The first of these files that is absent, too large

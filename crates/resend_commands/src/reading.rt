@@ -52,6 +52,10 @@ fn refusal(plan: &Plan) -> Option<PlanError>
     None
 }
 
+/// Drops a plan.
+// proof: a function that drops one by itself is slow to prove
+pub fn let_go(_plan: Plan) {}
+
 // The plan in the file of this name, which names events and is not wide. The files are as they were.
 #[tactic(auto, unfolding(crate::specs::Reading::resend_plan_in))]
 fn read_resend_plan<S: Store>(alloc: Global, store: &mut S, name: &str) -> Result<Plan, Stop>
@@ -64,7 +68,10 @@ fn read_resend_plan<S: Store>(alloc: Global, store: &mut S, name: &str) -> Resul
     let plan = read_plan_file(alloc, store, name)?;
     match refusal(&plan) {
         None => Ok(plan),
-        Some(why) => Err(Stop::Plan(why)),
+        Some(why) => {
+            let_go(plan);
+            Err(Stop::Plan(why))
+        }
     }
 }
 
@@ -91,9 +98,6 @@ fn read_events_file<S: Store>(
         Err(why) => Err(rows_stop(alloc, name, why)),
     }
 }
-
-// Drops a plan. proof: a function that drops one by itself is slow to prove.
-pub fn let_go(_plan: Plan) {}
 
 /// The plan in the file of this name, after it its inputs, and after these its events, each read and checked whole before the
 /// next. The first that is absent, too large or refused is refused, and so is a plan that names no events or is wide, unless
