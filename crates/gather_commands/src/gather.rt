@@ -35,6 +35,10 @@ fn gather_lanes<S: Store>(alloc: Global, store: &mut S, read: &PlanLanes) -> Res
     gatherer.gathered.finish(alloc, store, text)
 }
 
+// Drops a plan with the names of its lanes.
+// proof: a function that drops one by itself is slow to prove
+fn let_go(_read: PlanLanes) {}
+
 /// `gather FILE`: the words of the lanes of a plan become the words file of the plan's `out`, one Bad word between two epochs, and
 /// the places of their groups and breaks a table, `OUT.places.csv`. The lanes are asked for before anything is created, and read
 /// during the work.
@@ -47,6 +51,8 @@ impl FileCommand for Gather {
 
     fn obey<S: Store>(alloc: Global, store: &mut S, file: &str) -> Result<Finished, Stop> {
         let read = read_plan_lanes(alloc, store, file)?;
-        gather_lanes(alloc, store, &read)
+        let finished = gather_lanes(alloc, store, &read);
+        let_go(read);
+        finished
     }
 }
