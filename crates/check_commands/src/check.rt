@@ -8,7 +8,7 @@ ghost use Rattle.check_commands.specs.Check.{IsChecked, faults_name};
 ghost use Rattle.check_commands.specs.Values.{inputs_value};
 
 use crate::fault_maker::FaultMaker;
-use crate::inputs::{CheckInputs, read_check_inputs};
+use crate::inputs::{CheckInputs, let_go, read_check_inputs};
 use lk_outside::Store;
 use run_shell::{FileCommand, Finished, make_all};
 use run_stops::Stop;
@@ -41,6 +41,8 @@ impl FileCommand for Check {
 
     fn obey<S: Store>(alloc: Global, store: &mut S, file: &str) -> Result<Finished, Stop> {
         let inputs = read_check_inputs(alloc, store, file)?;
-        write_checked(alloc, store, &inputs)
+        let finished = write_checked(alloc, store, &inputs);
+        let_go(inputs.plan);
+        finished
     }
 }

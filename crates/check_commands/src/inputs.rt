@@ -42,6 +42,10 @@ fn read_plan_words<S: Store>(alloc: Global, store: &mut S, plan: &Plan) -> Resul
     read_words_file(alloc, store, name.as_str())
 }
 
+/// Drops a plan.
+// proof: a function that drops one by itself is slow to prove
+pub fn let_go(_plan: Plan) {}
+
 /// The plan of this name, after it the rows of its flow file, and then the words of its words file, each read and checked whole
 /// before the next. The first that is absent, too large or refused is refused, unless the store fails or memory runs out. The
 /// files are as they were.
@@ -58,7 +62,18 @@ pub fn read_check_inputs<S: Store>(
     ensures reads { IfSome (S.files store.old) (λ files. Reads inputs_value (IsReadFor file.now files) result (check_inputs_in files file.now)) }
 {
     let plan = read_plan_file(alloc, store, file)?;
-    let flow = read_flow_file(alloc, store, &plan)?;
-    let words = read_plan_words(alloc, store, &plan)?;
-    Ok(CheckInputs { plan, flow, words })
+    let flow = match read_flow_file(alloc, store, &plan) {
+        Ok(flow) => flow,
+        Err(stop) => {
+            let_go(plan);
+            return Err(stop);
+        }
+    };
+    match read_plan_words(alloc, store, &plan) {
+        Ok(words) => Ok(CheckInputs { plan, flow, words }),
+        Err(stop) => {
+            let_go(plan);
+            Err(stop)
+        }
+    }
 }

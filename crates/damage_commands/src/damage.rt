@@ -8,7 +8,7 @@ ghost use Rattle.damage_commands.specs.PlanLanes.{whole_lane_limit};
 ghost use Rattle.damage_commands.specs.Damage.{IsDamaged, damaged_names};
 ghost use Rattle.damage_commands.specs.Values.{inputs_value};
 
-use crate::inputs::{DamageInputs, read_damage_inputs};
+use crate::inputs::{DamageInputs, let_go, read_damage_inputs};
 use crate::lane_maker::DamageMaker;
 use lk_outside::Store;
 use run_shell::{FileCommand, Finished, make_all};
@@ -44,6 +44,8 @@ impl FileCommand for Damage {
 
     fn obey<S: Store>(alloc: Global, store: &mut S, file: &str) -> Result<Finished, Stop> {
         let inputs = read_damage_inputs(alloc, store, file)?;
-        write_damaged(alloc, store, &inputs)
+        let finished = write_damaged(alloc, store, &inputs);
+        let_go(inputs.plan);
+        finished
     }
 }

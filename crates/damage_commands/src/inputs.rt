@@ -65,6 +65,10 @@ fn read_plan_lanes<S: Store>(
     read_lanes(alloc, store, &names)
 }
 
+/// Drops a plan.
+// proof: a function that drops one by itself is slow to prove
+pub fn let_go(_plan: Plan) {}
+
 /// The plan of this name, after it its schedule, where it names one, and then its lanes, each read and checked whole before the
 /// next. The first that is absent, too large or refused is refused, unless the store fails or memory runs out; a lane may have
 /// 268,435,456 bytes. The files are as they were.
@@ -82,11 +86,22 @@ pub fn read_damage_inputs<S: Store>(
     ensures reads { IfSome (S.files store.old) (λ files. Reads inputs_value (IsReadFor file.now files) result (damage_inputs_in files file.now)) }
 {
     let plan = read_plan_file(alloc, store, file)?;
-    let schedule = read_schedule_file(alloc, store, &plan)?;
-    let lanes = read_plan_lanes(alloc, store, &plan)?;
-    Ok(DamageInputs {
-        plan,
-        schedule,
-        lanes,
-    })
+    let schedule = match read_schedule_file(alloc, store, &plan) {
+        Ok(schedule) => schedule,
+        Err(stop) => {
+            let_go(plan);
+            return Err(stop);
+        }
+    };
+    match read_plan_lanes(alloc, store, &plan) {
+        Ok(lanes) => Ok(DamageInputs {
+            plan,
+            schedule,
+            lanes,
+        }),
+        Err(stop) => {
+            let_go(plan);
+            Err(stop)
+        }
+    }
 }

@@ -1,6 +1,6 @@
 //! `duplex FILE`: two ends that hold each other back.
 
-use crate::reading::read_duplex_inputs;
+use crate::reading::{let_go, read_duplex_inputs};
 use crate::write::write_duplex;
 use lk_outside::Store;
 use run_shell::{FileCommand, Finished};
@@ -18,6 +18,8 @@ impl FileCommand for DuplexFile {
 
     fn obey<S: Store>(alloc: Global, store: &mut S, file: &str) -> Result<Finished, Stop> {
         let inputs = read_duplex_inputs(alloc, store, file)?;
-        write_duplex(alloc, store, &inputs)
+        let finished = write_duplex(alloc, store, &inputs);
+        let_go(inputs.plan);
+        finished
     }
 }

@@ -46,6 +46,10 @@ fn inspect_lanes<S: Store>(alloc: Global, store: &mut S, read: &PlanLanes) -> Re
     write_table(alloc, store, &mut outputs, &mut lanes, &plan.link)
 }
 
+// Drops a plan with the names of its lanes.
+// proof: a function that drops one by itself is slow to prove
+fn let_go(_read: PlanLanes) {}
+
 /// `inspect FILE`: what each lane of a plan shows, and where, becomes a table, `OUT.events.csv`: what is wrong with the words that its
 /// locks cover, and where locks are declared and lost. The lanes are asked for before anything is created, and then read to their
 /// ends, one after another. The text has the line of each lane, and how many events there are.
@@ -58,6 +62,8 @@ impl FileCommand for Inspect {
 
     fn obey<S: Store>(alloc: Global, store: &mut S, file: &str) -> Result<Finished, Stop> {
         let read = read_plan_lanes(alloc, store, file)?;
-        inspect_lanes(alloc, store, &read)
+        let finished = inspect_lanes(alloc, store, &read);
+        let_go(read);
+        finished
     }
 }

@@ -10,7 +10,6 @@ use Rattle.link_reports.specs.Lines.{slots_line}
 use Rattle.plan_inputs.specs.Inputs.{plan_in}
 use Rattle.plan_inputs.proofs.SomeSource.{plan_limits}
 use Rattle.run_stops.specs.declared.stop.Stop.{Stop}
-use Rattle.run_stops.specs.declared.stop.Stop.TheVariants as stop
 use Rattle.run_stops.specs.Reading.{Reads, behind}
 use Rattle.run_stops.proofs.Readings.{behind_ok, behind_stops, first_stops, second_reads}
 use Rattle.run_shell.specs.declared.status.Status.TheVariants.{Done}
@@ -68,6 +67,11 @@ stripe_means name = is_meaning (stripe_work name) (stripe_is_work name)
 
 -- ---- a plan and its words
 
+-- memory ran out, which says nothing of the files
+pub out_of_memory : (x : Option Files) → IfSome x (λ files. Unit {0})
+out_of_memory None = tt
+out_of_memory (Some u) = tt
+
 module _ (file : List ℕ) where
   -- the plan was refused, or reading it stopped
   pub no_plan : (s : Stop) (x : Option Files) → IfSome x (λ files. Reads plan_value (λ n. n ≡ file) (Err s) (plan_in files file)) → IfSome x (λ files. Reads words_value (IsReadFor file files) (Err s) (plan_words_in files file))
@@ -77,14 +81,6 @@ module _ (file : List ℕ) where
   named_for plan name u q named is e = inr (subst (λ r. MatchResult r (λ p. q ≡ words_name p.out) (λ f. ⊥)) (sym is) (e ∙ named))
 
   module _ (x y : Option Files) (same : y ≡ x) (plan : Plan) (had : IfSome x (λ files. plan_in files file ≡ Ok (plan_value plan))) where
-    -- memory ran out after the plan
-    pub plan_memory : IfSome x (λ files. Reads words_value (IsReadFor file files) (Err stop.OutOfMemory) (plan_words_in files file))
-    plan_memory = by x
-      where
-        by : (z : Option Files) → IfSome z (λ files. Reads words_value (IsReadFor file files) (Err stop.OutOfMemory) (plan_words_in files file))
-        by None = tt
-        by (Some u) = tt
-
     module _ (name : List ℕ) (named : name ≡ words_name (plan_value plan).out) where
       -- the words were refused, or reading them stopped
       pub no_words : (s : Stop) → IfSome y (λ files. Reads (λ (ws : List Word). ws) (λ n. n ≡ name) (Err s) (sent_words_in files name)) → IfSome x (λ files. Reads words_value (IsReadFor file files) (Err s) (plan_words_in files file))

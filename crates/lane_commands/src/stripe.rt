@@ -7,7 +7,7 @@ ghost use Rattle.lane_commands.specs.Stripe.{IsStriped};
 ghost use Rattle.lane_commands.specs.Values.{words_value};
 
 use crate::lane_maker::LaneMaker;
-use crate::plan_words::{StripeInputs, read_plan_words};
+use crate::plan_words::{StripeInputs, let_go, read_plan_words};
 use lk_outside::Store;
 use run_shell::{FileCommand, Finished, make_all};
 use run_stops::Stop;
@@ -38,6 +38,8 @@ impl FileCommand for Stripe {
 
     fn obey<S: Store>(alloc: Global, store: &mut S, file: &str) -> Result<Finished, Stop> {
         let read = read_plan_words(alloc, store, file)?;
-        write_stripes(alloc, store, &read)
+        let finished = write_stripes(alloc, store, &read);
+        let_go(read.plan);
+        finished
     }
 }

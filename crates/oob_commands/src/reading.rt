@@ -39,6 +39,10 @@ pub struct PlanSamples {
     pub samples: Vec<u8>,
 }
 
+/// Drops a plan.
+// proof: a function that drops one by itself is slow to prove
+pub fn let_go(_plan: Plan) {}
+
 /// The plan in the file of this name, and after it its local rows. The files are as they were.
 pub fn read_plan_local<S: Store>(
     alloc: Global,
@@ -53,8 +57,13 @@ pub fn read_plan_local<S: Store>(
     ensures low { IfOk result (λ r. IsTrue (list_all (is_local (numbers_of r.plan.channels.items)) r.local.items)) }
 {
     let plan = read_plan_file(alloc, store, name)?;
-    let local = read_local_file(alloc, store, &plan)?;
-    Ok(PlanLocal { plan, local })
+    match read_local_file(alloc, store, &plan) {
+        Ok(local) => Ok(PlanLocal { plan, local }),
+        Err(stop) => {
+            let_go(plan);
+            Err(stop)
+        }
+    }
 }
 
 // The samples in the file that the plan names. It is refused exactly where it is absent, has more than 4,194,304 bytes, or a
@@ -93,6 +102,11 @@ pub fn read_plan_samples<S: Store>(
     ensures short { IfOk result (λ r. length r.samples.items ≤ 4194304) }
 {
     let plan = read_plan_file(alloc, store, name)?;
-    let samples = read_samples(alloc, store, &plan)?;
-    Ok(PlanSamples { plan, samples })
+    match read_samples(alloc, store, &plan) {
+        Ok(samples) => Ok(PlanSamples { plan, samples }),
+        Err(stop) => {
+            let_go(plan);
+            Err(stop)
+        }
+    }
 }

@@ -7,7 +7,6 @@ use Rattle.link_plan.specs.Views.{plan_value}
 use Rattle.link_plan.specs.declared.plan.Plan.{Plan}
 use Rattle.plan_inputs.specs.Inputs.{plan_in}
 use Rattle.run_stops.specs.declared.stop.Stop.{Stop}
-use Rattle.run_stops.specs.declared.stop.Stop.TheVariants as stop
 use Rattle.run_shell.specs.declared.finished.Finished.{Finished}
 use Rattle.run_shell.specs.Outcome.{LeavesOthers, Outcome}
 use Rattle.run_shell.specs.Ends.{Comes}
@@ -23,6 +22,11 @@ use Rattle.lane_receipts.specs.LaneReports.{names_of_lanes}
 
 -- ---- reading
 
+-- memory ran out, which says nothing of the files
+pub out_of_memory : (x : Option Files) → IfSome x (λ files. Unit {0})
+out_of_memory None = tt
+out_of_memory (Some files) = tt
+
 module _ (file : List ℕ) where
   abbrev Had : Stop → Option Files → Type 0
   Had s x = IfSome x (λ files. Reads {T = PlanLanes} (λ v. v) (IsReceiveInput file files) (Err s) (plan_lanes_in files file))
@@ -30,10 +34,6 @@ module _ (file : List ℕ) where
   -- the plan was refused, or reading it stopped
   pub no_plan : (s : Stop) (x : Option Files) → IfSome x (λ files. Reads plan_value (λ n. n ≡ file) (Err s) (plan_in files file)) → Had s x
   no_plan s x h = first_stops PlanValue PlanLanes Plan PlanLanes (λ files. plan_in files file) with_lanes plan_value (λ v. v) (λ files n. n ≡ file) (IsReceiveInput file) s x (λ u q n. inl n) h
-
-  pub no_memory_there : (x : Option Files) → Had stop.OutOfMemory x
-  no_memory_there None = tt
-  no_memory_there (Some files) = tt
 
   module _ (x y : Option Files) (same : y ≡ x) (plan : Plan) (had : IfSome x (λ files. plan_in files file ≡ Ok (plan_value plan))) (names : List (List ℕ)) (named : names ≡ names_of_lanes (plan_value plan)) where
     lane_named : (u : Files) (q : List ℕ) → plan_in u file ≡ Ok (plan_value plan) → Contains names q → IsReceiveInput file u q

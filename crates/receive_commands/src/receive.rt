@@ -32,6 +32,27 @@ pub struct PlanLanes {
     pub names: Vec<String>,
 }
 
+// The names of the files of a plan's lanes, in their order, which are there and no longer than their limit.
+fn probe_plan_lanes<S: Store>(
+    alloc: Global,
+    store: &mut S,
+    plan: &Plan,
+) -> Result<Vec<String>, Stop>
+    requires { S.faults store.old < 2 ^ 60 }
+    ensures cause { StopCount result (S.faults store.old) (S.faults store.new) }
+    ensures unchanged { S.files store.new ≡ S.files store.old }
+    ensures names { IfOk result (λ names. map string_bytes names.items ≡ names_of_lanes (plan_value plan.now)) }
+    ensures probes { IfSome (S.files store.old) (λ files. Probes (Contains (names_of_lanes (plan_value plan.now))) result (lanes_in files (names_of_lanes (plan_value plan.now)))) }
+{
+    let names = lane_names(alloc, plan.out.as_str(), plan.link.lanes())?;
+    probe_lanes(alloc, store, &names)?;
+    Ok(names)
+}
+
+// Drops a plan.
+// proof: a function that drops one by itself is slow to prove
+fn let_go(_plan: Plan) {}
+
 /// The plan of this name, whose lanes are there and no longer than their limit. The first of these files that is absent, too large
 /// or refused is refused, unless the store fails or memory runs out. The files are as they were.
 pub fn read_plan_lanes<S: Store>(
@@ -48,9 +69,13 @@ pub fn read_plan_lanes<S: Store>(
     ensures plan { IfOk result (λ read. IfSome (S.files store.old) (λ files. plan_in files file.now ≡ Ok (plan_value read.plan))) }
 {
     let plan = read_plan_file(alloc, store, file)?;
-    let names = lane_names(alloc, plan.out.as_str(), plan.link.lanes())?;
-    probe_lanes(alloc, store, &names)?;
-    Ok(PlanLanes { plan, names })
+    match probe_plan_lanes(alloc, store, &plan) {
+        Ok(names) => Ok(PlanLanes { plan, names }),
+        Err(stop) => {
+            let_go(plan);
+            Err(stop)
+        }
+    }
 }
 
 // What lanes become of which nothing was read. They are lent to all calls that may fail, so that one place lets them go.
@@ -104,6 +129,8 @@ impl FileCommand for Receive {
 
     fn obey<S: Store>(alloc: Global, store: &mut S, file: &str) -> Result<Finished, Stop> {
         let read = read_plan_lanes(alloc, store, file)?;
-        receive_lanes(alloc, store, &read)
+        let finished = receive_lanes(alloc, store, &read);
+        let_go(read.plan);
+        finished
     }
 }

@@ -1,6 +1,6 @@
 //! `resend FILE`: the stream of a plan is carried over a link that loses, repeats and delays.
 
-use crate::reading::read_resend;
+use crate::reading::{let_go, read_resend};
 use crate::write::write_plan;
 use lk_outside::Store;
 use run_shell::{FileCommand, Finished};
@@ -18,6 +18,8 @@ impl FileCommand for ResendPlan {
     fn obey<S: Store>(alloc: Global, store: &mut S, file: &str) -> Result<Finished, Stop> {
         let inputs = read_resend(alloc, store, file)?;
         let window = inputs.reading.plan.window;
-        write_plan(alloc, store, &inputs.reading, window, &inputs.rows)
+        let finished = write_plan(alloc, store, &inputs.reading, window, &inputs.rows);
+        let_go(inputs.reading.plan);
+        finished
     }
 }

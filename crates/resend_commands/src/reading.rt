@@ -52,6 +52,10 @@ fn refusal(plan: &Plan) -> Option<PlanError>
     None
 }
 
+/// Drops a plan.
+// proof: a function that drops one by itself is slow to prove
+pub fn let_go(_plan: Plan) {}
+
 // The plan in the file of this name, which names events and is not wide. The files are as they were.
 #[tactic(auto, unfolding(crate::specs::Reading::resend_plan_in))]
 fn read_resend_plan<S: Store>(alloc: Global, store: &mut S, name: &str) -> Result<Plan, Stop>
@@ -64,7 +68,10 @@ fn read_resend_plan<S: Store>(alloc: Global, store: &mut S, name: &str) -> Resul
     let plan = read_plan_file(alloc, store, name)?;
     match refusal(&plan) {
         None => Ok(plan),
-        Some(why) => Err(Stop::Plan(why)),
+        Some(why) => {
+            let_go(plan);
+            Err(Stop::Plan(why))
+        }
     }
 }
 
@@ -105,10 +112,21 @@ pub fn read_resend<S: Store>(alloc: Global, store: &mut S, name: &str) -> Result
     ensures few { IfOk result (λ r. count_of r.rows.items ≤ most_events) }
 {
     let plan = read_resend_plan(alloc, store, name)?;
-    let inputs = read_inputs(alloc, store, &plan)?;
-    let rows = read_events_file(alloc, store, &plan)?;
-    Ok(ResendInputs {
-        reading: PlanReading { plan, inputs },
-        rows,
-    })
+    let inputs = match read_inputs(alloc, store, &plan) {
+        Ok(inputs) => inputs,
+        Err(stop) => {
+            let_go(plan);
+            return Err(stop);
+        }
+    };
+    match read_events_file(alloc, store, &plan) {
+        Ok(rows) => Ok(ResendInputs {
+            reading: PlanReading { plan, inputs },
+            rows,
+        }),
+        Err(stop) => {
+            let_go(plan);
+            Err(stop)
+        }
+    }
 }

@@ -22,9 +22,9 @@ returns-in_err-inputs-clause-comes g c =
 pub returns-clause-comes : goal.returns-clause-comes
 returns-clause-comes g c =
     let created = faults_name (string_bytes c.in_ok-inputs.inputs.plan.out) in
-    writes_comes (check_work c.args.file.now) (inputs_value c.in_ok-inputs.inputs) (created ∷ []) (λ q h. one_name created q h) c.write_checked.result _ _ _ c.in_ok-inputs.ensures.unchanged c.in_ok-inputs.ensures.reads c.write_checked.ensures.writes
+    writes_comes (check_work c.args.file.now) (inputs_value c.in_ok-inputs.inputs) (created ∷ []) (λ q h. one_name created q h) c.write_checked-finished.result _ _ _ c.in_ok-inputs.ensures.unchanged c.in_ok-inputs.ensures.reads c.write_checked-finished.ensures.writes
 
 pub returns-clause-others : goal.returns-clause-others
 returns-clause-others g c =
     let created = faults_name (string_bytes c.in_ok-inputs.inputs.plan.out) in
-    writes_leaves (check_work c.args.file.now) (inputs_value c.in_ok-inputs.inputs) (created ∷ []) (λ q h. one_name created q h) c.write_checked.result _ _ _ c.in_ok-inputs.ensures.unchanged c.in_ok-inputs.ensures.reads c.write_checked.ensures.writes
+    writes_leaves (check_work c.args.file.now) (inputs_value c.in_ok-inputs.inputs) (created ∷ []) (λ q h. one_name created q h) c.write_checked-finished.result _ _ _ c.in_ok-inputs.ensures.unchanged c.in_ok-inputs.ensures.reads c.write_checked-finished.ensures.writes

@@ -23,9 +23,9 @@ returns-in_err-inputs-clause-comes g c =
 pub returns-clause-comes : goal.returns-clause-comes
 returns-clause-comes g c =
     let plan = plan_value c.in_ok-inputs.inputs.plan in
-    writes_comes (damage_work c.args.file.now) (inputs_value c.in_ok-inputs.inputs) (damaged_names plan) (λ q h. numbered_name (damaged_out plan.out) plan.settings.lanes q h) c.write_damaged.result _ _ _ c.in_ok-inputs.ensures.unchanged c.in_ok-inputs.ensures.reads c.write_damaged.ensures.writes
+    writes_comes (damage_work c.args.file.now) (inputs_value c.in_ok-inputs.inputs) (damaged_names plan) (λ q h. numbered_name (damaged_out plan.out) plan.settings.lanes q h) c.write_damaged-finished.result _ _ _ c.in_ok-inputs.ensures.unchanged c.in_ok-inputs.ensures.reads c.write_damaged-finished.ensures.writes
 
 pub returns-clause-others : goal.returns-clause-others
 returns-clause-others g c =
     let plan = plan_value c.in_ok-inputs.inputs.plan in
-    writes_leaves (damage_work c.args.file.now) (inputs_value c.in_ok-inputs.inputs) (damaged_names plan) (λ q h. numbered_name (damaged_out plan.out) plan.settings.lanes q h) c.write_damaged.result _ _ _ c.in_ok-inputs.ensures.unchanged c.in_ok-inputs.ensures.reads c.write_damaged.ensures.writes
+    writes_leaves (damage_work c.args.file.now) (inputs_value c.in_ok-inputs.inputs) (damaged_names plan) (λ q h. numbered_name (damaged_out plan.out) plan.settings.lanes q h) c.write_damaged-finished.result _ _ _ c.in_ok-inputs.ensures.unchanged c.in_ok-inputs.ensures.reads c.write_damaged-finished.ensures.writes

@@ -23,13 +23,13 @@ pub returns-clause-comes : goal.returns-clause-comes
 returns-clause-comes g c =
     let name = c.args.file.now in
     let i = c.in_ok-inputs.inputs in
-    writes_comes (duplex_work name) (duplex_reading i) (duplex_names (duplex_reading i)) (λ q h. h) c.write_duplex.result _ _ _ c.in_ok-inputs.ensures.unchanged c.in_ok-inputs.ensures.reads c.write_duplex.ensures.writes
+    writes_comes (duplex_work name) (duplex_reading i) (duplex_names (duplex_reading i)) (λ q h. h) c.write_duplex-finished.result _ _ _ c.in_ok-inputs.ensures.unchanged c.in_ok-inputs.ensures.reads c.write_duplex-finished.ensures.writes
 
 pub returns-clause-others : goal.returns-clause-others
 returns-clause-others g c =
     let name = c.args.file.now in
     let i = c.in_ok-inputs.inputs in
-    writes_leaves (duplex_work name) (duplex_reading i) (duplex_names (duplex_reading i)) (λ q h. h) c.write_duplex.result _ _ _ c.in_ok-inputs.ensures.unchanged c.in_ok-inputs.ensures.reads c.write_duplex.ensures.writes
+    writes_leaves (duplex_work name) (duplex_reading i) (duplex_names (duplex_reading i)) (λ q h. h) c.write_duplex-finished.result _ _ _ c.in_ok-inputs.ensures.unchanged c.in_ok-inputs.ensures.reads c.write_duplex-finished.ensures.writes
 
 pub returns-in_err-inputs-clause-cause : goal.returns-in_err-inputs-clause-cause
 returns-in_err-inputs-clause-cause g c =

@@ -21,8 +21,8 @@ returns-clause-lawful g c = join_plan_means c.args.file.now
 
 pub returns-clause-comes : goal.returns-clause-comes
 returns-clause-comes g c =
-    writes_comes (join_plan_work c.args.file.now) (words_value c.in_ok-read.read) (plan_names (plan_value c.in_ok-read.read.plan)) (λ q h. h) c.write_plan_words.result _ _ _ c.in_ok-read.ensures.unchanged c.in_ok-read.ensures.reads c.write_plan_words.ensures.writes
+    writes_comes (join_plan_work c.args.file.now) (words_value c.in_ok-read.read) (plan_names (plan_value c.in_ok-read.read.plan)) (λ q h. h) c.write_plan_words-finished.result _ _ _ c.in_ok-read.ensures.unchanged c.in_ok-read.ensures.reads c.write_plan_words-finished.ensures.writes
 
 pub returns-clause-others : goal.returns-clause-others
 returns-clause-others g c =
-    writes_leaves (join_plan_work c.args.file.now) (words_value c.in_ok-read.read) (plan_names (plan_value c.in_ok-read.read.plan)) (λ q h. h) c.write_plan_words.result _ _ _ c.in_ok-read.ensures.unchanged c.in_ok-read.ensures.reads c.write_plan_words.ensures.writes
+    writes_leaves (join_plan_work c.args.file.now) (words_value c.in_ok-read.read) (plan_names (plan_value c.in_ok-read.read.plan)) (λ q h. h) c.write_plan_words-finished.result _ _ _ c.in_ok-read.ensures.unchanged c.in_ok-read.ensures.reads c.write_plan_words-finished.ensures.writes

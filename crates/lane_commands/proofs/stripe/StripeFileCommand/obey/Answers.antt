@@ -24,10 +24,10 @@ pub returns-clause-comes : goal.returns-clause-comes
 returns-clause-comes g c =
     let out = string_bytes c.in_ok-read.read.plan.out in
     let lanes = c.in_ok-read.read.plan.link.lanes in
-    writes_comes (stripe_work c.args.file.now) (words_value c.in_ok-read.read) (lane_names out lanes) (λ q h. numbered_name out lanes q h) c.write_stripes.result _ _ _ c.in_ok-read.ensures.unchanged c.in_ok-read.ensures.reads c.write_stripes.ensures.writes
+    writes_comes (stripe_work c.args.file.now) (words_value c.in_ok-read.read) (lane_names out lanes) (λ q h. numbered_name out lanes q h) c.write_stripes-finished.result _ _ _ c.in_ok-read.ensures.unchanged c.in_ok-read.ensures.reads c.write_stripes-finished.ensures.writes
 
 pub returns-clause-others : goal.returns-clause-others
 returns-clause-others g c =
     let out = string_bytes c.in_ok-read.read.plan.out in
     let lanes = c.in_ok-read.read.plan.link.lanes in
-    writes_leaves (stripe_work c.args.file.now) (words_value c.in_ok-read.read) (lane_names out lanes) (λ q h. numbered_name out lanes q h) c.write_stripes.result _ _ _ c.in_ok-read.ensures.unchanged c.in_ok-read.ensures.reads c.write_stripes.ensures.writes
+    writes_leaves (stripe_work c.args.file.now) (words_value c.in_ok-read.read) (lane_names out lanes) (λ q h. numbered_name out lanes q h) c.write_stripes-finished.result _ _ _ c.in_ok-read.ensures.unchanged c.in_ok-read.ensures.reads c.write_stripes-finished.ensures.writes

@@ -1,4 +1,3 @@
-use Rattle.std.proofs.Common.{rules}
 use Rattle.std.proofs.lemmas.Result.{err_from_is_err_and}
 use Rattle.link_plan.specs.Views.{plan_value}
 use Rattle.run_shell.proofs.Works.{reading_ends}
@@ -22,11 +21,8 @@ returns-clause-lawful g c = link_means c.args.file.now
 
 pub returns-clause-comes : goal.returns-clause-comes
 returns-clause-comes g c =
-    writes_comes (link_work c.args.file.now) (link_value c.in_ok-read.read) (link_names (plan_value c.in_ok-read.read.reading.plan)) (λ q h. h) c.write_link.result _ _ _ c.in_ok-read.ensures.unchanged c.in_ok-read.ensures.reads c.write_link.ensures.writes
+    writes_comes (link_work c.args.file.now) (link_value c.in_ok-read.read) (link_names (plan_value c.in_ok-read.read.reading.plan)) (λ q h. h) c.write_link-finished.result _ _ _ c.in_ok-read.ensures.unchanged c.in_ok-read.ensures.reads c.write_link-finished.ensures.writes
 
 pub returns-clause-others : goal.returns-clause-others
 returns-clause-others g c =
-    writes_leaves (link_work c.args.file.now) (link_value c.in_ok-read.read) (link_names (plan_value c.in_ok-read.read.reading.plan)) (λ q h. h) c.write_link.result _ _ _ c.in_ok-read.ensures.unchanged c.in_ok-read.ensures.reads c.write_link.ensures.writes
-
-pub invariant_of-read-clause-some_channels : goal.invariant_of-read-clause-some_channels
-invariant_of-read-clause-some_channels g c = search rules
+    writes_leaves (link_work c.args.file.now) (link_value c.in_ok-read.read) (link_names (plan_value c.in_ok-read.read.reading.plan)) (λ q h. h) c.write_link-finished.result _ _ _ c.in_ok-read.ensures.unchanged c.in_ok-read.ensures.reads c.write_link-finished.ensures.writes

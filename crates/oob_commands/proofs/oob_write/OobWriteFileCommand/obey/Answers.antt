@@ -24,13 +24,13 @@ pub returns-clause-comes : goal.returns-clause-comes
 returns-clause-comes g c =
     let name = c.args.file.now in
     let created = samples_name (string_bytes c.in_ok-reading.reading.plan.out) in
-    writes_comes (oob_write_work name) (local_value c.in_ok-reading.reading) (created ∷ []) (λ q h. one_name created q h) c.write_samples.result _ _ _ c.in_ok-reading.ensures.unchanged c.in_ok-reading.ensures.reads c.write_samples.ensures.writes
+    writes_comes (oob_write_work name) (local_value c.in_ok-reading.reading) (created ∷ []) (λ q h. one_name created q h) c.write_samples-finished.result _ _ _ c.in_ok-reading.ensures.unchanged c.in_ok-reading.ensures.reads c.write_samples-finished.ensures.writes
 
 pub returns-clause-others : goal.returns-clause-others
 returns-clause-others g c =
     let name = c.args.file.now in
     let created = samples_name (string_bytes c.in_ok-reading.reading.plan.out) in
-    writes_leaves (oob_write_work name) (local_value c.in_ok-reading.reading) (created ∷ []) (λ q h. one_name created q h) c.write_samples.result _ _ _ c.in_ok-reading.ensures.unchanged c.in_ok-reading.ensures.reads c.write_samples.ensures.writes
+    writes_leaves (oob_write_work name) (local_value c.in_ok-reading.reading) (created ∷ []) (λ q h. one_name created q h) c.write_samples-finished.result _ _ _ c.in_ok-reading.ensures.unchanged c.in_ok-reading.ensures.reads c.write_samples-finished.ensures.writes
 
 pub returns-in_err-reading-clause-cause : goal.returns-in_err-reading-clause-cause
 returns-in_err-reading-clause-cause g c =

@@ -17,8 +17,8 @@ returns-in_err-read-clause-comes g c =
     let p = err_from_is_err_and c.from_residual.result c.from_residual.ensures.1 in
     rw (p.1, p.2) (reading_ends PlanLanes (receive_work c.args.file.now) (λ v. v) (IsReceiveInput c.args.file.now) c.in_err-read.field-0.0 _ _ c.in_err-read.ensures.unchanged (λ u q e. e) c.in_err-read.ensures.reads)
 
-pub receive_lanes-requires-clause-there : goal.receive_lanes-requires-clause-there
-receive_lanes-requires-clause-there g c =
+pub receive_lanes-finished-requires-clause-there : goal.receive_lanes-finished-requires-clause-there
+receive_lanes-finished-requires-clause-there g c =
     subst (λ x. IfSome x (λ files. (lanes : List (List ℕ)) × (lanes_in files (names_of_lanes (plan_value c.in_ok-read.read.plan)) ≡ Ok lanes))) (sym c.in_ok-read.ensures.unchanged) c.in_ok-read.ensures.there
 
 pub returns-clause-lawful : goal.returns-clause-lawful
@@ -26,8 +26,8 @@ returns-clause-lawful g c = receive_means c.args.file.now
 
 pub returns-clause-comes : goal.returns-clause-comes
 returns-clause-comes g c =
-    lanes_come IsReceived plan_names c.args.file.now (plan_value c.in_ok-read.read.plan) c.receive_lanes.result _ _ _ c.in_ok-read.ensures.unchanged c.in_ok-read.ensures.plan c.in_ok-read.ensures.there c.receive_lanes.ensures.others c.receive_lanes.ensures.fills
+    lanes_come IsReceived plan_names c.args.file.now (plan_value c.in_ok-read.read.plan) c.receive_lanes-finished.result _ _ _ c.in_ok-read.ensures.unchanged c.in_ok-read.ensures.plan c.in_ok-read.ensures.there c.receive_lanes-finished.ensures.others c.receive_lanes-finished.ensures.fills
 
 pub returns-clause-others : goal.returns-clause-others
 returns-clause-others g c =
-    lanes_leave IsReceived plan_names c.args.file.now (plan_value c.in_ok-read.read.plan) _ _ _ c.in_ok-read.ensures.unchanged c.in_ok-read.ensures.plan c.in_ok-read.ensures.there c.receive_lanes.ensures.others
+    lanes_leave IsReceived plan_names c.args.file.now (plan_value c.in_ok-read.read.plan) _ _ _ c.in_ok-read.ensures.unchanged c.in_ok-read.ensures.plan c.in_ok-read.ensures.there c.receive_lanes-finished.ensures.others

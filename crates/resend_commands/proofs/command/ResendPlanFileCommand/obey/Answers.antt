@@ -30,15 +30,15 @@ pub returns-clause-comes : goal.returns-clause-comes
 returns-clause-comes g c =
     let name = c.args.file.now in
     let out = string_bytes c.in_ok-inputs.inputs.reading.plan.out in
-    writes_comes (resend_work name) (resend_value c.in_ok-inputs.inputs) (words_name out ∷ []) (λ q h. one_name (words_name out) q h) c.write_plan.result _ _ _ c.in_ok-inputs.ensures.unchanged c.in_ok-inputs.ensures.reads
-    (subst (λ (rows : List EventRow). Writes (IsPlanResent (record { reading = reading_value c.in_ok-inputs.inputs.reading; window = c.in_ok-inputs.inputs.reading.plan.window; rows = rows })) (words_name out ∷ []) c.write_plan.result (g.S.Store.files c.read_resend.new.store) (g.S.Store.files c.write_plan.new.store)) c.deref.ensures.value c.write_plan.ensures.writes)
+    writes_comes (resend_work name) (resend_value c.in_ok-inputs.inputs) (words_name out ∷ []) (λ q h. one_name (words_name out) q h) c.write_plan-finished.result _ _ _ c.in_ok-inputs.ensures.unchanged c.in_ok-inputs.ensures.reads
+    (subst (λ (rows : List EventRow). Writes (IsPlanResent (record { reading = reading_value c.in_ok-inputs.inputs.reading; window = c.in_ok-inputs.inputs.reading.plan.window; rows = rows })) (words_name out ∷ []) c.write_plan-finished.result (g.S.Store.files c.read_resend.new.store) (g.S.Store.files c.write_plan-finished.new.store)) c.deref.ensures.value c.write_plan-finished.ensures.writes)
 
 pub returns-clause-others : goal.returns-clause-others
 returns-clause-others g c =
     let name = c.args.file.now in
     let out = string_bytes c.in_ok-inputs.inputs.reading.plan.out in
-    writes_leaves (resend_work name) (resend_value c.in_ok-inputs.inputs) (words_name out ∷ []) (λ q h. one_name (words_name out) q h) c.write_plan.result _ _ _ c.in_ok-inputs.ensures.unchanged c.in_ok-inputs.ensures.reads
-    (subst (λ (rows : List EventRow). Writes (IsPlanResent (record { reading = reading_value c.in_ok-inputs.inputs.reading; window = c.in_ok-inputs.inputs.reading.plan.window; rows = rows })) (words_name out ∷ []) c.write_plan.result (g.S.Store.files c.read_resend.new.store) (g.S.Store.files c.write_plan.new.store)) c.deref.ensures.value c.write_plan.ensures.writes)
+    writes_leaves (resend_work name) (resend_value c.in_ok-inputs.inputs) (words_name out ∷ []) (λ q h. one_name (words_name out) q h) c.write_plan-finished.result _ _ _ c.in_ok-inputs.ensures.unchanged c.in_ok-inputs.ensures.reads
+    (subst (λ (rows : List EventRow). Writes (IsPlanResent (record { reading = reading_value c.in_ok-inputs.inputs.reading; window = c.in_ok-inputs.inputs.reading.plan.window; rows = rows })) (words_name out ∷ []) c.write_plan-finished.result (g.S.Store.files c.read_resend.new.store) (g.S.Store.files c.write_plan-finished.new.store)) c.deref.ensures.value c.write_plan-finished.ensures.writes)
 
 pub returns-in_err-inputs-clause-cause : goal.returns-in_err-inputs-clause-cause
 returns-in_err-inputs-clause-cause g c =

@@ -26,13 +26,13 @@ pub returns-clause-comes : goal.returns-clause-comes
 returns-clause-comes g c =
     let name = c.args.file.now in
     let out = string_bytes c.in_ok-reading.reading.plan.out in
-    writes_comes (burst_plan_work name) (reading_value c.in_ok-reading.reading) (words_name out ∷ []) (λ q h. one_name (words_name out) q h) c.write_plan.result _ _ _ c.in_ok-reading.ensures.unchanged c.in_ok-reading.ensures.reads c.write_plan.ensures.writes
+    writes_comes (burst_plan_work name) (reading_value c.in_ok-reading.reading) (words_name out ∷ []) (λ q h. one_name (words_name out) q h) c.write_plan-finished.result _ _ _ c.in_ok-reading.ensures.unchanged c.in_ok-reading.ensures.reads c.write_plan-finished.ensures.writes
 
 pub returns-clause-others : goal.returns-clause-others
 returns-clause-others g c =
     let name = c.args.file.now in
     let out = string_bytes c.in_ok-reading.reading.plan.out in
-    writes_leaves (burst_plan_work name) (reading_value c.in_ok-reading.reading) (words_name out ∷ []) (λ q h. one_name (words_name out) q h) c.write_plan.result _ _ _ c.in_ok-reading.ensures.unchanged c.in_ok-reading.ensures.reads c.write_plan.ensures.writes
+    writes_leaves (burst_plan_work name) (reading_value c.in_ok-reading.reading) (words_name out ∷ []) (λ q h. one_name (words_name out) q h) c.write_plan-finished.result _ _ _ c.in_ok-reading.ensures.unchanged c.in_ok-reading.ensures.reads c.write_plan-finished.ensures.writes
 
 pub returns-in_err-reading-clause-cause : goal.returns-in_err-reading-clause-cause
 returns-in_err-reading-clause-cause g c =

@@ -30,16 +30,16 @@ returns-clause-comes g c =
     let name = c.args.file.now in
     let out = string_bytes c.in_ok-reading.reading.plan.out in
     let lanes = c.in_ok-reading.reading.plan.link.lanes in
-    writes_comes (send_plan_work name) (reading_value c.in_ok-reading.reading) (lane_names out lanes) (λ q h. numbered_name out lanes q h) c.write_plan.result _ _ _ c.in_ok-reading.ensures.unchanged c.in_ok-reading.ensures.reads
-    (subst (λ (f : StreamForm). Writes (HasPlanStream (made_by f out) (reading_value c.in_ok-reading.reading)) (names_by f out) c.write_plan.result (g.S.Store.files c.read_plan_inputs.new.store) (g.S.Store.files c.write_plan.new.store)) c.lanes_form-form.ensures c.write_plan.ensures.writes)
+    writes_comes (send_plan_work name) (reading_value c.in_ok-reading.reading) (lane_names out lanes) (λ q h. numbered_name out lanes q h) c.write_plan-finished.result _ _ _ c.in_ok-reading.ensures.unchanged c.in_ok-reading.ensures.reads
+    (subst (λ (f : StreamForm). Writes (HasPlanStream (made_by f out) (reading_value c.in_ok-reading.reading)) (names_by f out) c.write_plan-finished.result (g.S.Store.files c.read_plan_inputs.new.store) (g.S.Store.files c.write_plan-finished.new.store)) c.lanes_form-form.ensures c.write_plan-finished.ensures.writes)
 
 pub returns-clause-others : goal.returns-clause-others
 returns-clause-others g c =
     let name = c.args.file.now in
     let out = string_bytes c.in_ok-reading.reading.plan.out in
     let lanes = c.in_ok-reading.reading.plan.link.lanes in
-    writes_leaves (send_plan_work name) (reading_value c.in_ok-reading.reading) (lane_names out lanes) (λ q h. numbered_name out lanes q h) c.write_plan.result _ _ _ c.in_ok-reading.ensures.unchanged c.in_ok-reading.ensures.reads
-    (subst (λ (f : StreamForm). Writes (HasPlanStream (made_by f out) (reading_value c.in_ok-reading.reading)) (names_by f out) c.write_plan.result (g.S.Store.files c.read_plan_inputs.new.store) (g.S.Store.files c.write_plan.new.store)) c.lanes_form-form.ensures c.write_plan.ensures.writes)
+    writes_leaves (send_plan_work name) (reading_value c.in_ok-reading.reading) (lane_names out lanes) (λ q h. numbered_name out lanes q h) c.write_plan-finished.result _ _ _ c.in_ok-reading.ensures.unchanged c.in_ok-reading.ensures.reads
+    (subst (λ (f : StreamForm). Writes (HasPlanStream (made_by f out) (reading_value c.in_ok-reading.reading)) (names_by f out) c.write_plan-finished.result (g.S.Store.files c.read_plan_inputs.new.store) (g.S.Store.files c.write_plan-finished.new.store)) c.lanes_form-form.ensures c.write_plan-finished.ensures.writes)
 
 pub returns-in_err-reading-clause-cause : goal.returns-in_err-reading-clause-cause
 returns-in_err-reading-clause-cause g c =
