@@ -13,8 +13,9 @@ import subprocess
 import sys
 import tempfile
 
+from cases import LINK
 from make_capture import write_capture
-from measure import LINK, least, measured, row
+from measure import least, measured, row
 
 TOP = os.path.dirname(os.path.dirname(os.path.abspath(__file__)))
 LANES = 8
