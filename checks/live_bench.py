@@ -20,6 +20,9 @@ def write(folder, name, data):
 
 
 def content(folder, name):
+    """The bytes of a file; none where there is no such file."""
+    if not os.path.exists(os.path.join(folder, name)):
+        return b""
     with open(os.path.join(folder, name), "rb") as file:
         return file.read()
 
@@ -47,7 +50,7 @@ class Bench:
             write(folder, "script.%d" % number, "".join(line + "\n" for line in lines).encode())
             names += ["script.%d" % number, "said.%d" % number]
         done = run([*before, driver or self.given.driver, *words, *names], folder)
-        said = [content(folder, name).decode().splitlines() for name in names[1::2] if os.path.exists(os.path.join(folder, name))]
+        said = [content(folder, name).decode().splitlines() for name in names[1::2]]
         error = done.stderr.decode(errors="replace")
         return said, "status %d, %s" % (done.returncode, error[:2000]) if done.returncode or error else ""
 

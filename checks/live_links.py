@@ -12,7 +12,6 @@ import random_inputs as drawn
 import words_file
 from plan import plan_of
 
-MOST_BYTES = 60_000  # of all lanes of a generated case
 NARROW, WIDE = range(256), sorted({*range(0, 65_536, 257), 1, 255, 256, 65_280, 65_535})
 
 
@@ -57,23 +56,31 @@ class Link:
 
 def rows_of_schedule(r, plan, bits):
     """Damage of lanes that are apart by less than the depth, most often, so that something comes through."""
-    if r.randrange(4) == 0:
+    if r.randrange(9) == 0:
         return drawn.schedule_rows(r, plan, bits)
     depth = 67 * plan.link.deskew
     rows = [["skew", lane, r.randint(0, depth)] for lane in range(plan.link.lanes) if r.randrange(4)]
-    for _ in range(r.choice([0, 1, 2, 5, 9])):
+    for _ in range(r.choice([0, 0, 1, 2, 5])):
         rows += r.choice(drawn.DAMAGES)(r, r.randrange(plan.link.lanes), plan.link, bits)
-    return rows
+    return rows + [["flip", r.randrange(plan.link.lanes), r.randrange(bits // 2, bits)] for _ in range(r.choice([0, 1, 5]))]
+
+
+def other_lane(r, data, lane):
+    """A lane that slips late, or one of something else."""
+    if r.randrange(3) == 0:
+        return long_links.odd_lane(r, data, lane)
+    whole = data[lane]
+    cut = r.randint(len(whole) // 2, len(whole))
+    return whole[:cut] + r.choice([b"", r.randbytes(r.randint(1, 60))]) + whole[cut + r.randint(0, 60):]
 
 
 def made_link(bench, r, lanes, folder):
     """A random link whose lanes `link` makes; sometimes one or two of them are then of something else."""
     rows, channels = chosen_plan(r, lanes)
     rows += [("channel", channel, "%d.pcap" % channel) for channel in channels] + [("max_packet", r.choice([300, 600, 262_144]))]
-    most = max(500, r.choice([500, 3_000, 9_000]) // len(channels))
     for channel in channels:
-        packets = []
-        while sum(map(len, packets)) < r.randrange(most):
+        size, packets = r.choice([500, 3_000, 9_000]) // len(channels), []
+        while sum(map(len, packets)) < size:
             packets.append(drawn.packet(r, r.choice([1, 9, 60, 64, 65, 150, 300])))
         write(folder, "%d.pcap" % channel, drawn.capture(r, packets))
     plan = plan_of(text_of(rows))
@@ -85,16 +92,27 @@ def made_link(bench, r, lanes, folder):
     write(folder, "s.csv", text_of(rows_of_schedule(r, plan, bits)))
     write(folder, "p.plan", text_of(rows + [("schedule", "s.csv")]))
     status, told = bench.program(["link", "p.plan"], folder)
-    if status not in (0, 3):
+    if status not in (0, 3) or not os.path.exists(os.path.join(folder, "o.lane.0")):
         return bench.count("link of a random plan", "status %d, %s" % (status, told[:200]))
-    if r.randrange(3) == 0:
+    if r.randrange(2) == 0:
         carry_other_words(bench, r, lanes, folder)
-    if r.randrange(3) == 0:
+    if r.randrange(4) == 0:
         data = [content(folder, "o.lane.%d" % lane) for lane in range(lanes)]
         for lane in r.sample(range(lanes), min(lanes, r.choice([1, 1, 2]))):
-            write(folder, "o.lane.%d" % lane, long_links.odd_lane(r, data, lane))
+            write(folder, "o.lane.%d" % lane, other_lane(r, data, lane))
+    if r.randrange(2) == 0:
+        cut_lanes(r, plan, folder)
     write(folder, "p.plan", text_of(receiver_rows(r, rows, channels)))
     return Link(folder, "p.plan", "o")
+
+
+def cut_lanes(r, plan, folder):
+    """All lanes end early, and together, after the warm-up, so that bursts are cut."""
+    data = [content(folder, "o.lane.%d" % lane) for lane in range(plan.link.lanes)]
+    most, warmup = max(map(len, data)), plan.link.period * plan.shape.warmup // 8
+    end = r.randint(min(warmup, most), most)
+    for lane, bytes_of_lane in enumerate(data):
+        write(folder, "o.lane.%d" % lane, bytes_of_lane[:end])
 
 
 def receiver_rows(r, rows, channels):
@@ -137,10 +155,8 @@ def carry_other_words(bench, r, lanes, folder):
 
 
 def generated_link(bench, number, folder):
-    """The link of a case of `generate`, if it is a small one."""
+    """The link of a case of `generate`."""
     status, told = bench.program(["generate", str(number), "g"], folder)
-    if status not in (0, 3):
+    if status not in (0, 3) or not os.path.exists(os.path.join(folder, "g.out.lane.0")):
         return bench.count("generate %d" % number, "status %d, %s" % (status, told[:200]))
-    if sum(os.path.getsize(os.path.join(folder, name)) for name in os.listdir(folder) if ".lane." in name) > MOST_BYTES:
-        return None
     return Link(folder, "g.plan", "g.out")
