@@ -631,24 +631,25 @@ uint32_t interlaken_damage_apply(interlaken_damage *damage, uint32_t lane, uint8
 enum interlaken_lane_kind {
   INTERLAKEN_NO_LANE_EVENT = 0,             /* no event is due */
   INTERLAKEN_LANE_EVENT_BAD_WORD = 1,       /* a covered word is bad */
-  INTERLAKEN_LANE_EVENT_BAD_SYNC = 2,       /* a covered word at the place of Sync is not Sync */
+  INTERLAKEN_LANE_EVENT_BAD_SYNC = 2,       /* a covered word at the place of Sync is not Sync, or
+                                               is bad */
   INTERLAKEN_LANE_EVENT_BAD_STATE = 3,      /* a covered word at the place of Scrambler State does
-                                               not have the running state */
+                                               not have the running state, or is bad */
   INTERLAKEN_LANE_EVENT_BAD_SKIP = 4,       /* a covered word at the place of Skip is, descrambled,
-                                               neither bad nor the Skip word */
+                                               another word, which is not bad */
   INTERLAKEN_LANE_EVENT_BAD_DIAGNOSTIC = 5, /* a covered word at the place of Diagnostic is wrong,
-                                               in form or CRC32 */
-  INTERLAKEN_LANE_EVENT_HEALTH = 6,         /* a right Diagnostic word does not have both health
-                                               bits, 33 and 32 */
-  INTERLAKEN_LANE_EVENT_BALANCE = 7,        /* from the declaring Sync word to this word the codes
-                                               have over 129 more ones than zeros, or zeros than
-                                               ones: once in a lock */
+                                               in form or CRC32, or is bad */
+  INTERLAKEN_LANE_EVENT_HEALTH = 6,         /* a covered Diagnostic word is right, and its health
+                                               bits, 33 and 32, are not both 1 */
+  INTERLAKEN_LANE_EVENT_BALANCE = 7,        /* from the declaring Sync word to this covered word the
+                                               codes have over 129 more ones than zeros, or zeros
+                                               than ones: once in a lock */
   INTERLAKEN_LANE_EVENT_LOCK = 8,           /* a lock is declared, by this Sync word */
-  INTERLAKEN_LANE_EVENT_LOST_HEADERS = 9,   /* a declared lock is lost at this word: headers */
-  INTERLAKEN_LANE_EVENT_LOST_SYNC = 10,     /* the same, for four wrong Sync words in a row */
-  INTERLAKEN_LANE_EVENT_LOST_STATE = 11,    /* the same, for wrong Scrambler State words */
-  INTERLAKEN_LANE_EVENT_UNFRAMED = 12       /* a word lock is lost, or its search is given up, at
-                                               this word, before a lock was declared */
+  INTERLAKEN_LANE_EVENT_LOST_HEADERS = 9,   /* a declared lock is lost at this word, for headers */
+  INTERLAKEN_LANE_EVENT_LOST_SYNC = 10,     /* the same, for Sync words */
+  INTERLAKEN_LANE_EVENT_LOST_STATE = 11,    /* the same, for Scrambler State words */
+  INTERLAKEN_LANE_EVENT_UNFRAMED = 12       /* a word lock is lost at this word before a lock is
+                                               declared, or its search is given up there */
 };
 
 /* An event of a lane. All is 0 if there is none. */

@@ -1149,6 +1149,25 @@ static void try_inspector_report(struct inspected *k) {
        report.lost == count[INTERLAKEN_LANE_EVENT_LOST_HEADERS] + count[INTERLAKEN_LANE_EVENT_LOST_SYNC] + count[INTERLAKEN_LANE_EVENT_LOST_STATE]);
 }
 
+/* If an allocation fails, `new` has no memory, or does without it. */
+static void each_inspector_allocation(void) {
+  long fails, refused = 0, taken = 1;
+  for (fails = 0; fails < taken; fails++) {
+    interlaken_inspector one = {0, 0};
+    interlaken_refusal refusal;
+    uint32_t result;
+    failing = fails, allocations = 0;
+    result = interlaken_inspector_new(&one, plan.at, plan.count, &refusal);
+    failing = -1, taken = allocations > fails ? fails + 2 : fails;
+    want("no cause of an inspector", refusal.cause == 0);
+    want("memory of an inspector", (result == INTERLAKEN_DONE) == (one.live != 0) && (result == INTERLAKEN_DONE || result == INTERLAKEN_OUT_OF_MEMORY));
+    refused += result == INTERLAKEN_OUT_OF_MEMORY;
+    interlaken_inspector_free(&one);
+    want("nothing of an inspector leaks", live == 0);
+  }
+  want("an inspector needs memory", refused > 5);
+}
+
 static void inspector_sequence(void) {
   static struct inspected one;
   static uint32_t turn;
@@ -1179,6 +1198,7 @@ int main(int argc, char **argv) {
   sender_plan = with_row(plan, "max_packet,250\n"); /* MAX_PACKET */
   each_allocation();
   one_lane();
+  each_inspector_allocation();
   for (left = atol(argv[4]); left > 0; left--) {
     state = (uint64_t)left * 2654435761u + 88172645463325252u;
     sequence();
