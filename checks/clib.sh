@@ -20,9 +20,9 @@ include=$folder/library/include
 strict=(-Wall -Wextra -Werror -pedantic -O1 "-I$include")
 
 holds 'calls of the header and of the archive' "$(grep -o '^uint32_t interlaken_[a-z_]*' "$include/interlaken.h" | cut -d ' ' -f 2 | sort)" \
-  "$(nm -g --defined-only "$archive" 2>/dev/null | grep -oE '\binterlaken_((receiver|transmitter|damage|plan)_[a-z_]*|version)$' | sort -u)"
+  "$(nm -g --defined-only "$archive" 2>/dev/null | grep -oE '\binterlaken_((receiver|transmitter|damage|inspector|checker|plan)_[a-z_]*|version)$' | sort -u)"
 holds 'calls of the shared library' "$(nm -D --defined-only library/lib/libinterlaken.so | awk '$2 == "T" { sub(/@.*/, "", $3); print $3 }' | sort)" \
-  "$(nm -g --defined-only "$archive" 2>/dev/null | grep -oE '\binterlaken_((receiver|transmitter|damage|plan)_[a-z_]*|version)$' | sort -u)"
+  "$(nm -g --defined-only "$archive" 2>/dev/null | grep -oE '\binterlaken_((receiver|transmitter|damage|inspector|checker|plan)_[a-z_]*|version)$' | sort -u)"
 
 # One number counts for the program, the library and the formats.
 holds 'the version of the header and of the release' "$(sed -n 's/^#define INTERLAKEN_VERSION "\(.*\)"$/\1/p' "$include/interlaken.h")" \
