@@ -109,6 +109,9 @@ printed=$(
   printf '%s\n' 'span start' 'span crc' "packet channel=1 $(hex_of wanted/damaged.1.pcap)" "packet channel=2 $(hex_of wanted/damaged.2.pcap)" 'span end'
   "$program" receive damaged.plan | grep '^lane' | cut -d ' ' -f 1-3
 )
+printf '%s\n' 'lanes,1' 'metaframe,32' '"channel",1,one.pcap' 'channel,"2"' '"link_type",101' 'out,quoted' >quoted.plan
+"$program" send quoted.plan >/dev/null || gives_up 'send of a plan with quotes fails'
+same_as_receive 'a plan with quotes' quoted.plan quoted '' 3
 for case in $(seq 1 "${CASES:-12}"); do
   rm -f g*
   "$program" generate "$case" g >/dev/null 2>&1
