@@ -20,9 +20,9 @@ include=$folder/library/include
 strict=(-Wall -Wextra -Werror -pedantic -O1 "-I$include")
 
 holds 'calls of the header and of the archive' "$(grep -o '^uint32_t interlaken_[a-z_]*' "$include/interlaken.h" | cut -d ' ' -f 2 | sort)" \
-  "$(nm -g --defined-only "$archive" 2>/dev/null | grep -oE '\binterlaken_((receiver|transmitter|damage|plan|inspector|checker)_[a-z_]*|version)$' | sort -u)"
+  "$(nm -g --defined-only "$archive" 2>/dev/null | grep -oE '\binterlaken_((receiver|transmitter|damage|inspector|checker|plan)_[a-z_]*|version)$' | sort -u)"
 holds 'calls of the shared library' "$(nm -D --defined-only library/lib/libinterlaken.so | awk '$2 == "T" { sub(/@.*/, "", $3); print $3 }' | sort)" \
-  "$(nm -g --defined-only "$archive" 2>/dev/null | grep -oE '\binterlaken_((receiver|transmitter|damage|plan|inspector|checker)_[a-z_]*|version)$' | sort -u)"
+  "$(nm -g --defined-only "$archive" 2>/dev/null | grep -oE '\binterlaken_((receiver|transmitter|damage|inspector|checker|plan)_[a-z_]*|version)$' | sort -u)"
 
 # One number counts for the program, the library and the formats.
 holds 'the version of the header and of the release' "$(sed -n 's/^#define INTERLAKEN_VERSION "\(.*\)"$/\1/p' "$include/interlaken.h")" \
@@ -126,6 +126,9 @@ printed=$(
   printf '%s\n' 'span start' 'span crc' "packet channel=1 $(hex_of wanted/damaged.1.pcap)" "packet channel=2 $(hex_of wanted/damaged.2.pcap)" 'span end'
   "$program" receive damaged.plan | grep '^lane' | cut -d ' ' -f 1-3
 )
+printf '%s\n' 'lanes,1' 'metaframe,32' '"channel",1,one.pcap' 'channel,"2"' '"link_type",101' 'out,quoted' >quoted.plan
+"$program" send quoted.plan >/dev/null || gives_up 'send of a plan with quotes fails'
+same_as_receive 'a plan with quotes' quoted.plan quoted '' 3
 for case in $(seq 1 "${CASES:-12}"); do
   rm -f g*
   "$program" generate "$case" g >/dev/null 2>&1

@@ -311,7 +311,7 @@ typedef struct interlaken_plan {
                            `burst_max` */
   uint32_t burst_min;   /* least bytes of a burst whose packet has as many: a multiple of 32 in 0 to
                            half of `burst_max` */
-  uint32_t window;      /* pieces that are sent again, at most at once: 1 to 255 */
+  uint32_t window;      /* pieces that may be sent ahead of the acknowledged ones: 1 to 255 */
 } interlaken_plan;
 
 /* Reads the numbers of a plan. `plan` is the text of a plan file of `size` bytes. It is read and

@@ -941,6 +941,31 @@ static void try_numbers(interlaken_plan *numbers) {
   for (i = 0; i < 4; i++) want("a channel", channels[i] == (bad || i >= room || i >= 2 ? 9 : i + 1));
 }
 
+/* Each allocation of both calls fails in turn: nothing is read, and nothing leaks. */
+static void each_plan_allocation(void) {
+  long fails, refused = 0, taken = 1;
+  for (fails = 0; fails < taken; fails++) {
+    interlaken_plan numbers;
+    interlaken_refusal refusal;
+    uint16_t channels[2] = {9, 9};
+    size_t count = 99;
+    uint32_t result;
+    failing = fails, allocations = 0;
+    result = interlaken_plan_read(plan.at, plan.count, &numbers, &refusal);
+    failing = -1, taken = allocations > fails ? fails + 2 : fails;
+    want("a plan, or no memory", result == INTERLAKEN_DONE || (result == INTERLAKEN_OUT_OF_MEMORY && memcmp(&numbers, &none_read, sizeof none_read) == 0));
+    want("no cause of a plan", refusal.cause == 0);
+    failing = fails, allocations = 0;
+    result = interlaken_plan_channels(plan.at, plan.count, channels, 2, &count, &refusal);
+    if (allocations > fails) taken = fails + 2;
+    failing = -1;
+    want("channels, or no memory", result == INTERLAKEN_DONE ? count == 2 && channels[1] == 2 : result == INTERLAKEN_OUT_OF_MEMORY && count == 0 && channels[0] == 9);
+    refused += result != INTERLAKEN_DONE;
+    want("nothing of a plan leaks without memory", live == 0);
+  }
+  want("a plan needs memory", refused > 5);
+}
+
 /* Numbers of other links, some of them of none; `are` is whether a plan has them. */
 static void draw_numbers(interlaken_plan *numbers, int *are) {
   uint32_t *const wrong_ones[] = {&numbers->lanes, &numbers->metaframe, &numbers->skips, &numbers->wide, &numbers->deskew, &numbers->max_packet,
@@ -1199,6 +1224,7 @@ int main(int argc, char **argv) {
   each_allocation();
   one_lane();
   each_inspector_allocation();
+  each_plan_allocation();
   for (left = atol(argv[4]); left > 0; left--) {
     state = (uint64_t)left * 2654435761u + 88172645463325252u;
     sequence();

@@ -540,6 +540,22 @@ class Plan:
     The numbers are `lanes`, `metaframe`, `skips`, `wide`, `deskew`, `max_packet`, `link_type`, `entries`, `warmup`, `channel_count`,
     `burst_max`, `burst_short`, `burst_min` and `window`, as in interlaken.h."""
 
+    lanes: int
+    metaframe: int
+    skips: int
+    wide: int
+    deskew: int
+    max_packet: int
+    link_type: int
+    entries: int
+    warmup: int
+    channel_count: int
+    burst_max: int
+    burst_short: int
+    burst_min: int
+    window: int
+    channels: list[int]
+
     def __init__(self, plan: bytes, library: str = "libinterlaken.so"):
         """`plan` is the text of a plan file, and `library` the path of the shared library."""
         self._calls = _loaded(library, "interlaken_plan_", _PLAN_CALLS)
