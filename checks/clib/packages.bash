@@ -1,0 +1,227 @@
+# For checks/clib.sh: the library as it is installed, the versions of its symbols, the texts of its numbers, and the programs of
+# examples/c. It works in the folder of the check, beside the folder `library`, and with what clib.sh and program.bash have set.
+# shellcheck disable=SC2154,SC2016
+
+# The calls of the shared library, with their nodes.
+nodes_of() { # LIBRARY
+  nm -D --defined-only "$1" | sed -nE 's/.* T (interlaken_[a-z_]+@+INTERLAKEN[_0-9.]*)$/\1/p' | LC_ALL=C sort
+}
+
+# A program that was linked with 1.4.1, whose library had one node without a number, runs with this library. A call that is gone is
+# missing from the header or from the archive, and tools/library then makes nothing.
+try_versions() {
+  local calls version minor
+  calls=$(sed -n 's/^1\.4 //p' "$top/tools/library_calls.txt")
+  holds 'how many calls 1.4 had' "$(grep -c . <<<"$calls")" 23
+  holds 'calls of 1.4 that the header lacks' "$(grep -vxFf <(grep -oE 'interlaken_[a-z_]+' "$include/interlaken.h") <<<"$calls")" ''
+  version=$(sed -n 's/^#define INTERLAKEN_VERSION "\(.*\)"$/\1/p' "$include/interlaken.h")
+  minor=${version%.*}
+  # The calls are several words.
+  # shellcheck disable=SC2086
+  holds 'nodes of the shared library' "$(nodes_of library/lib/libinterlaken.so)" "$(
+    {
+      printf '%s@INTERLAKEN\n' $calls
+      printf '%s@@INTERLAKEN_1.4\n' $calls
+      grep -oE '^[a-z].*\binterlaken_[a-z_]+\(' "$include/interlaken.h" | grep -oE 'interlaken_[a-z_]+' | grep -vxF "$calls" | sed "s/$/@@INTERLAKEN_$minor/"
+    } | LC_ALL=C sort
+  )"
+  mkdir old && echo 'INTERLAKEN { global: interlaken_receiver_*; interlaken_transmitter_*; interlaken_damage_*; local: *; };' >old/exports
+  cc -shared -Wl,-soname,libinterlaken.so.1 -Wl,--version-script,old/exports -o old/libinterlaken.so.1 \
+    -Wl,--whole-archive library/lib/libinterlaken.a -Wl,--no-whole-archive &&
+    cc -std=c99 "${strict[@]}" -o of_old "$top/examples/c/receive.c" old/libinterlaken.so.1 &&
+    cc -std=c99 "${strict[@]}" -o of_new "$top/examples/c/receive.c" library/lib/libinterlaken.so
+  holds 'a program linked with 1.4.1, run with this library' "$(LD_LIBRARY_PATH=library/lib ./of_old damaged.plan damaged got 2>&1)" "$1"
+  holds 'a program linked with this library' "$(LD_LIBRARY_PATH=library/lib ./of_new damaged.plan damaged got 2>&1)" "$1"
+  holds 'a program linked with this library, run with that of 1.4.1' "$(LD_LIBRARY_PATH=old ./of_new damaged.plan damaged got 2>&1 | grep -c INTERLAKEN_1.4)" 1
+}
+
+# A checkout whose header and archive have a call more, of version 1.99: the call is of the newest node. One that lacks a call of 1.4,
+# and one with a call more of a version whose calls are listed, give no library.
+try_further_calls() {
+  local header=further/include/interlaken.h
+  mkdir further && cp -r "$top/tools" "$top/include" "$top/release" "$top/crates.txt" "$top/HANDLES" further && ln -s "$top/crates" "$top/examples" further
+  cp "$header" header.h
+  echo 'unsigned interlaken_further(void); unsigned interlaken_further(void) { return 7; }' >further.c
+  cc -fPIC -c further.c && cp "$archive" archive.a && chmod u+w archive.a && ar r archive.a further.o
+  cp -f archive.a further/release/libinterlaken-x86_64-linux.a
+  (cd further/release && sha256sum libinterlaken-x86_64-linux.a >libinterlaken-x86_64-linux.a.sha256)
+  sed 's/^#define INTERLAKEN_VERSION .*/#define INTERLAKEN_VERSION "1.99.0"/; s/^uint32_t interlaken_receiver_free/uint32_t interlaken_further(void);\n&/' header.h >"$header"
+  if ! further/tools/library further/made >further.txt 2>&1; then
+    # The release is not of these sources, so its archive is not taken.
+    echo "$name: not tried, the archive is not that of the release: a library with a call more"
+    return
+  fi
+  holds 'a call more' "$(nodes_of further/made/lib/libinterlaken.so | grep -v '1\.4$\|INTERLAKEN$' | grep further)" interlaken_further@@INTERLAKEN_1.99
+  holds 'the other calls beside it' "$(nodes_of further/made/lib/libinterlaken.so | grep -c '@@INTERLAKEN_1.4$')" 23
+  sed 's/^uint32_t interlaken_receiver_free/uint32_t interlaken_further(void);\n&/; s/^#define INTERLAKEN_VERSION .*/#define INTERLAKEN_VERSION "1.4.9"/' header.h >"$header"
+  holds 'a call more of a version that is listed' "$(further/tools/library further/again 2>&1)" \
+    'library: library_calls.txt has all calls of 1.4, and not interlaken_further: a further call raises the version'
+  cp header.h "$header"
+  objcopy -L interlaken_damage_dark archive.a further/release/libinterlaken-x86_64-linux.a
+  (cd further/release && sha256sum libinterlaken-x86_64-linux.a >libinterlaken-x86_64-linux.a.sha256)
+  holds 'an archive that lacks a call of 1.4' "$(further/tools/library further/again 2>&1 | grep -o 'interlaken_damage_dark\|the shared library is not linked' | sort -u)" \
+    $'interlaken_damage_dark\nthe shared library is not linked'
+}
+
+# The enums of the header, one a line: its name, and a name and a number in turn.
+enums_of() { # HEADER
+  tr '\n' ' ' <"$1" | sed -E 's:/\*([^*]|\*+[^*/])*\*+/::g' | grep -oE 'enum interlaken_[a-z_]+ \{[^}]*\}' |
+    sed -E 's/^enum //; s/[{},=]/ /g; s/ +/ /g; s/ $//'
+}
+
+# Each number of the header has a text; those that files have are theirs.
+try_texts() {
+  local line enum numbers
+  {
+    printf '%s\n' '#include "interlaken.h"' '#include "interlaken_text.h"' '#include <stdio.h>' 'int main(void) {'
+    enums_of "$include/interlaken.h" | while read -r enum line; do
+      grep -oE 'INTERLAKEN_[A-Z_0-9]+' <<<"$line" | sed "s/.*/  printf(\"$enum &: %s\\\\n\", ${enum}_text(&));/"
+      printf '  printf("%s ~: %%s\\n", %s_text(~0u));\n' "$enum" "$enum"
+    done
+    printf '%s\n' '  return 0;' '}'
+  } >texts.c
+  cc -std=c99 "${strict[@]}" -o texts texts.c || gives_up 'a number of the header has no text'
+  ./texts >texts.txt
+  numbers=$(grep -c '^  INTERLAKEN_[A-Z_]* = [0-9]' "$include/interlaken.h")
+  holds 'numbers with a line' "$(grep -vc ' ~: ' texts.txt)" "$numbers"
+  holds 'numbers without a text' "$(grep -v ' ~: ' texts.txt | grep ': \(unknown\)\?$')" ''
+  holds 'numbers that are none' "$(grep ' ~: ' texts.txt | grep -v ': unknown$')" ''
+  holds 'texts that two numbers of an enum have' "$(sed 's/ [^:]*:/:/' texts.txt | sort | uniq -d)" ''
+  holds 'names of drops' "$(sed -n 's/^interlaken_drop INTER.*: //p' texts.txt | tr '\n' ' ')" \
+    "$("$program" receive damaged.plan | sed -n 's/^dropped //p' | sed 's/=[0-9]*//g') "
+  holds 'names of faults' "$(sed -n 's/^interlaken_fault INTER.*: //p' texts.txt)" "$(names_below '| `why` |' "$top/docs/REFERENCE.md")"
+  # Of these the header may have no numbers yet.
+  printf '%s\n' '#include "interlaken_text.h"' '#include <stdio.h>' 'int main(void) {' \
+    '  for (uint32_t i = 1; i < 13; i++) puts(interlaken_lane_kind_text(i));' \
+    '  for (uint32_t i = 1; i < 20; i++) puts(interlaken_rule_text(i));' '  puts(interlaken_lane_kind_text(13)), puts(interlaken_rule_text(20));' \
+    '  for (uint32_t i = 1; i < 5; i++) puts(interlaken_word_kind_text(i));' '  return 0;' '}' >names.c
+  cc -std=c99 "${strict[@]}" -o names names.c
+  holds 'names of lane events, rules and kinds of words' "$(./names)" "$(
+    names_below '| event | is |' "$top/docs/REFERENCE.md"
+    names_below '| rule | of |' "$top/docs/DEFINITIONS.md"
+    printf '%s\n' unknown unknown data control bad unknown
+  )"
+  ! command -v c++ >/dev/null 2>&1 || c++ -std=c++98 "${strict[@]}" -Wno-long-long -x c++ -o texts_plus texts.c
+  ! command -v c++ >/dev/null 2>&1 || holds 'texts as C++' "$(./texts_plus)" "$(cat texts.txt)"
+}
+
+# The names of the first column of a table, below its heading.
+names_below() { # HEADING FILE
+  awk -v heading="$1" -F '|' 'index($0, heading) == 1 { inside = 1; next } inside && !/^\|/ { exit } inside && !/^\|---/ { print $2 }' "$2" |
+    grep -o '`[^`]*`' | tr -d '`'
+}
+
+# The programs of examples/c beside the commands.
+try_examples() {
+  local one rows
+  for one in transmit damage loop; do
+    cc -std=c99 "${strict[@]}" -o "$one" "$top/examples/c/$one.c" library/lib/libinterlaken.a || gives_up "examples/c/$one.c is not compiled"
+    holds "$one is short" "$(($(wc -l <"$top/examples/c/$one.c") < 150))" 1
+    holds "$one without words" "$("./$one" 2>&1 | grep -c '^usage: ') ${PIPESTATUS[0]}" '1 0'
+  done
+  for one in 'as it is' 'of other sizes'; do
+    sed 's/^out,.*/out,sent/; /^schedule,/d' "$top/examples/damaged.plan" >sent.plan
+    [ "$one" = 'as it is' ] || printf 'burst_max,128\nburst_short,32\nskips,3\n' >>sent.plan
+    wanted=$("$program" send sent.plan 2>&1)
+    holds "transmit, $one: lines" "$(./transmit sent.plan got 1 one.pcap 2 two.pcap 2>&1)" "$wanted"
+    holds "transmit, $one: lanes" "$(cat got.lane.0 got.lane.1 | cksum)" "$(cat sent.lane.0 sent.lane.1 | cksum)"
+  done
+  holds 'transmit of a channel that is not listed' "$(./transmit sent.plan got 3 one.pcap 2>&1)" 'one.pcap: the plan does not list the channel'
+  echo 'lanes,2' >refused.plan
+  holds 'transmit of a refused plan' "$(./transmit refused.plan got 2>&1)" 'refused.plan: missing metaframe'
+  rows=$'flip,0,9000\ndark,1,3000,500\n\nflip,1,40\nflip,0,9000\nflip,0,12001'
+  printf '%s\n' "$rows" >rows.schedule
+  sed 's/^out,.*/out,sent\nschedule,rows.schedule/' sent.plan >struck.plan
+  "$program" damage struck.plan >/dev/null || gives_up 'damage fails'
+  ./damage rows.schedule sent got 2
+  holds 'damage: lanes' "$? $(cat got.lane.0 got.lane.1 | cksum)" "0 $(cat sent.damaged.lane.0 sent.damaged.lane.1 | cksum)"
+  holds 'damage does something' "$(cmp -s got.lane.1 sent.lane.1 && echo nothing)" ''
+  echo 'skew,0,3' >rows.schedule
+  holds 'damage of a row that is neither' "$(./damage rows.schedule sent got 2 2>&1)" 'schedule: a row that is no flip and no dark stretch'
+  echo 'flip,0,17592186044416' >rows.schedule
+  holds 'damage of a bit out of range' "$(./damage rows.schedule sent got 2 2>&1)" 'flip: out of range'
+  # The far end gets what a receiver of the lanes gets.
+  sed "s/two.pcap/three.pcap/" sent.plan >long.plan
+  cp "$top/examples/three.pcap" . && "$program" link long.plan >linked.txt || gives_up 'link fails'
+  ./loop long.plan looped - 1 one.pcap 2 three.pcap >looped.txt
+  holds 'loop' "$? $(sed 's/ [0-9]* times/ times/' looped.txt)" "0 $(grep ^got linked.txt)"$'\nspans 2 far, 2 near\nturned off times'
+  holds 'loop: captures' "$(cat looped.1.pcap looped.2.pcap | cksum)" "$(cat sent.1.pcap sent.2.pcap | cksum)"
+  holds 'loop: a channel was turned off' "$(grep -c 'turned off [1-9]' looped.txt)" 1
+  ./loop long.plan looped 12000 1 one.pcap 2 three.pcap >looped.txt
+  holds 'loop with an inverted bit' "$? $(grep '^spans' looped.txt)" '0 spans 3 far, 3 near'
+}
+
+# All of the installed files, and that no other file is written over or removed.
+try_install() {
+  local prefix=$folder/prefix of_list wanted
+  INTERLAKEN_PROGRAM=$program "$top/tools/library" --install "$prefix" >installed.txt 2>&1
+  holds 'install' "$? $(cat installed.txt)" "0 $prefix"
+  wanted=$(printf '%s\n' bin/interlaken include/interlaken{,_alloc,_text}.h lib/libinterlaken.{a,so,so.1} lib/cmake/interlaken/interlaken-config{,-version}.cmake \
+    lib/pkgconfig/interlaken.pc share/bash-completion/completions/interlaken share/interlaken/installed share/man/man1/interlaken.1 \
+    share/man/man3/interlaken.3 | LC_ALL=C sort)
+  holds 'installed files' "$(cd "$prefix" && find . -type f -o -type l | cut -c 3- | LC_ALL=C sort)" "$wanted"
+  of_list=$(sed '/^#/d; /^folder /d; s/^[^ ]* //' "$prefix/share/interlaken/installed" | LC_ALL=C sort)
+  holds 'files of the list' "$of_list" "$(grep -v '^share/interlaken/' <<<"$wanted")"
+  holds 'the program that is installed' "$("$prefix/bin/interlaken" receive damaged.plan 2>&1)" "$("$program" receive damaged.plan 2>&1)"
+  holds 'the library that is installed' "$(cksum <"$prefix/lib/libinterlaken.a")" "$(cksum <library/lib/libinterlaken.a)"
+  cc -std=c99 "${strict[@]/#-I*/-I$prefix/include}" -o of_prefix "$top/examples/c/transmit.c" "-L$prefix/lib" "-Wl,-rpath,$prefix/lib" -linterlaken
+  holds 'a program of the installed library' "$(./of_prefix sent.plan got 1 one.pcap 2 two.pcap)" "$("$program" send sent.plan)"
+  INTERLAKEN_PROGRAM=$program "$top/tools/library" --install "$prefix" >installed.txt 2>&1
+  holds 'install once more' "$? $(cat installed.txt)" "0 $prefix"
+  try_foreign_files "$prefix"
+  try_pages "$prefix"
+  INTERLAKEN_PROGRAM=$program "$top/tools/library" --install "$prefix" >installed.txt 2>&1
+  echo mine >"$prefix/lib/mine"
+  "$top/tools/library" --uninstall "$prefix" >installed.txt 2>&1
+  holds 'uninstall' "$? $(cat installed.txt) $(cd "$prefix" && find . -type f)" '0  ./lib/mine'
+  holds 'uninstall once more' "$("$top/tools/library" --uninstall "$prefix" 2>&1)" "library: nothing is installed at $prefix"
+  holds 'words that are none' "$("$top/tools/library" --install 2>&1 | grep -c '^usage')$("$top/tools/library" --prefix a 2>&1 | grep -c '^usage')" 11
+}
+
+# Files of a user in the places of files that would be installed, and installed files that were changed, stay.
+try_foreign_files() { # PREFIX
+  local file before
+  for file in include/interlaken.h lib/libinterlaken.so share/man/man3/interlaken.3 share/interlaken/installed; do
+    rm -rf foreign && mkdir -p "foreign/$(dirname "$file")" && echo mine >"foreign/$file"
+    holds "a file of a user: $file" "$("$top/tools/library" --install foreign 2>&1 | grep -c "foreign/$file was not") $(cd foreign && find . -type f) $(cat "foreign/$file")" \
+      "1 ./$file mine"
+  done
+  rm -rf foreign && mkdir -p foreign/lib && ln -s /nowhere foreign/lib/libinterlaken.so
+  holds 'a link of a user' "$("$top/tools/library" --install foreign 2>&1 | grep -c 'libinterlaken.so was not') $(readlink foreign/lib/libinterlaken.so)" '1 /nowhere'
+  echo '/* mine */' >>"$1/include/interlaken.h"
+  before=$(cd "$1" && find . -type f -print0 | LC_ALL=C sort -z | xargs -0 sha256sum | sha256sum)
+  holds 'an installed file that was changed' "$("$top/tools/library" --install "$1" 2>&1)" \
+    "library: $1/include/interlaken.h was not installed by this tool, or has changed since: nothing is changed"
+  holds 'the other files then' "$(cd "$1" && find . -type f -print0 | LC_ALL=C sort -z | xargs -0 sha256sum | sha256sum)" "$before"
+  holds 'uninstall of a changed file' "$("$top/tools/library" --uninstall "$1" 2>&1; cd "$1" && find . -type f)" \
+    "library: $1/include/interlaken.h has changed since, and stays"$'\n./include/interlaken.h'
+  rm "$1/include/interlaken.h"
+  INTERLAKEN_PROGRAM=$program "$top/tools/library" --install "$1" >/dev/null 2>&1
+}
+
+# The pages of the manual, and the completion.
+try_pages() { # PREFIX
+  local page call
+  for page in 1 3; do
+    holds "the head of interlaken($page)" "$(head -n 1 "$1/share/man/man$page/interlaken.$page")" \
+      ".TH interlaken $page \"\" \"interlaken $(cat "$top/release/VERSION")\""
+    lacks groff groff 'the pages as groff reads them' ||
+      holds "what groff says of interlaken($page)" "$(groff -man -ww -z -Tutf8 "$1/share/man/man$page/interlaken.$page" 2>&1)" ''
+  done
+  # The header may declare a call without a line of its own for the result.
+  holds 'calls of interlaken(3)' "$(sed -n 's/^\.SS \(interlaken_[a-z_]*\)$/\1/p' "$1/share/man/man3/interlaken.3" | LC_ALL=C sort)" \
+    "$(grep -oE '^[a-z].*\binterlaken_[a-z_]+\(' "$include/interlaken.h" | grep -oE 'interlaken_[a-z_]+\(' | tr -d '(' | LC_ALL=C sort)"
+  holds 'commands of interlaken(1)' "$(grep -c '^\\fB[a-z]*\\fR \\fI' "$1/share/man/man1/interlaken.1")" "$(grep -vc '^#' "$top/tools/commands.txt")"
+  holds 'completion' "$(bash -c '
+    . "$1"
+    complete_one() { COMP_WORDS=("$@") COMP_CWORD=$(($# - 1)); _interlaken; echo "${COMPREPLY[@]}"; }
+    complete_one interlaken rec
+    complete_one interlaken ""
+    complete_one interlaken generate damaged.pl
+    complete_one interlaken receive damaged.pl' bash "$1/share/bash-completion/completions/interlaken")" \
+    "receive"$'\n'"$(grep -v '^#' "$top/tools/commands.txt" | cut -d '|' -f 1 | tr '\n' ' ' | sed 's/ $//')"$'\n\ndamaged.plan'
+  # The program knows each command that the pages have.
+  while IFS='|' read -r call _; do
+    [ "$call" = generate ] || holds "the program's command $call" "$("$1/bin/interlaken" "$call" absent.file 2>&1 | grep -c '^usage')" 0
+  done < <(grep -v '^#' "$top/tools/commands.txt")
+}
