@@ -106,6 +106,7 @@ done
 try_versions "$("$program" receive damaged.plan 2>&1)"
 try_further_calls
 try_texts
+try_promises
 try_examples
 try_install
 printed=$(

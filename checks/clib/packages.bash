@@ -111,6 +111,20 @@ names_below() { # HEADING FILE
     grep -o '`[^`]*`' | tr -d '`'
 }
 
+# What the header says besides results; the threads once more where cc has their sanitizer.
+try_promises() {
+  local version
+  version=$(sed -n 's/^#define INTERLAKEN_VERSION_[A-Z]* //p' "$include/interlaken.h" | tr '\n' .)
+  holds 'the numbers of the version' "${version%.}" "$(cat "$top/release/VERSION")"
+  cc -std=c99 "${strict[@]}" -o promises "$top/checks/clib/promises.c" library/lib/libinterlaken.a -lpthread || gives_up 'promises.c is not compiled'
+  holds 'promises of the header' "$(./promises damaged.plan damaged.lane.0 damaged.lane.1 | sed 's/^[0-9]* tried, //')" '0 wrong'
+  if cc -std=c99 "${strict[@]}" -fsanitize=thread -o raced "$top/checks/clib/promises.c" library/lib/libinterlaken.a -lpthread 2>/dev/null; then
+    holds 'promises, as the sanitizer of threads sees the calls' "$(./raced damaged.plan damaged.lane.0 damaged.lane.1 2>&1 | sed 's/^[0-9]* tried, //')" '0 wrong'
+  else
+    echo "$name: not tried, no sanitizer of threads of cc (Debian package gcc): handles that pass between threads"
+  fi
+}
+
 # The programs of examples/c beside the commands.
 try_examples() {
   local one rows
