@@ -156,7 +156,8 @@ try_examples() {
   holds 'damage of a bit out of range' "$(./damage rows.schedule sent got 2 2>&1)" 'flip: out of range'
   # The far end gets what a receiver of the lanes gets.
   sed "s/two.pcap/three.pcap/" sent.plan >long.plan
-  cp "$top/examples/three.pcap" . && "$program" link long.plan >linked.txt || gives_up 'link fails'
+  cp "$top/examples/three.pcap" .
+  "$program" link long.plan >linked.txt || gives_up 'link fails'
   ./loop long.plan looped - 1 one.pcap 2 three.pcap >looped.txt
   holds 'loop' "$? $(sed 's/ [0-9]* times/ times/' looped.txt)" "0 $(grep ^got linked.txt)"$'\nspans 2 far, 2 near\nturned off times'
   holds 'loop: captures' "$(cat looped.1.pcap looped.2.pcap | cksum)" "$(cat sent.1.pcap sent.2.pcap | cksum)"
@@ -238,4 +239,61 @@ try_pages() { # PREFIX
   while IFS='|' read -r call _; do
     [ "$call" = generate ] || holds "the program's command $call" "$("$1/bin/interlaken" "$call" absent.file 2>&1 | grep -c '^usage')" 0
   done < <(grep -v '^#' "$top/tools/commands.txt")
+}
+
+# The package of Python: the wheel that its backend writes, what pip installs of the checkout without a network, and what it raises.
+try_package() {
+  ! lacks python3 python3 'the package of Python' || return 0
+  local python=$top/examples/python
+  mkdir wheel site
+  (cd "$python" && python3 -B -c 'import building, sys; print(building.build_wheel(sys.argv[1])); building.build_editable(sys.argv[2])' \
+    "$folder/wheel" "$folder/site") >wheel.txt
+  holds 'the wheel' "$(cat wheel.txt)" "interlaken-$(cat "$top/release/VERSION")-py3-none-any.whl"
+  holds 'files of the wheel' "$(python3 -c 'import sys, zipfile; print(*zipfile.ZipFile(sys.argv[1]).namelist(), sep="\n")' wheel/*.whl)" \
+    "$(cd "$python" && printf '%s\n' interlaken/*.py interlaken/*.typed "interlaken-$(cat "$top/release/VERSION").dist-info"/{METADATA,WHEEL,RECORD})"
+  holds 'packets by the wheel' "$(cp "$python/packets.py" . && PYTHONPATH=$(echo wheel/*.whl) python3 -B packets.py library/lib/libinterlaken.so damaged.plan damaged.lane.0 damaged.lane.1 | cksum)" \
+    "$(python3 -B "$python/packets.py" library/lib/libinterlaken.so damaged.plan damaged.lane.0 damaged.lane.1 | cksum)"
+  if python3 -m pip --version >/dev/null 2>&1; then
+    rm -rf site
+    python3 -m pip install --no-index --no-deps --quiet --disable-pip-version-check --target site "$python" >pip.txt 2>&1
+    holds 'pip install' "$? $(cd site/interlaken && printf '%s ' *.*)" '0 __init__.py py.typed '
+    holds 'the installed package' "$(PYTHONPATH=site python3 -B -c 'import interlaken, importlib.metadata as m; print(interlaken.__file__, m.version("interlaken"))')" \
+      "$folder/site/interlaken/__init__.py $(cat "$top/release/VERSION")"
+  else
+    echo "$name: not tried, no pip (Debian package python3-pip): pip install examples/python"
+  fi
+  holds 'what take_all raises, and numbers of a later version' "$(python3 -B -c '
+import sys
+sys.path.insert(0, sys.argv[1])
+import interlaken as i
+plan = open("sent.plan", "rb").read()
+with i.Transmitter(plan, "library/lib/libinterlaken.so") as near:
+    def tried(lanes):
+        try:
+            print(*map(len, near.take_all(lanes)))
+        except (ValueError, i.Misuse) as error:
+            print(error)
+    near.packet(1, b"a" * 90)
+    tried(2)
+    near.finish()
+    tried(1)
+    tried(3)
+    tried(0)
+    tried(2)
+    near.close()
+    tried(2)
+print(i.Drop(9).name, int(i.Drop(9)), i.Result(99).name, i.Fault(0).name)
+' "$python")" "$(
+    printf '%s\n' 'the transmitter is not finished' 'the plan does not have 1 lanes' 'the plan does not have 3 lanes' 'the plan does not have 0 lanes'
+    sed '/^channel/d; s/^out,.*/out,one/' sent.plan >one.plan && packet_of_90 >ninety.pcap && echo 'channel,1,ninety.pcap' >>one.plan
+    sed -n '/^channel,2/s/,[^,]*$//p' sent.plan >>one.plan && "$program" send one.plan >/dev/null
+    echo "$(wc -c <one.lane.0) $(wc -c <one.lane.1)"
+    printf '%s\n' NO_TRANSMITTER 'UNKNOWN 9 UNKNOWN START'
+  )"
+}
+
+# A capture of one packet of 90 letters.
+packet_of_90() {
+  printf '\324\303\262\241\2\0\4\0\0\0\0\0\0\0\0\0\0\0\4\0\1\0\0\0\0\0\0\0\0\0\0\0\132\0\0\0\132\0\0\0'
+  printf 'a%.0s' $(seq 90)
 }

@@ -18,8 +18,9 @@ Where lanes go live, call `take` for each in turn, and `packet`, `flow` and `loc
         damage.flip(0, 12345)
         damaged = damage.apply(0, data)
 
-It calls the C library that tools/library makes. A call that is misused raises Misuse, and changes nothing; a plan that is refused
-raises BadPlan, with the row and the cause. A Receiver takes one call at a time, and so do a Transmitter and a Damage. It needs Python 3.10.
+It calls the C library that tools/library makes; `library` is its path, or its name if the system finds it by that. A call that is misused
+raises Misuse, and changes nothing; a plan that is refused raises BadPlan, with the row and the cause. Each of the three takes one call at a
+time. Numbers of a later version of the library have the name UNKNOWN. It needs Python 3.10.
 """
 
 from __future__ import annotations
@@ -31,7 +32,19 @@ from dataclasses import dataclass
 from typing import Iterator, Optional, Sequence, TypeVar
 
 
-class Result(enum.IntEnum):
+class _Number(enum.IntEnum):
+    """Numbers of interlaken.h. One that is not among them, as of a later version of the library, has the name UNKNOWN."""
+
+    @classmethod
+    def _missing_(cls, value: object) -> Optional["_Number"]:
+        if not isinstance(value, int):
+            return None
+        number = int.__new__(cls, value)
+        number._name_, number._value_ = "UNKNOWN", value
+        return number
+
+
+class Result(_Number):
     """The results of calls, as in interlaken.h."""
 
     DONE = 0
@@ -51,7 +64,7 @@ class Result(enum.IntEnum):
     BAD_LENGTH = 14
 
 
-class Cause(enum.IntEnum):
+class Cause(_Number):
     """Why a plan is refused."""
 
     NO_CAUSE = 0
@@ -65,7 +78,7 @@ class Cause(enum.IntEnum):
     CLASH = 8
 
 
-class Key(enum.IntEnum):
+class Key(_Number):
     """A key that a plan must have."""
 
     NO_KEY = 0
@@ -75,7 +88,7 @@ class Key(enum.IntEnum):
     OUT = 4
 
 
-class Kind(enum.IntEnum):
+class Kind(_Number):
     """Kinds of events."""
 
     NONE = 0
@@ -86,7 +99,7 @@ class Kind(enum.IntEnum):
     ENDED = 5
 
 
-class Drop(enum.IntEnum):
+class Drop(_Number):
     """Why a piece of a packet is dropped."""
 
     BAD = 0
@@ -99,7 +112,7 @@ class Drop(enum.IntEnum):
     SENDER_ERROR = 7
 
 
-class Fault(enum.IntEnum):
+class Fault(_Number):
     """What a fault span is for."""
 
     START = 0
@@ -110,7 +123,7 @@ class Fault(enum.IntEnum):
     END = 5
 
 
-class LaneState(enum.IntEnum):
+class LaneState(_Number):
     """How far the search for the locks of a lane is."""
 
     SEARCHING = 0
@@ -222,8 +235,11 @@ class _Refusal(ctypes.Structure):
 class _Place(ctypes.Structure):
     _fields_ = [("known", ctypes.c_uint32), ("index", ctypes.c_uint32), ("group", ctypes.c_uint64)]
 
+    def place(self) -> Place:
+        return Place(self.group, self.index)
+
     def value(self) -> Optional[Place]:
-        return Place(self.group, self.index) if self.known else None
+        return self.place() if self.known else None
 
 
 class _Event(ctypes.Structure):
@@ -374,18 +390,23 @@ class Receiver(_OfPlan):
         self._call("finish", _lane(lane))
 
     def next(self) -> Optional[Event]:
-        """The next event; None where there is none so far, and after the end."""
+        """The next event; None where there is none so far, and after the end. Events of kinds that are not known here are passed over. An
+        event comes once each lane that is not finished has been fed up to the byte that shows it."""
         event = _Event()
         self._call("next", event)
-        first, last = event.first.value(), event.last.value()
+        while event.kind > Kind.ENDED:
+            self._call("next", event)
+        return self._event(event)
+
+    def _event(self, event: _Event) -> Optional[Event]:
         if event.kind == Kind.PACKET:
-            return Packet(event.channel, self._packet(event.length), first, last)
+            return Packet(event.channel, self._packet(event.length), event.first.place(), event.last.place())
         if event.kind == Kind.DROPPED:
             return Dropped(event.channel, Drop(event.why))
         if event.kind == Kind.SPAN:
-            return Span(first, last, Fault(event.why))
+            return Span(event.first.value(), event.last.value(), Fault(event.why))
         if event.kind == Kind.FLOW:
-            return Flow(first, event.word)
+            return Flow(event.first.place(), event.word)
         return Ended() if event.kind == Kind.ENDED else None
 
     def _packet(self, length: int) -> bytes:
@@ -446,6 +467,7 @@ class Transmitter(_OfPlan):
     def __init__(self, plan: bytes, library: str = "libinterlaken.so"):
         """`plan` is the text of a plan file, and `library` the path of the shared library."""
         super().__init__(plan, library, "interlaken_transmitter_", _TRANSMITTER_CALLS)
+        self._finished = False
 
     def packet(self, channel: int, data: bytes) -> None:
         """Gives a packet of 1 to 262,144 bytes to be sent on a channel that the plan lists."""
@@ -461,7 +483,8 @@ class Transmitter(_OfPlan):
         self._call("local", _channel(channel), on)
 
     def take(self, lane: int, count: int) -> bytes:
-        """The next bytes of a lane, at most so many: fewer where another lane has too many that were not taken, none after the end."""
+        """The next bytes of a lane, at most so many: fewer where 4,088 bytes of another lane wait, or where more than 4,088 are asked for;
+        none after the end."""
         data, taken = ctypes.create_string_buffer(max(_within(count, 63, "count"), 1)), _size()
         self._call("take", _lane(lane), data, count, taken)
         return data.raw[: taken.value]
@@ -469,6 +492,7 @@ class Transmitter(_OfPlan):
     def finish(self) -> None:
         """No further packet and no further row comes: what may be sent is sent, and then the lanes end."""
         self._call("finish")
+        self._finished = True
 
     def sent(self, channel: int) -> Counts:
         """What was given on a channel that the plan lists, and what was sent of it."""
@@ -482,8 +506,20 @@ class Transmitter(_OfPlan):
         self._call("slots", slots)
         return slots.value
 
+    def _has_lane(self, lane: int) -> bool:
+        data, taken = ctypes.create_string_buffer(1), _size()
+        result = self._result("take", _lane(lane), data, 0, taken)
+        if result is not Result.NO_LANE:
+            self._check(result)
+        return result is Result.DONE
+
     def take_all(self, lanes: int) -> list[bytes]:
-        """The bytes of all lanes of a transmitter that was finished, from what was taken of them on to their ends."""
+        """The bytes of all lanes of a transmitter that was finished, from what was taken of them on to their ends. It raises ValueError
+        where it was not finished, so that its lanes have no end, and where the plan has another number of lanes."""
+        if not self._finished:
+            raise ValueError("the transmitter is not finished")
+        if self._has_lane(lanes) or lanes > 0 and not self._has_lane(lanes - 1):
+            raise ValueError("the plan does not have %d lanes" % lanes)
         taken = [bytearray() for _ in range(lanes)]
         while True:
             pieces = [self.take(lane, 2048) for lane in range(lanes)]
