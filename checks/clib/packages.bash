@@ -21,8 +21,9 @@ try_versions() {
   holds 'nodes of the shared library' "$(nodes_of library/lib/libinterlaken.so)" "$(
     {
       printf '%s@INTERLAKEN\n' $calls
-      printf '%s@@INTERLAKEN_1.4\n' $calls
-      grep -oE '^[a-z].*\binterlaken_[a-z_]+\(' "$include/interlaken.h" | grep -oE 'interlaken_[a-z_]+' | grep -vxF "$calls" | sed "s/$/@@INTERLAKEN_$minor/"
+      sed -n 's/^\([0-9.]*\) \(.*\)$/\2@@INTERLAKEN_\1/p' "$top/tools/library_calls.txt"
+      grep -oE '^[a-z].*\binterlaken_[a-z_]+\(' "$include/interlaken.h" | grep -oE 'interlaken_[a-z_]+' |
+        grep -vxFf <(sed 's/.* //' "$top/tools/library_calls.txt") | sed "s/$/@@INTERLAKEN_$minor/"
     } | LC_ALL=C sort
   )"
   mkdir old && echo 'INTERLAKEN { global: interlaken_receiver_*; interlaken_transmitter_*; interlaken_damage_*; local: *; };' >old/exports
@@ -39,18 +40,21 @@ try_versions() {
 # and one with a call more of a version whose calls are listed, give no library.
 try_further_calls() {
   local header=further/include/interlaken.h
+  # tools/library takes the archive of a release on such a machine alone, and otherwise has one built.
+  if [ "$(uname -sm)" != 'Linux x86_64' ]; then
+    echo "$name: not tried, this is not Linux on x86-64: a library with a call more"
+    return
+  fi
   mkdir further && cp -r "$top/tools" "$top/include" "$top/release" "$top/crates.txt" "$top/HANDLES" further && ln -s "$top/crates" "$top/examples" further
   cp "$header" header.h
   echo 'unsigned interlaken_further(void); unsigned interlaken_further(void) { return 7; }' >further.c
   cc -fPIC -c further.c && cp "$archive" archive.a && chmod u+w archive.a && ar r archive.a further.o
+  # The copied crates.txt is younger than an archive that was built in the checkout, so that is not taken.
+  sum_of_sources further interlaken_c >further/release/library_sources.sha256
   cp -f archive.a further/release/libinterlaken-x86_64-linux.a
   (cd further/release && sha256sum libinterlaken-x86_64-linux.a >libinterlaken-x86_64-linux.a.sha256)
   sed 's/^#define INTERLAKEN_VERSION .*/#define INTERLAKEN_VERSION "1.99.0"/; s/^uint32_t interlaken_receiver_free/uint32_t interlaken_further(void);\n&/' header.h >"$header"
-  if ! further/tools/library further/made >further.txt 2>&1; then
-    # The release is not of these sources, so its archive is not taken.
-    echo "$name: not tried, the archive is not that of the release: a library with a call more"
-    return
-  fi
+  further/tools/library further/made >further.txt 2>&1 || { cat further.txt; gives_up 'a library with a call more is not made'; }
   holds 'a call more' "$(nodes_of further/made/lib/libinterlaken.so | grep -v '1\.4$\|INTERLAKEN$' | grep further)" interlaken_further@@INTERLAKEN_1.99
   holds 'the other calls beside it' "$(nodes_of further/made/lib/libinterlaken.so | grep -c '@@INTERLAKEN_1.4$')" 23
   sed 's/^uint32_t interlaken_receiver_free/uint32_t interlaken_further(void);\n&/; s/^#define INTERLAKEN_VERSION .*/#define INTERLAKEN_VERSION "1.4.9"/' header.h >"$header"
