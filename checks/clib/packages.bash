@@ -187,6 +187,7 @@ try_install() {
   holds 'a program of the installed library' "$(./of_prefix sent.plan got 1 one.pcap 2 two.pcap)" "$("$program" send sent.plan)"
   INTERLAKEN_PROGRAM=$program "$top/tools/library" --install "$prefix" >installed.txt 2>&1
   holds 'install once more' "$? $(cat installed.txt)" "0 $prefix"
+  try_found "$prefix"
   try_foreign_files "$prefix"
   try_pages "$prefix"
   INTERLAKEN_PROGRAM=$program "$top/tools/library" --install "$prefix" >installed.txt 2>&1
@@ -195,6 +196,38 @@ try_install() {
   holds 'uninstall' "$? $(cat installed.txt) $(cd "$prefix" && find . -type f)" '0  ./lib/mine'
   holds 'uninstall once more' "$("$top/tools/library" --uninstall "$prefix" 2>&1)" "library: nothing is installed at $prefix"
   holds 'words that are none' "$("$top/tools/library" --install 2>&1 | grep -c '^usage')$("$top/tools/library" --prefix a 2>&1 | grep -c '^usage')" 11
+}
+
+# What CMake and pkg-config say of the installed library: it serves who wants its own major number, and no later version.
+try_found() { # PREFIX
+  local version
+  version=$(cat "$top/release/VERSION")
+  if ! lacks cmake cmake 'versions that CMake accepts'; then
+    mkdir versions && cat >versions/CMakeLists.txt <<END
+cmake_minimum_required(VERSION 3.10)
+project(versions NONE)
+foreach(version 1.0 1.4 $version ${version%.*}.99 1.99 2.0 0.9)
+  unset(interlaken_DIR CACHE)
+  find_package(interlaken \${version} QUIET)
+  message("\${version} \${interlaken_FOUND}")
+endforeach()
+foreach(version $version 1.0)
+  unset(interlaken_DIR CACHE)
+  find_package(interlaken \${version} EXACT QUIET)
+  message("\${version} \${interlaken_FOUND}")
+endforeach()
+END
+    holds 'versions that CMake accepts' "$(cd versions && cmake -DCMAKE_PREFIX_PATH="$1" . 2>&1 | grep '^[0-9.]* [01]$')" \
+      "$(printf '%s\n' '1.0 1' '1.4 1' "$version 1" "${version%.*}.99 0" '1.99 0' '2.0 0' '0.9 0' "$version 1" '1.0 0')"
+  fi
+  if ! lacks pkg-config pkg-config 'the words of pkg-config'; then
+    holds 'the words of pkg-config' "$(
+      export PKG_CONFIG_PATH=$1/lib/pkgconfig
+      pkg-config --modversion interlaken && pkg-config --libs interlaken | grep -o -e '-linterlaken'
+      pkg-config --atleast-version 2 interlaken
+      echo $?
+    )" "$version"$'\n-linterlaken\n1'
+  fi
 }
 
 # Files of a user in the places of files that would be installed, and installed files that were changed, stay.
