@@ -163,9 +163,9 @@ try_examples() {
   cp "$top/examples/three.pcap" .
   "$program" link long.plan >linked.txt || gives_up 'link fails'
   ./loop long.plan looped - 1 one.pcap 2 three.pcap >looped.txt
-  holds 'loop' "$? $(sed 's/ [0-9]* times/ times/' looped.txt)" "0 $(grep ^got linked.txt)"$'\nspans 2 far, 2 near\nturned off times'
+  # One packet of the five is on its way when its channel is turned off. Were nothing heard, three would come while it is off.
+  holds 'loop' "$? $(cat looped.txt)" "0 $(grep ^got linked.txt)"$'\nspans 2 far, 2 near\nturned off 4 times'
   holds 'loop: captures' "$(cat looped.1.pcap looped.2.pcap | cksum)" "$(cat sent.1.pcap sent.2.pcap | cksum)"
-  holds 'loop: a channel was turned off' "$(grep -c 'turned off [1-9]' looped.txt)" 1
   ./loop long.plan looped 12000 1 one.pcap 2 three.pcap >looped.txt
   holds 'loop with an inverted bit' "$? $(grep '^spans' looped.txt)" '0 spans 3 far, 3 near'
 }
