@@ -109,6 +109,7 @@ try_texts
 try_promises
 try_examples
 try_package
+try_bits
 try_install
 printed=$(
   printf '%s\n' 'span start' 'span crc' "packet channel=1 $(hex_of wanted/damaged.1.pcap)" "packet channel=2 $(hex_of wanted/damaged.2.pcap)" 'span end'

@@ -372,21 +372,76 @@ def _channel(number: int) -> int:
     return _within(number, 16, "channel number")
 
 
+@dataclass
+class _Bits:
+    """Bits of a lane that wait: the `count` lowest of a number, the highest of them first."""
+
+    value: int = 0
+    count: int = 0
+
+    def put(self, bits: int, count: int) -> None:
+        """Adds bits at the end."""
+        self.value, self.count = self.value << count | bits, self.count + count
+
+    def whole_bytes(self) -> bytes:
+        """The first of them, as far as they fill bytes."""
+        return (self.value >> self.count % 8).to_bytes(self.count // 8, "big")
+
+    def drop(self, count: int) -> int:
+        """Takes the first `count` away, and gives their number."""
+        self.count -= count
+        first = self.value >> self.count
+        self.value &= (1 << self.count) - 1
+        return first
+
+
 class Receiver(_OfPlan):
     """A receiver of the lanes of a plan. As a context manager it is closed at the end."""
 
     def __init__(self, plan: bytes, library: str = "libinterlaken.so"):
         """`plan` is the text of a plan file, and `library` the path of the shared library."""
         super().__init__(plan, library, "interlaken_receiver_", _RECEIVER_CALLS)
+        self._bits: dict[int, _Bits] = {}
 
     def feed(self, lane: int, data: bytes) -> int:
-        """Feeds a lane with the next of its bytes, as many as its ring of 4,096 bytes has room for, and returns how many."""
+        """Feeds a lane with the next of its bytes, as many as its ring of 4,096 bytes has room for, and returns how many. It raises
+        ValueError where bits of `feed_bits` wait."""
+        if lane in self._bits and self._bits[lane].count > 0:
+            raise ValueError("bits of lane %d wait" % lane)
+        return self._feed(lane, data)
+
+    def _feed(self, lane: int, data: bytes) -> int:
         taken = _size()
         self._call("feed", _lane(lane), data, len(data), taken)
         return taken.value
 
+    def feed_bits(self, lane: int, bits: int, count: int) -> bool:
+        """Feeds a lane with its next `count` bits: those of a number, the highest first. The receiver works in bytes, so up to seven bits
+        wait for the next. False where the ring of the lane has no room: then nothing was taken; take events and feed these again."""
+        _within(bits, _within(count, 63, "count"), "number of %d bits" % count)
+        self._feed(lane, b"")  # what is misused raises before bits are kept
+        waiting = self._bits.setdefault(lane, _Bits())
+        if not self._push(lane, waiting):
+            return False
+        waiting.put(bits, count)
+        self._push(lane, waiting)
+        return True
+
+    def _push(self, lane: int, waiting: _Bits) -> bool:
+        """Feeds the whole bytes that wait: whether all were taken."""
+        if waiting.count >= 8:
+            waiting.drop(8 * self._feed(lane, waiting.whole_bytes()))
+        return waiting.count < 8
+
     def finish(self, lane: int) -> None:
-        """No further byte of this lane comes."""
+        """No further byte of this lane comes. Bits that wait are filled up with zeros; where there is no room for them it raises ValueError,
+        and the lane is not finished: take events first."""
+        waiting = self._bits.get(lane, _Bits())
+        if waiting.count > 0 and not self._push(lane, waiting):
+            raise ValueError("bytes of lane %d wait" % lane)
+        if waiting.count > 0 and self._feed(lane, bytes([waiting.value << 8 - waiting.count])) != 1:
+            raise ValueError("bits of lane %d wait" % lane)
+        waiting.drop(waiting.count)
         self._call("finish", _lane(lane))
 
     def next(self) -> Optional[Event]:
@@ -468,6 +523,7 @@ class Transmitter(_OfPlan):
         """`plan` is the text of a plan file, and `library` the path of the shared library."""
         super().__init__(plan, library, "interlaken_transmitter_", _TRANSMITTER_CALLS)
         self._finished = False
+        self._bits: dict[int, _Bits] = {}
 
     def packet(self, channel: int, data: bytes) -> None:
         """Gives a packet of 1 to 262,144 bytes to be sent on a channel that the plan lists."""
@@ -484,10 +540,25 @@ class Transmitter(_OfPlan):
 
     def take(self, lane: int, count: int) -> bytes:
         """The next bytes of a lane, at most so many: fewer where 4,088 bytes of another lane wait, or where more than 4,088 are asked for;
-        none after the end."""
+        none after the end. It raises ValueError where bits of `take_bits` wait."""
+        if lane in self._bits and self._bits[lane].count > 0:
+            raise ValueError("bits of lane %d wait" % lane)
+        return self._take(lane, count)
+
+    def _take(self, lane: int, count: int) -> bytes:
         data, taken = ctypes.create_string_buffer(max(_within(count, 63, "count"), 1)), _size()
         self._call("take", _lane(lane), data, count, taken)
         return data.raw[: taken.value]
+
+    def take_bits(self, lane: int, count: int) -> Optional[int]:
+        """The next `count` bits of a lane as a number, the first highest. None where there are not so many, as after the end: then none was
+        taken. What is left of a byte waits for the next call."""
+        _within(count, 63, "count")
+        self._take(lane, 0)
+        waiting = self._bits.setdefault(lane, _Bits())
+        for byte in self._take(lane, max(count - waiting.count + 7, 0) // 8):
+            waiting.put(byte, 8)
+        return waiting.drop(count) if waiting.count >= count else None
 
     def finish(self) -> None:
         """No further packet and no further row comes: what may be sent is sent, and then the lanes end."""
