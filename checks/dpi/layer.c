@@ -213,6 +213,7 @@ static void try_no_transmitter(void *transmitter) {
   want("sent of none", interlaken_dpi_sent(transmitter, 1, &n[0], &n[1], &n[2], &n[3]), NO_TRANSMITTER);
   want("sent of none, a number that is none", interlaken_dpi_sent(transmitter, 65536, &n[0], &n[1], &n[2], &n[3]), NO_TRANSMITTER);
   free(none.bytes);
+  want("take_bits of none", interlaken_dpi_take_bits(transmitter, 0, 1, &slots), NO_TRANSMITTER);
   want("slots of none", interlaken_dpi_slots(transmitter, &slots), NO_TRANSMITTER);
   want("finish of no transmitter", interlaken_dpi_finish_packets(transmitter), NO_TRANSMITTER);
 }
@@ -242,6 +243,7 @@ static void want_sent(void *transmitter, unsigned channel, int wanted, unsigned 
 }
 
 static void try_wrong_packets(void *transmitter, unsigned count) {
+  unsigned long long bits;
   unsigned char byte;
   unsigned i;
   give_packet(transmitter, 1, 0, BAD_LENGTH);
@@ -252,17 +254,29 @@ static void try_wrong_packets(void *transmitter, unsigned count) {
   want("send_packet on no channel", interlaken_dpi_send_packet(transmitter, 3), NO_CHANNEL);
   want("local of a number that is none", interlaken_dpi_local(transmitter, 65537, 0), NO_CHANNEL);
   want("take_byte of no lane", interlaken_dpi_take_byte(transmitter, count, &byte), NO_LANE);
+  want("take_bits of no lane", interlaken_dpi_take_bits(transmitter, count, 0, &bits), NO_LANE);
+  want("take_bits of 65", interlaken_dpi_take_bits(transmitter, 0, 65, &bits), TOO_MANY);
+  want("take_bits of none", interlaken_dpi_take_bits(transmitter, 0, 0, &bits), DONE);
 }
 
-/* The bytes of a lane to the receiver, at most so many; 1 where one came. */
+/* The bits of a lane to the receiver, so many bytes at most, in pieces of any bits; 1 where some came. */
 static int pass(void *transmitter, void *receiver, unsigned lane, unsigned most) {
+  unsigned long long bits;
   unsigned char byte;
-  unsigned i;
-  for (i = 0; i < most; i++) {
-    int result = interlaken_dpi_take_byte(transmitter, lane, &byte);
-    if (result != DONE) want("take_byte", result, NO_ROOM);
+  unsigned i, count;
+  for (i = 0; i < 8 * most; i += count) {
+    int result;
+    count = below(4) == 0 ? 8 : 1 + below(most < 2000 ? 64 : 3);
+    if (count == 8) {
+      result = interlaken_dpi_take_byte(transmitter, lane, &byte);
+      bits = byte;
+    } else {
+      result = interlaken_dpi_take_bits(transmitter, lane, count, &bits);
+    }
+    if (result != DONE) want("take_bits", result, NO_ROOM);
+    if (result != DONE) want("bits that are none", bits == 0, 1);
     if (result != DONE) break;
-    want("feed", interlaken_dpi_feed(receiver, lane, byte, 8), DONE);
+    want("feed", interlaken_dpi_feed(receiver, lane, bits, count), DONE);
   }
   return i > 0;
 }

@@ -32,9 +32,16 @@ struct live {
 
 static struct live *all; /* the handles of this simulation */
 
+/* Bytes of a lane that were taken, and not all passed on: of the first, so many bits were. */
+struct ahead {
+  uint8_t bytes[9];
+  unsigned count, passed;
+};
+
 /* A transmitter, and the bytes of the packet that is put together for it. */
 struct drive {
   interlaken_transmitter transmitter;
+  struct ahead lanes[LANES];
   uint8_t *packet;
   uint32_t length;
   struct drive *other;
@@ -78,6 +85,7 @@ int interlaken_dpi_sent(void *transmitter, unsigned int channel, unsigned long l
 int interlaken_dpi_flow(void *transmitter, unsigned long long word);
 int interlaken_dpi_local(void *transmitter, unsigned int channel, unsigned int on);
 int interlaken_dpi_take_byte(void *transmitter, unsigned int lane, unsigned char *value);
+int interlaken_dpi_take_bits(void *transmitter, unsigned int lane, unsigned int count, unsigned long long *bits);
 int interlaken_dpi_slots(void *transmitter, unsigned long long *slots);
 int interlaken_dpi_finish_packets(void *transmitter);
 
@@ -378,12 +386,34 @@ int interlaken_dpi_local(void *transmitter, unsigned int channel, unsigned int o
 }
 
 int interlaken_dpi_take_byte(void *transmitter, unsigned int lane, unsigned char *value) {
+  unsigned long long bits;
+  int result = interlaken_dpi_take_bits(transmitter, lane, 8, &bits);
+  *value = (unsigned char)bits;
+  return result;
+}
+
+int interlaken_dpi_take_bits(void *transmitter, unsigned int number, unsigned int count, unsigned long long *bits) {
   struct drive *drive = (struct drive *)transmitter;
+  struct ahead *lane;
+  uint8_t none;
   size_t taken = 0;
   uint32_t result = INTERLAKEN_NO_TRANSMITTER;
-  *value = 0;
-  if (drive != NULL) result = interlaken_transmitter_take(&drive->transmitter, lane, value, 1, &taken);
-  return result == INTERLAKEN_DONE && taken == 0 ? NO_ROOM : (int)result;
+  *bits = 0;
+  if (drive != NULL) result = interlaken_transmitter_take(&drive->transmitter, number, &none, 0, &taken);
+  if (result != INTERLAKEN_DONE) return (int)result;
+  if (count > 64) return INTERLAKEN_TOO_MANY;
+  lane = &drive->lanes[number];
+  if (lane->passed + count > 8 * lane->count) {
+    size_t bytes = (lane->passed + count + 7) / 8 - lane->count;
+    result = interlaken_transmitter_take(&drive->transmitter, number, lane->bytes + lane->count, bytes, &taken);
+    lane->count += (unsigned)taken;
+  }
+  if (result != INTERLAKEN_DONE || lane->passed + count > 8 * lane->count) return result != INTERLAKEN_DONE ? (int)result : NO_ROOM;
+  for (; count > 0; count--, lane->passed++) *bits = *bits << 1 | (unsigned)(lane->bytes[lane->passed / 8] >> (7 - lane->passed % 8) & 1);
+  lane->count -= lane->passed / 8;
+  memmove(lane->bytes, lane->bytes + lane->passed / 8, lane->count);
+  lane->passed %= 8;
+  return INTERLAKEN_DONE;
 }
 
 int interlaken_dpi_slots(void *transmitter, unsigned long long *slots) {
