@@ -189,6 +189,7 @@ try_install() {
   holds 'install once more' "$? $(cat installed.txt)" "0 $prefix"
   try_found "$prefix"
   try_foreign_files "$prefix"
+  try_cut_off
   try_pages "$prefix"
   INTERLAKEN_PROGRAM=$program "$top/tools/library" --install "$prefix" >installed.txt 2>&1
   echo mine >"$prefix/lib/mine"
@@ -249,6 +250,25 @@ try_foreign_files() { # PREFIX
     "library: $1/include/interlaken.h has changed since, and stays"$'\n./include/interlaken.h'
   rm "$1/include/interlaken.h"
   INTERLAKEN_PROGRAM=$program "$top/tools/library" --install "$1" >/dev/null 2>&1
+}
+
+# An installation that was cut off, by a cp that fails after some files, can be made again, or removed.
+try_cut_off() {
+  local after prefix=$folder/cut
+  mkdir failing && cat >failing/cp <<'END'
+#!/usr/bin/env bash
+[ "$1" != -PT ] || { echo >>"$COPIED" && [ "$(wc -l <"$COPIED")" -le "$AFTER" ]; } || exit 1
+PATH=${PATH#*:} exec cp "$@"
+END
+  chmod +x failing/cp
+  for after in 0 4 9 13; do
+    rm -f copied
+    COPIED=$folder/copied AFTER=$after PATH=$folder/failing:$PATH "$top/tools/library" --install "$prefix" >cut.txt 2>&1
+    holds "an installation that was cut off after $after files" "$?" 1
+    [ "$after" != 4 ] || holds 'uninstall of one that was cut off' "$("$top/tools/library" --uninstall "$prefix" 2>&1; find "$prefix" -type f)" ''
+  done
+  holds 'install after one that was cut off' "$(INTERLAKEN_PROGRAM=$program "$top/tools/library" --install "$prefix" 2>&1)" "$prefix"
+  holds 'no file beside them' "$(cd "$prefix" && find . -name 'new*')" ''
 }
 
 # The pages of the manual, and the completion.

@@ -1,5 +1,5 @@
-/* What interlaken.h says besides the results of calls: null with a count of 0, when an event comes, how many bytes `take` gives, and what
- * threads may do.
+/* What interlaken.h says besides the results of calls: null with a count of 0, when an event comes, how many bytes `take` gives, which
+ * channel is next, and what threads may do.
  *
  *     promises PLAN LANE LANE
  *
@@ -117,6 +117,37 @@ static void try_take(void) {
   (void)interlaken_transmitter_free(&transmitter);
 }
 
+/* Bursts go to the ready channels in turn: those that had none first, by their numbers, and then the one that has waited longest. */
+static void try_order(void) {
+  static const char three[] = "lanes,1\nmetaframe,32\nwarmup,4\nchannel,3\nchannel,1\nchannel,2\nout,three\n";
+  static const unsigned wanted[] = {3, 1, 2, 3, 1, 2, 3};
+  interlaken_transmitter transmitter = {0};
+  interlaken_receiver receiver = {0};
+  interlaken_counts counts = {0, 0, 0, 0};
+  interlaken_refusal why;
+  interlaken_event event;
+  uint8_t piece[8];
+  size_t taken;
+  unsigned came = 0;
+  want("a transmitter of three channels", interlaken_transmitter_new(&transmitter, (const uint8_t *)three, strlen(three), &why), INTERLAKEN_DONE);
+  want("a receiver of them", interlaken_receiver_new(&receiver, (const uint8_t *)three, strlen(three), &why), INTERLAKEN_DONE);
+  for (int i = 0; i < 3; i++) (void)interlaken_transmitter_packet(&transmitter, 3, plan.at, 64);
+  for (int turn = 0; turn < 5000 && came < 7; turn++) {
+    uint64_t before = counts.packets_sent;
+    (void)interlaken_transmitter_take(&transmitter, 0, piece, sizeof piece, &taken);
+    (void)interlaken_receiver_feed(&receiver, 0, piece, taken, &taken);
+    (void)interlaken_transmitter_sent(&transmitter, 3, &counts);
+    for (int i = 0; i < 4 && before == 0 && counts.packets_sent == 1; i++) {
+      (void)interlaken_transmitter_packet(&transmitter, (uint16_t)(2 - i % 2), plan.at, 64);
+    }
+    while (interlaken_receiver_next(&receiver, &event) == INTERLAKEN_DONE && event.kind != INTERLAKEN_NONE) {
+      if (event.kind == INTERLAKEN_PACKET && came < 7) want("the channel of the next packet", event.channel, wanted[came++]);
+    }
+  }
+  want("packets of three channels", came, 7);
+  (void)interlaken_transmitter_free(&transmitter), (void)interlaken_receiver_free(&receiver);
+}
+
 /* One end of a loop: packets are given and their lanes received, in one thread or in several that follow one another. */
 struct end {
   interlaken_transmitter transmitter;
@@ -176,6 +207,7 @@ int main(int count, char **words) {
   try_null();
   try_times();
   try_take();
+  try_order();
   try_threads();
   printf("%u tried, %u wrong\n", tried, wrong);
   return wrong != 0;
