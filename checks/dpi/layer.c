@@ -55,12 +55,11 @@ int svLow(const svOpenArrayHandle h, int d) {
 
 int svSizeOfArray(const svOpenArrayHandle h) {
   const struct array *array = (const struct array *)h;
-  return array->stride == 1 ? array->count : 0;
+  return array->count * array->stride;
 }
 
 void *svGetArrayPtr(const svOpenArrayHandle h) {
-  const struct array *array = (const struct array *)h;
-  return array->stride == 1 ? array->bytes : NULL;
+  return ((const struct array *)h)->bytes;
 }
 
 void *svGetArrElemPtr1(const svOpenArrayHandle h, int index) {
@@ -315,6 +314,9 @@ static void try_transmitter(const char *plan, unsigned count) {
   want("is_on of a number that is none", interlaken_dpi_is_on(receiver, 65537, &on), NO_CHANNEL);
   want("flow", interlaken_dpi_flow(transmitter, 0), DONE);
   want("local", interlaken_dpi_local(transmitter, 1, 0), DONE);
+  give_packet(transmitter, 2, 10, DONE);
+  of_channel[1]++, packets++;
+  want_sent(transmitter, 2, DONE, 1, 0);
   while (packets < 40) {
     if (below(3) == 0) {
       channel = below(2);
