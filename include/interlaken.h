@@ -282,9 +282,11 @@ uint32_t interlaken_receiver_finish(interlaken_receiver *receiver, uint32_t lane
 
 /* Writes the next event, or INTERLAKEN_NONE if there is none yet, or if the end was returned
  * before. Until the end, NONE means that at least one unfinished lane has an empty ring. Feed or
- * finish that lane; the rings of the other lanes may be full. If byte n of a lane, counted from 0,
- * shows an event, the event comes once n + 1 bytes of each unfinished lane were fed. So a lane that
- * is fed further than the others does not bring it sooner.
+ * finish that lane; the rings of the other lanes may be full.
+ *
+ * If byte n of a lane, counted from 0, shows an event, `next` returns the event once n + 1 bytes of
+ * each unfinished lane were fed. A lane that is fed further than the others does not bring it
+ * sooner.
  * Results: DONE, NO_RECEIVER; the event is INTERLAKEN_NONE if it is not DONE. */
 uint32_t interlaken_receiver_next(interlaken_receiver *receiver, interlaken_event *event);
 
