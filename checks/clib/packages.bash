@@ -298,7 +298,7 @@ try_pages() { # PREFIX
   done < <(grep -v '^#' "$top/tools/commands.txt")
 }
 
-# The package of Python: the wheel that its backend writes, what pip installs of the checkout without a network, and what it raises.
+# The package of Python, by the wheel that its backend writes.
 try_package() {
   ! lacks python3 python3 'the package of Python' || return 0
   local python=$top/examples/python
@@ -310,6 +310,13 @@ try_package() {
     "$(cd "$python" && printf '%s\n' interlaken/*.py interlaken/*.typed "interlaken-$(cat "$top/release/VERSION").dist-info"/{METADATA,WHEEL,RECORD})"
   holds 'packets by the wheel' "$(cp "$python/packets.py" . && PYTHONPATH=$(echo wheel/*.whl) python3 -B packets.py library/lib/libinterlaken.so damaged.plan damaged.lane.0 damaged.lane.1 | cksum)" \
     "$(python3 -B "$python/packets.py" library/lib/libinterlaken.so damaged.plan damaged.lane.0 damaged.lane.1 | cksum)"
+  try_pip "$python"
+  try_take_all "$python"
+}
+
+# What pip installs of the checkout without a network.
+try_pip() { # PACKAGE
+  local python=$1
   if python3 -m pip --version >/dev/null 2>&1; then
     rm -rf site
     python3 -m pip install --no-index --no-deps --quiet --disable-pip-version-check --target site "$python" >pip.txt 2>&1
@@ -319,6 +326,11 @@ try_package() {
   else
     echo "$name: not tried, no pip (Debian package python3-pip): pip install examples/python"
   fi
+}
+
+# What take_all raises, and what it gives; and numbers of a later version of the library.
+try_take_all() { # PACKAGE
+  local python=$1
   holds 'what take_all raises, and numbers of a later version' "$(python3 -B -c '
 import sys
 sys.path.insert(0, sys.argv[1])
@@ -349,78 +361,12 @@ print(i.Drop(9).name, int(i.Drop(9)), i.Result(99).name, i.Fault(0).name)
   )"
 }
 
-# Lanes in pieces of any bits, in both directions, beside whole bytes; with pieces that find no room, and at the ends.
+# Lanes in pieces of any bits, in both directions.
 try_bits() {
   ! lacks python3 python3 'bits of lanes in Python' || return 0
   sed 's/^warmup.*/warmup,64/' sent.plan >bits.plan && "$program" send bits.plan >/dev/null
-  holds 'bits of lanes in Python' "$(python3 -B -c '
-import random
-import sys
-sys.path.insert(0, sys.argv[1])
-import interlaken as i
-random.seed(5)
-plan, library = open("bits.plan", "rb").read(), "library/lib/libinterlaken.so"
-lanes = [open("sent.lane.%d" % lane, "rb").read() for lane in (0, 1)]
-numbers, sizes = [int.from_bytes(data, "big") for data in lanes], [8 * len(data) for data in lanes]
-with i.Receiver(plan, library) as receiver:
-    wanted = list(receiver.feed_all(lanes))
-refused = 0
-def piece(lane, at, count):
-    return numbers[lane] >> sizes[lane] - at - count & (1 << count) - 1
-def received():
-    global refused
-    events, at, over = [], [0, 0], [False, False]
-    with i.Receiver(plan, library) as receiver:
-        while not all(over):
-            lane = random.randrange(2)
-            for _ in range(random.randrange(1, 1500)):
-                count = min(random.randrange(0, 63), sizes[lane] - at[lane])
-                try:
-                    if over[lane]:
-                        break
-                    if at[lane] == sizes[lane]:
-                        receiver.finish(lane)
-                        over[lane] = True
-                    elif receiver.feed_bits(lane, piece(lane, at[lane], count), count):
-                        at[lane] += count
-                    else:
-                        raise ValueError
-                except ValueError:
-                    refused += 1
-                    break
-            events += receiver.events()
-    return events
-def transmitted():
-    got, at = [0, 0], [0, 0]
-    with i.Transmitter(plan, library) as near:
-        for channel, name in (1, "one.pcap"), (2, "two.pcap"):
-            data, place = open(name, "rb").read(), 24
-            while place < len(data):
-                length = int.from_bytes(data[place + 8 : place + 12], "little" if data[0] == 0xD4 else "big")
-                near.packet(channel, data[place + 16 : place + 16 + length])
-                place += 16 + length
-        near.finish()
-        for _ in range(100000):
-            lane = random.randrange(2)
-            count = min(random.randrange(0, 63), sizes[lane] - at[lane])
-            bits = near.take_bits(lane, count)
-            if bits is not None:
-                got[lane], at[lane] = got[lane] << count | bits, at[lane] + count
-            if at == sizes:
-                break
-        return got == numbers and near.take_bits(0, 1) is None and near.take_bits(1, 1) is None
-print(*[received() == wanted for _ in range(4)], refused > 0, *[transmitted() for _ in range(4)])
-with i.Receiver(plan, library) as receiver, i.Transmitter(plan, library) as near:
-    receiver.feed_bits(0, 5, 3)
-    near.take_bits(1, 3)
-    for wrong in (lambda: receiver.feed(0, b"a"), lambda: receiver.feed_bits(2, 0, 1), lambda: receiver.feed_bits(0, 8, 3), lambda: receiver.feed_bits(0, 0, -1),
-                  lambda: near.take(1, 1), lambda: near.take_bits(2, 1), lambda: near.take_bits(0, -1), lambda: receiver.finish(0) or receiver.feed_bits(0, 1, 1)):
-        try:
-            wrong()
-        except (ValueError, i.Misuse) as error:
-            print(error)
-' "$top/examples/python" 2>&1)" "True True True True True True True True True
-$(printf '%s\n' 'bits of lane 0 wait' NO_LANE 'no number of 3 bits: 8' 'no count: -1' 'bits of lane 1 wait' NO_LANE 'no count: -1' FINISHED)"
+  holds 'bits of lanes in Python' \
+    "$(python3 -B "$top/checks/clib/bits.py" "$top/examples/python" library/lib/libinterlaken.so bits.plan sent 1 one.pcap 2 two.pcap 2>&1)" '21 tried'
 }
 
 # A capture of one packet of 90 letters.
