@@ -16,6 +16,7 @@ import interlaken
 from captures import packets_of
 
 LIBRARY = sys.argv[2]
+METAFRAME = 67 * 32 // 8  # bytes of a metaframe of the plan
 WRONG = {
     "feed where bits wait": (lambda receiver, near: receiver.feed(0, b"a"), "bits of lane 0 wait"),
     "bits of no lane": (lambda receiver, near: receiver.feed_bits(2, 0, 1), "NO_LANE"),
@@ -29,10 +30,15 @@ WRONG = {
 
 
 class Lane:
-    """A lane as one number."""
+    """A lane as one number, without so many bits at its end."""
 
-    def __init__(self, data):
-        self.number, self.size = int.from_bytes(data, "big"), 8 * len(data)
+    def __init__(self, data, cut=0):
+        self.number, self.size = int.from_bytes(data, "big") >> cut, 8 * len(data) - cut
+
+    def filled(self):
+        """Its bytes, the last of them filled up with zeros."""
+        count = (self.size + 7) // 8
+        return (self.number << 8 * count - self.size).to_bytes(count, "big")
 
     def piece(self, at, count):
         return self.number >> self.size - at - count & (1 << count) - 1
@@ -90,6 +96,27 @@ def taken(plan, captures, lanes):
         return got, [near.take_bits(number, 1) for number in range(len(lanes))]
 
 
+def ending_in_zeros(data):
+    """The lane up to the last metaframe that ends with three zeros, and without these: what fills it up gives them back."""
+    end = next(end for end in range(len(data), 0, -METAFRAME) if data[end - 1] % 8 == 0)
+    return Lane(data[:end], 3)
+
+
+def received(lanes, plan):
+    """What a receiver makes of whole lanes: its events, and its reports of the lanes."""
+    with interlaken.Receiver(plan, LIBRARY) as receiver:
+        events = list(receiver.feed_all([lane.filled() for lane in lanes]))
+        return events, [receiver.report(number) for number in range(len(lanes))]
+
+
+def received_by_bits(lanes, plan):
+    """The same of lanes in drawn pieces; and how many found no room."""
+    with interlaken.Receiver(plan, LIBRARY) as receiver:
+        fed = Fed(receiver, lanes)
+        events = list(fed.events())
+        return (events, [receiver.report(number) for number in range(len(lanes))]), fed.refused
+
+
 def raised(call, receiver, near):
     try:
         call(receiver, near)
@@ -104,12 +131,12 @@ def main():
     plan, *data = [open(name, "rb").read() for name in (sys.argv[3], prefix + ".lane.0", prefix + ".lane.1")]
     captures = [(int(channel), packets_of(name)) for channel, name in zip(sys.argv[5::2], sys.argv[6::2])]
     lanes = [Lane(one) for one in data]
-    with interlaken.Receiver(plan, LIBRARY) as receiver:
-        wanted = list(receiver.feed_all(data))
+    wanted, _ = received(lanes, plan)
+    for cut, shorter in [(cut, [Lane(one, cut) for one in data]) for cut in range(8)] + [(3, [ending_in_zeros(one) for one in data])]:
+        found, refused = received_by_bits(shorter, plan)
+        tried.append(("events and reports, without %d bits" % cut, found == received(shorter, plan)))
+        tried.append(("pieces that find no room", refused > 0))
     for _ in range(4):
-        with interlaken.Receiver(plan, LIBRARY) as receiver:
-            fed = Fed(receiver, lanes)
-            tried += [("events", list(fed.events()) == wanted), ("pieces that find no room", fed.refused > 0)]
         tried.append(("bits that are taken", taken(plan, captures, lanes) == ([lane.number for lane in lanes], [None, None])))
     tried.append(("packets", sum(isinstance(event, interlaken.Packet) for event in wanted) == sum(len(packets) for _, packets in captures)))
     with interlaken.Receiver(plan, LIBRARY) as receiver, interlaken.Transmitter(plan, LIBRARY) as near:

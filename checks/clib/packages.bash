@@ -366,7 +366,7 @@ try_bits() {
   ! lacks python3 python3 'bits of lanes in Python' || return 0
   sed 's/^warmup.*/warmup,64/' sent.plan >bits.plan && "$program" send bits.plan >/dev/null
   holds 'bits of lanes in Python' \
-    "$(python3 -B "$top/checks/clib/bits.py" "$top/examples/python" library/lib/libinterlaken.so bits.plan sent 1 one.pcap 2 two.pcap 2>&1)" '21 tried'
+    "$(python3 -B "$top/checks/clib/bits.py" "$top/examples/python" library/lib/libinterlaken.so bits.plan sent 1 one.pcap 2 two.pcap 2>&1)" '31 tried'
 }
 
 # A capture of one packet of 90 letters.

@@ -82,7 +82,9 @@ static size_t times_of(uint32_t ahead, size_t by, size_t *times) {
   for (size_t at = 0; at + by < end; at++) {
     (void)interlaken_receiver_feed(&receiver, ahead, lanes[ahead].at + at + by, 1, &taken);
     (void)interlaken_receiver_feed(&receiver, 1 - ahead, lanes[1 - ahead].at + at, 1, &taken);
-    while (interlaken_receiver_next(&receiver, &event) == INTERLAKEN_DONE && event.kind != INTERLAKEN_NONE && count < MOST) times[count++] = at;
+    while (interlaken_receiver_next(&receiver, &event) == INTERLAKEN_DONE && event.kind != INTERLAKEN_NONE) {
+      if (count < MOST) times[count++] = at;
+    }
   }
   (void)interlaken_receiver_free(&receiver);
   return count;
@@ -129,8 +131,8 @@ static void try_order(void) {
   uint8_t piece[8];
   size_t taken;
   unsigned came = 0;
-  want("a transmitter of three channels", interlaken_transmitter_new(&transmitter, (const uint8_t *)three, strlen(three), &why), INTERLAKEN_DONE);
-  want("a receiver of them", interlaken_receiver_new(&receiver, (const uint8_t *)three, strlen(three), &why), INTERLAKEN_DONE);
+  want("a transmitter", interlaken_transmitter_new(&transmitter, (const uint8_t *)three, strlen(three), &why), INTERLAKEN_DONE);
+  want("a receiver", interlaken_receiver_new(&receiver, (const uint8_t *)three, strlen(three), &why), INTERLAKEN_DONE);
   for (int i = 0; i < 3; i++) (void)interlaken_transmitter_packet(&transmitter, 3, plan.at, 64);
   for (int turn = 0; turn < 5000 && came < 7; turn++) {
     uint64_t before = counts.packets_sent;
@@ -160,7 +162,9 @@ static void *open_end(void *word) {
   interlaken_refusal why;
   if (interlaken_transmitter_new(&end->transmitter, plan.at, plan.count, &why) != INTERLAKEN_DONE) return NULL;
   if (interlaken_receiver_new(&end->receiver, plan.at, plan.count, &why) != INTERLAKEN_DONE) return NULL;
-  for (unsigned i = 0; i < 50; i++) (void)interlaken_transmitter_packet(&end->transmitter, (uint16_t)(1 + i % 2), plan.at, 1 + i % plan.count);
+  for (unsigned i = 0; i < 50; i++) {
+    (void)interlaken_transmitter_packet(&end->transmitter, (uint16_t)(1 + i % 2), plan.at, 1 + i % plan.count);
+  }
   return word;
 }
 

@@ -434,8 +434,8 @@ class Receiver(_OfPlan):
         return waiting.count < 8
 
     def finish(self, lane: int) -> None:
-        """No further byte of this lane comes. Bits that wait are filled up with zeros; where there is no room for them it raises ValueError,
-        and the lane is not finished: take events first."""
+        """No further byte of this lane comes. Bits that wait are filled up with zeros; where there is no room for them it raises
+        ValueError, and the lane is not finished: take events first."""
         waiting = self._bits.get(lane, _Bits())
         if waiting.count > 0 and not self._push(lane, waiting):
             raise ValueError("bytes of lane %d wait" % lane)
