@@ -21,7 +21,7 @@ strict=(-Wall -Wextra -Werror -pedantic -O1 "-I$include")
 
 holds 'calls of the header and of the archive' "$(grep -o '^uint32_t interlaken_[a-z_]*' "$include/interlaken.h" | cut -d ' ' -f 2 | sort)" \
   "$(nm -g --defined-only "$archive" 2>/dev/null | grep -oE '\binterlaken_((receiver|transmitter|damage|inspector|checker|plan)_[a-z_]*|version)$' | sort -u)"
-holds 'calls of the shared library' "$(nm -D --defined-only library/lib/libinterlaken.so | awk '$2 == "T" { sub(/@.*/, "", $3); print $3 }' | sort)" \
+holds 'calls of the shared library' "$(nm -D --defined-only library/lib/libinterlaken.so | awk '$2 == "T" { sub(/@.*/, "", $3); print $3 }' | sort -u)" \
   "$(nm -g --defined-only "$archive" 2>/dev/null | grep -oE '\binterlaken_((receiver|transmitter|damage|inspector|checker|plan)_[a-z_]*|version)$' | sort -u)"
 
 # One number counts for the program, the library and the formats.
@@ -122,6 +122,15 @@ for made in by_words by_cmake/by_interlaken by_cmake/by_shared; do
   [ ! -x "$made" ] ||
     holds "$made, run" "$(LD_LIBRARY_PATH=$folder/library/lib "./$made" damaged.plan damaged got 2>&1)" "$("$program" receive damaged.plan 2>&1)"
 done
+. "$top/checks/clib/packages.bash"
+try_versions "$("$program" receive damaged.plan 2>&1)"
+try_further_calls
+try_texts
+try_promises
+try_examples
+try_package
+try_bits
+try_install
 printed=$(
   printf '%s\n' 'span start' 'span crc' "packet channel=1 $(hex_of wanted/damaged.1.pcap)" "packet channel=2 $(hex_of wanted/damaged.2.pcap)" 'span end'
   "$program" receive damaged.plan | grep '^lane' | cut -d ' ' -f 1-3

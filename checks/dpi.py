@@ -20,7 +20,6 @@ SECONDS = 600
 FLIPS = 6
 PLANS = {(2, 32, 1): "obj_dir", (3, 40, 2): "obj_other"}
 STRICT = ["-std=c99", "-Wall", "-Wextra", "-Wpedantic", "-Werror"]
-INCLUDE = "/usr/share/verilator/include/vltstd"
 
 
 def run(*words, folder):
@@ -78,7 +77,8 @@ def make_lanes(folder):
 def try_layer(tally, folder):
     """The C layer alone, in drawn pieces and orders."""
     wanted = make_lanes(folder)
-    header = ["-I" + INCLUDE, "-include", "dpi/obj_dir/Vtb_live__Dpi.h", "-Idpi/library/include"]
+    root = run("verilator", "--getenv", "VERILATOR_ROOT", folder=folder)[1].strip()
+    header = ["-I%s/include/vltstd" % root, "-include", "dpi/obj_dir/Vtb_live__Dpi.h", "-Idpi/library/include"]
     words = ["cc", *STRICT, "-O1", *sanitizers(tally, folder), *header, "-o", "layer", TOP + "/checks/dpi/layer.c", "dpi/interlaken_dpi.c"]
     tally.expect("the layer as C99, beside the prototypes that verilator makes", run(*words, "dpi/library/lib/libinterlaken.a", folder=folder), (0, ""))
     whys = ["start", "bad", "crc", "protocol", "lost", "end"]

@@ -38,9 +38,11 @@
  *
  * Threads
  *
- * A handle is used by one call at a time. If threads share a handle, one call returns before the
- * next begins, as with a mutex. Calls on different handles may run at the same time, if the
- * functions of interlaken_alloc.h may.
+ * A handle is used by one call at a time. Any thread may make the call: if threads share a handle,
+ * one call returns before the next begins, as with a mutex. Calls on different handles may run at
+ * the same time, if the functions of interlaken_alloc.h may, as those over malloc may. A call
+ * starts no thread and waits for none, and what it keeps is behind its handle. Make no call from a
+ * signal handler, nor in the forked child of a process with threads.
  *
  * Terms
  *
@@ -70,8 +72,8 @@
  *
  * A call returns one of `enum interlaken_result`. It is defined for every value of its numbers and
  * every content of its bytes, as long as
- * - each pointer is valid for what it points to, aligned for its type, and never null, also if a
- *   count is 0;
+ * - each pointer is valid for what it points to, aligned for its type, and not null; a pointer to
+ *   `count` bytes may be null if `count` is 0;
  * - no two pointers of one call lead to the same bytes;
  * - a handle is either all zeros or exactly what the last call left in it. You may move it. If you
  *   copy it, use only one of the two afterwards.
@@ -79,8 +81,13 @@
  * Any other misuse returns an error code and changes nothing. If several results apply, the call
  * returns the first of NO_RECEIVER or NO_DAMAGE or NO_TRANSMITTER or NO_INSPECTOR, IN_USE,
  * NO_LANE, FINISHED, NO_CHANNEL, BAD_LENGTH, TOO_MANY, OUT_OF_RANGE, PASSED, OUT_OF_MEMORY. IN_USE
- * also precedes BAD_PLAN. What a call only writes need not be initialised, and is written whatever
- * the result is.
+ * also precedes BAD_PLAN, and NO_RECEIVER precedes NO_PACKET. The results of a call are listed in
+ * the order of their numbers. What a call only writes need not be initialised, and is written
+ * whatever the result is.
+ *
+ * A later version with the same first number may have further results, kinds of events, reasons and
+ * causes. Pass over an event of an unknown kind, and take an unknown result for a failure. The
+ * numbers in words are in interlaken_text.h.
  *
  * Memory comes from the three functions of interlaken_alloc.h. The libraries that tools/library
  * makes have them over malloc, realloc and free. After `interlaken_receiver_new` no call on a
@@ -370,6 +377,10 @@ uint32_t interlaken_receiver_finish(interlaken_receiver *receiver, uint32_t lane
 /* Writes the next event, or INTERLAKEN_NONE if there is none yet, or if the end was returned
  * before. Until the end, NONE means that at least one unfinished lane has an empty ring. Feed or
  * finish that lane; the rings of the other lanes may be full.
+ *
+ * If byte n of a lane, counted from 0, shows an event, `next` returns the event once n + 1 bytes of
+ * each unfinished lane were fed. A lane that is fed further than the others does not bring it
+ * sooner.
  * Results: DONE, NO_RECEIVER; the event is INTERLAKEN_NONE if it is not DONE. */
 uint32_t interlaken_receiver_next(interlaken_receiver *receiver, interlaken_event *event);
 
@@ -407,7 +418,11 @@ uint32_t interlaken_receiver_is_on(interlaken_receiver *receiver, uint16_t chann
  * All lanes are in step: a word is made on each lane at once, 8.375 bytes of each. Up to 4,096
  * bytes of each lane wait until they are taken, so take all lanes in turn: a lane that is not
  * taken holds back the others. As long as no packet waits, or none may be sent, idle words are
- * made: the lanes go on until `finish`. */
+ * made: the lanes go on until `finish`.
+ *
+ * A channel is ready if it is on and has bytes to send. The next burst is on the ready channel that
+ * has waited longest: since its last burst began, or since it was turned on if that is later.
+ * Before all these come the channels that had no burst and were not turned on, by their numbers. */
 
 /* Opens a transmitter behind a handle that has none. `plan` is the text of a plan file, of any
  * length; it is not kept. All its rows are read, and refused if they are wrong, but no file that

@@ -1,7 +1,14 @@
 /* The memory of the library: three functions that it calls and does not define. examples/c/alloc.c
  * has them over malloc, realloc and free. The libraries that tools/library makes have that file in
  * them. A program that defines the three itself and links libinterlaken.a uses its own. The shared
- * library always uses the functions inside it. */
+ * library always uses the functions inside it.
+ *
+ * Functions of your own keep three rules:
+ *
+ * - Several threads may call them at once, if calls on different handles run at the same time.
+ * - They return. They do not leave a call by longjmp or by an exception of C++: while a call runs
+ *   its handle is empty.
+ * - They make no call of the library on the handle whose call they serve. */
 #ifndef INTERLAKEN_ALLOC_H
 #define INTERLAKEN_ALLOC_H
 

@@ -10,7 +10,8 @@
 #include <stdlib.h>
 #include <string.h>
 
-enum { DONE, NO_LANE = 3, FINISHED, TOO_MANY, NO_PACKET, NO_RECEIVER, OUT_OF_RANGE = 10, NO_TRANSMITTER = 12, NO_CHANNEL, BAD_LENGTH, NO_ROOM = 100 };
+enum { DONE, NO_LANE = 3, FINISHED, TOO_MANY, NO_PACKET, NO_RECEIVER, NO_DAMAGE = 9, OUT_OF_RANGE, PASSED, NO_TRANSMITTER, NO_CHANNEL,
+       BAD_LENGTH, NO_ROOM = 100 };
 enum { NONE, PACKET, DROPPED, SPAN, FLOW, ENDED };
 
 struct file {
@@ -28,6 +29,80 @@ static unsigned below(unsigned bound) {
 
 static void want(const char *what, int found, int wanted) {
   if (found != wanted) printf("wrong: %s gives %d and not %d\n", what, found, wanted);
+}
+
+/* An array of a simulator: its bytes in a row, or each in a word of its own, from some lowest index on. */
+struct array {
+  uint8_t *bytes;
+  int low, count, stride;
+};
+
+static int is_index(const struct array *array, int index) {
+  if (index >= array->low && index < array->low + array->count) return 1;
+  printf("wrong: index %d of an array of %d from %d on\n", index, array->count, array->low);
+  return 0;
+}
+
+int svSize(const svOpenArrayHandle h, int d) {
+  want("the dimension", d, 1);
+  return ((const struct array *)h)->count;
+}
+
+int svLow(const svOpenArrayHandle h, int d) {
+  want("the dimension", d, 1);
+  return ((const struct array *)h)->low;
+}
+
+int svSizeOfArray(const svOpenArrayHandle h) {
+  const struct array *array = (const struct array *)h;
+  return array->count * array->stride;
+}
+
+void *svGetArrayPtr(const svOpenArrayHandle h) {
+  return ((const struct array *)h)->bytes;
+}
+
+void *svGetArrElemPtr1(const svOpenArrayHandle h, int index) {
+  struct array *array = (struct array *)h;
+  return is_index(array, index) ? array->bytes + (index - array->low) * array->stride : array->bytes;
+}
+
+/* An array of so many bytes, which are all 238, in one of the two forms. */
+static struct array make_array(int count) {
+  struct array array;
+  array.count = count;
+  array.low = (int)below(5) - 2;
+  array.stride = below(2) == 0 ? 1 : 4;
+  array.bytes = malloc((size_t)(count * array.stride) + 1);
+  if (array.bytes == NULL) exit(2);
+  memset(array.bytes, 238, (size_t)(count * array.stride) + 1);
+  return array;
+}
+
+/* The packet that came last as arrays of several sizes have it. */
+static void try_arrays(void *receiver, unsigned length) {
+  static const unsigned more[] = {0, 1, 100};
+  for (unsigned i = 0; i < 4; i++) {
+    unsigned count = i < 3 ? length + more[i] : length / 2, copied = 9999, wanted = count < length ? count : length;
+    struct array array = make_array((int)count);
+    unsigned char byte;
+    want("packet_bytes", interlaken_dpi_packet_bytes(receiver, &array, &copied), DONE);
+    want("copied", (int)copied, (int)wanted);
+    for (unsigned k = 0; k < count; k++) {
+      if (k < wanted) want("a byte of the packet", interlaken_dpi_byte(receiver, k, &byte), DONE);
+      want("a byte of the array", array.bytes[k * (unsigned)array.stride], k < wanted ? byte : 238);
+    }
+    free(array.bytes);
+  }
+}
+
+static void no_packet(void *receiver, int wanted) {
+  struct array array = make_array(3);
+  unsigned copied = 9;
+  want("packet_bytes without a packet", interlaken_dpi_packet_bytes(receiver, &array, &copied), wanted);
+  want("copied without a packet", (int)copied, 0);
+  want("the array without a packet", array.bytes[0], 238);
+  free(array.bytes);
 }
 
 static struct file load(const char *name) {
@@ -72,6 +147,9 @@ static int take(void *receiver) {
         printf("%02x", byte);
       }
       putchar('\n');
+      try_arrays(receiver, length);
+    } else {
+      no_packet(receiver, NO_PACKET);
     }
     want("a byte after the last", interlaken_dpi_byte(receiver, length, &byte), NO_PACKET);
     if (kind == SPAN) printf("span %u %u %llu %u %u %llu %u\n", known[0], index[0], group[0], known[1], index[1], group[1], why);
@@ -102,6 +180,10 @@ static void try_none(void *receiver) {
   want("next of none", interlaken_dpi_next(receiver, &u[0], &u[1], &u[2], &u[3], &u[4], &u[5], &n[0], &u[6], &u[7], &n[1], &n[2]), NO_RECEIVER);
   want("the event of none", (int)u[0], NONE);
   want("a byte of none", interlaken_dpi_byte(receiver, 0, &byte), NO_RECEIVER);
+  no_packet(receiver, NO_RECEIVER);
+  want("is_on of none", interlaken_dpi_is_on(receiver, 1, &u[0]), NO_RECEIVER);
+  want("the state of none", (int)u[0], 0);
+  want("is_on of none, a number that is none", interlaken_dpi_is_on(receiver, 65536, &u[0]), NO_RECEIVER);
   want("report of none", interlaken_dpi_report(receiver, 0, &n[0], &n[1], &n[2], &n[3], &n[4], &n[5], &n[6], &n[7], &n[8]), NO_RECEIVER);
   want("state of none", interlaken_dpi_lane_state(receiver, 0, &u[0]), NO_RECEIVER);
   want("place of none", interlaken_dpi_place(receiver, 1, 0, 0, &u[0], &n[0]), NO_RECEIVER);
@@ -118,25 +200,50 @@ static void try_plan(const char *plan, unsigned wanted_cause, unsigned wanted_ro
 
 /* All that a handle without a transmitter answers. */
 static void try_no_transmitter(void *transmitter) {
+  struct array none = make_array(1);
   unsigned char byte;
-  unsigned long long slots;
+  unsigned long long slots, n[4];
   want("close of no transmitter", interlaken_dpi_close_transmitter(transmitter), NO_TRANSMITTER);
   want("put_byte of none", interlaken_dpi_put_byte(transmitter, 1), NO_TRANSMITTER);
   want("send_packet of none", interlaken_dpi_send_packet(transmitter, 1), NO_TRANSMITTER);
   want("flow of none", interlaken_dpi_flow(transmitter, 0), NO_TRANSMITTER);
   want("local of none", interlaken_dpi_local(transmitter, 1, 0), NO_TRANSMITTER);
   want("take_byte of none", interlaken_dpi_take_byte(transmitter, 0, &byte), NO_TRANSMITTER);
+  want("send_bytes of none", interlaken_dpi_send_bytes(transmitter, 1, &none, 1), NO_TRANSMITTER);
+  want("sent of none", interlaken_dpi_sent(transmitter, 1, &n[0], &n[1], &n[2], &n[3]), NO_TRANSMITTER);
+  want("sent of none, a number that is none", interlaken_dpi_sent(transmitter, 65536, &n[0], &n[1], &n[2], &n[3]), NO_TRANSMITTER);
+  free(none.bytes);
+  want("take_bits of none", interlaken_dpi_take_bits(transmitter, 0, 1, &slots), NO_TRANSMITTER);
   want("slots of none", interlaken_dpi_slots(transmitter, &slots), NO_TRANSMITTER);
   want("finish of no transmitter", interlaken_dpi_finish_packets(transmitter), NO_TRANSMITTER);
 }
 
+/* A packet byte by byte, or as an array, which may be longer. */
 static void give_packet(void *transmitter, unsigned channel, unsigned length, int wanted) {
-  unsigned i;
-  for (i = 0; i < length; i++) want("put_byte", interlaken_dpi_put_byte(transmitter, (unsigned char)(length + i)), DONE);
-  want("send_packet", interlaken_dpi_send_packet(transmitter, channel), wanted);
+  unsigned i, more = below(3);
+  struct array array;
+  if (below(2) == 0) {
+    for (i = 0; i < length; i++) want("put_byte", interlaken_dpi_put_byte(transmitter, (unsigned char)(length + i)), DONE);
+    want("send_packet", interlaken_dpi_send_packet(transmitter, channel), wanted);
+    return;
+  }
+  array = make_array((int)(length + more));
+  for (i = 0; i < length; i++) array.bytes[i * (unsigned)array.stride] = (uint8_t)(length + i);
+  if (wanted == DONE) want("an array that is too short", interlaken_dpi_send_bytes(transmitter, channel, &array, length + more + 1), BAD_LENGTH);
+  want("send_bytes", interlaken_dpi_send_bytes(transmitter, channel, &array, length), wanted);
+  free(array.bytes);
+}
+
+static void want_sent(void *transmitter, unsigned channel, int wanted, unsigned long long given, unsigned long long sent) {
+  unsigned long long n[4] = {9, 9, 9, 9};
+  want("sent", interlaken_dpi_sent(transmitter, channel, &n[0], &n[1], &n[2], &n[3]), wanted);
+  want("packets that were given", (int)n[0], (int)given);
+  want("packets that were sent", (int)n[1], (int)sent);
+  want("bytes of them", n[2] >= n[3] && (n[2] == n[3]) == (given == sent), 1);
 }
 
 static void try_wrong_packets(void *transmitter, unsigned count) {
+  unsigned long long bits;
   unsigned char byte;
   unsigned i;
   give_packet(transmitter, 1, 0, BAD_LENGTH);
@@ -144,20 +251,32 @@ static void try_wrong_packets(void *transmitter, unsigned count) {
   give_packet(transmitter, 65537, 3, NO_CHANNEL);
   for (i = 0; i < 262144; i++) (void)interlaken_dpi_put_byte(transmitter, 1);
   want("a byte too many", interlaken_dpi_put_byte(transmitter, 1), TOO_MANY);
-  give_packet(transmitter, 3, 0, NO_CHANNEL);
+  want("send_packet on no channel", interlaken_dpi_send_packet(transmitter, 3), NO_CHANNEL);
   want("local of a number that is none", interlaken_dpi_local(transmitter, 65537, 0), NO_CHANNEL);
   want("take_byte of no lane", interlaken_dpi_take_byte(transmitter, count, &byte), NO_LANE);
+  want("take_bits of no lane", interlaken_dpi_take_bits(transmitter, count, 0, &bits), NO_LANE);
+  want("take_bits of 65", interlaken_dpi_take_bits(transmitter, 0, 65, &bits), TOO_MANY);
+  want("take_bits of none", interlaken_dpi_take_bits(transmitter, 0, 0, &bits), DONE);
 }
 
-/* The bytes of a lane to the receiver, at most so many; 1 where one came. */
+/* The bits of a lane to the receiver, so many bytes at most, in pieces of any bits; 1 where some came. */
 static int pass(void *transmitter, void *receiver, unsigned lane, unsigned most) {
+  unsigned long long bits;
   unsigned char byte;
-  unsigned i;
-  for (i = 0; i < most; i++) {
-    int result = interlaken_dpi_take_byte(transmitter, lane, &byte);
-    if (result != DONE) want("take_byte", result, NO_ROOM);
+  unsigned i, count;
+  for (i = 0; i < 8 * most; i += count) {
+    int result;
+    count = below(4) == 0 ? 8 : 1 + below(most < 2000 ? 64 : 3);
+    if (count == 8) {
+      result = interlaken_dpi_take_byte(transmitter, lane, &byte);
+      bits = byte;
+    } else {
+      result = interlaken_dpi_take_bits(transmitter, lane, count, &bits);
+    }
+    if (result != DONE) want("take_bits", result, NO_ROOM);
+    if (result != DONE) want("bits that are none", bits == 0, 1);
     if (result != DONE) break;
-    want("feed", interlaken_dpi_feed(receiver, lane, byte, 8), DONE);
+    want("feed", interlaken_dpi_feed(receiver, lane, bits, count), DONE);
   }
   return i > 0;
 }
@@ -179,7 +298,7 @@ static unsigned count_packets(void *receiver) {
 }
 
 static void try_transmitter(const char *plan, unsigned count) {
-  unsigned cause, row, key, packets = 0, came = 0, lane, passed;
+  unsigned cause, row, key, packets = 0, came = 0, lane, passed, on, channel, of_channel[2] = {0, 0};
   unsigned long long slots = 1;
   void *receiver = interlaken_dpi_open(plan, &cause, &row, &key), *transmitter = interlaken_dpi_open_transmitter("lanes,x\n", &cause, &row, &key);
   want("a refused plan of a transmitter", transmitter == NULL && cause == 4 && row == 1, 1);
@@ -188,10 +307,23 @@ static void try_transmitter(const char *plan, unsigned count) {
   want("slots", interlaken_dpi_slots(transmitter, &slots), DONE);
   want("no word so far", slots == 0, 1);
   try_wrong_packets(transmitter, count);
+  want_sent(transmitter, 1, DONE, 0, 0);
+  want_sent(transmitter, 3, NO_CHANNEL, 0, 0);
+  want_sent(transmitter, 65537, NO_CHANNEL, 0, 0);
+  want("is_on before a word", interlaken_dpi_is_on(receiver, 1, &on), DONE);
+  want("a channel before a word", (int)on, 1);
+  want("is_on of a number that is none", interlaken_dpi_is_on(receiver, 65537, &on), NO_CHANNEL);
   want("flow", interlaken_dpi_flow(transmitter, 0), DONE);
   want("local", interlaken_dpi_local(transmitter, 1, 0), DONE);
+  give_packet(transmitter, 2, 10, DONE);
+  of_channel[1]++, packets++;
+  want_sent(transmitter, 2, DONE, 1, 0);
   while (packets < 40) {
-    if (below(3) == 0) give_packet(transmitter, 1 + below(2), 1 + below(300), DONE), packets++;
+    if (below(3) == 0) {
+      channel = below(2);
+      give_packet(transmitter, 1 + channel, 1 + below(300), DONE);
+      of_channel[channel]++, packets++;
+    }
     lane = below(count);
     (void)pass(transmitter, receiver, lane, below(600));
     came += count_packets(receiver);
@@ -208,9 +340,69 @@ static void try_transmitter(const char *plan, unsigned count) {
   for (lane = 0; lane < count; lane++) want("finish of a lane", interlaken_dpi_finish(receiver, lane), DONE);
   came += count_packets(receiver);
   want("packets that came back", (int)came, (int)packets);
+  for (channel = 0; channel < 2; channel++) want_sent(transmitter, 1 + channel, DONE, of_channel[channel], of_channel[channel]);
+  want("is_on", interlaken_dpi_is_on(receiver, 1, &on), DONE);
+  want("the channel that is off", (int)on, 0);
+  want("is_on", interlaken_dpi_is_on(receiver, 2, &on), DONE);
+  want("the channel that is on", (int)on, 1);
   want("close of the receiver", interlaken_dpi_close(receiver), DONE);
   want("close of the transmitter", interlaken_dpi_close_transmitter(transmitter), DONE);
   try_no_transmitter(transmitter);
+}
+
+/* All that a handle without damage answers. */
+static void try_no_damage(void *damage) {
+  struct array array = make_array(1);
+  unsigned char byte = 0;
+  want("close of no damage", interlaken_dpi_close_damage(damage), NO_DAMAGE);
+  want("flip of none", interlaken_dpi_flip(damage, 0, 0), NO_DAMAGE);
+  want("dark of none", interlaken_dpi_dark(damage, 0, 0, 1), NO_DAMAGE);
+  want("a byte of none", interlaken_dpi_damage_byte(damage, 0, 7, &byte), NO_DAMAGE);
+  want("the byte of none", byte, 7);
+  want("bytes of none", interlaken_dpi_damage_bytes(damage, 0, &array, 1), NO_DAMAGE);
+  want("the bytes of none", array.bytes[0], 238);
+  free(array.bytes);
+}
+
+/* Bytes through damage of two lanes, one by one and in arrays, beside what the rows say. */
+static void try_damage(void) {
+  enum { BYTES = 400 };
+  uint8_t wanted[BYTES];
+  void *damage = interlaken_dpi_open_damage(2);
+  unsigned at, i, bit;
+  want("damage of no lanes", interlaken_dpi_open_damage(0) == NULL && interlaken_dpi_open_damage(65) == NULL, 1);
+  if (damage == NULL) exit(1);
+  memset(wanted, 238, sizeof wanted);
+  for (i = 0; i < 60; i++) {
+    bit = below(8 * BYTES);
+    want("flip", interlaken_dpi_flip(damage, 1, bit), DONE);
+    wanted[bit / 8] ^= (uint8_t)(128 >> bit % 8);
+  }
+  want("dark", interlaken_dpi_dark(damage, 1, 800, 80), DONE);
+  memset(wanted + 100, 0, 10);
+  for (at = 0; at < BYTES; at += i) {
+    unsigned count = 1 + below(9);
+    struct array array = make_array((int)count);
+    unsigned char byte;
+    if (count > BYTES - at) count = BYTES - at;
+    if (count == 1) {
+      want("damage_byte", interlaken_dpi_damage_byte(damage, 1, 238, &byte), DONE);
+      want("a damaged byte", byte, wanted[at]);
+    } else {
+      want("damage_bytes", interlaken_dpi_damage_bytes(damage, 1, &array, count), DONE);
+      for (i = 0; i < count; i++) want("a damaged byte of an array", array.bytes[i * (unsigned)array.stride], wanted[at + i]);
+    }
+    want("damage_bytes of a short array", interlaken_dpi_damage_bytes(damage, 0, &array, (unsigned)array.count + 1), TOO_MANY);
+    free(array.bytes);
+    i = count;
+  }
+  want("a bit that has passed", interlaken_dpi_flip(damage, 1, 8 * BYTES - 1), PASSED);
+  want("bits that have passed", interlaken_dpi_dark(damage, 1, 0, 9), PASSED);
+  want("a bit of the other lane", interlaken_dpi_flip(damage, 0, 0), DONE);
+  want("a bit out of range", interlaken_dpi_flip(damage, 0, 1ull << 44), OUT_OF_RANGE);
+  want("flip of no lane", interlaken_dpi_flip(damage, 2, 0), NO_LANE);
+  want("close_damage", interlaken_dpi_close_damage(damage), DONE);
+  try_no_damage(damage);
 }
 
 int main(int argc, char **argv) {
@@ -225,6 +417,8 @@ int main(int argc, char **argv) {
   for (i = 0; i < count; i++) lanes[i] = load(argv[i + 3]);
   try_none(NULL);
   try_no_transmitter(NULL);
+  try_no_damage(NULL);
+  try_damage();
   try_transmitter((const char *)plan.at, count);
   try_plan("lanes,2\nlanes,3\n", 6, 2, 0);
   try_plan("lanes,2\n", 7, 0, 2);

@@ -5,20 +5,12 @@
  * PLAN is a plan file, and PREFIX.lane.0, PREFIX.lane.1, .. are the files of its lanes. It prints the lines that `receive` prints, and
  * writes the packets of channel C to OUT.C.pcap and the fault spans to OUT.spans.csv, as `receive` does. With a SEED the lanes come in
  * pieces and in an order that are drawn; the result is the same. */
-#include "interlaken.h"
-#include <inttypes.h>
-#include <stdio.h>
-#include <stdlib.h>
+#include "files.h"
 
-#define LANES 64
 #define CHANNELS 65536
-#define MOST_LISTED 1024
 #define PIECE 4096
-
-struct bytes {
-  uint8_t *at;
-  size_t count;
-};
+#define MOST_LISTED 1024
+#define DROPS 8 /* reasons of drops */
 
 struct lane {
   struct bytes file;
@@ -35,69 +27,35 @@ struct channel {
 static struct channel channels[CHANNELS];
 static struct lane lanes[LANES];
 static interlaken_plan numbers; /* of the plan */
-static uint64_t drops[8], span_count;
+static uint64_t drops[DROPS], span_count;
 static const char *out_prefix;
 static uint64_t drawn; /* the state of the drawn numbers; 0 where none are drawn */
 
-static void fail(const char *what, const char *name) {
-  fprintf(stderr, "receive: %s: %s\n", name, what);
-  exit(1);
-}
-
-static struct bytes load(const char *name) {
-  struct bytes file = {NULL, 0};
-  FILE *in = fopen(name, "rb");
-  long size;
-  if (in == NULL || fseek(in, 0, SEEK_END) != 0 || (size = ftell(in)) < 0) fail("not read", name);
-  rewind(in);
-  file.count = (size_t)size;
-  file.at = malloc(file.count + 1);
-  if (file.at == NULL || fread(file.at, 1, file.count, in) != file.count) fail("not read", name);
-  fclose(in);
-  return file;
-}
-
-static FILE *create(const char *out, const char *rest) {
+static FILE *create_spans(const char *out) {
   char name[4096];
   FILE *file;
-  snprintf(name, sizeof name, "%s.%s", out, rest);
+  snprintf(name, sizeof name, "%s.spans.csv", out);
   file = fopen(name, "wb");
-  if (file == NULL) fail("not written", name);
+  if (file == NULL) fail(name, "not written");
   return file;
-}
-
-static void put_u32(FILE *out, uint32_t n) {
-  fputc(n & 255, out), fputc(n >> 8 & 255, out), fputc(n >> 16 & 255, out), fputc(n >> 24, out);
-}
-
-/* Ends a file. */
-static void finish_file(FILE *file, const char *name) {
-  int failed = ferror(file);
-  if (fclose(file) != 0 || failed) fail("not written", name);
 }
 
 /* The capture of a channel, with the header of a file. */
 static void open_channel(uint32_t number) {
   struct channel *channel = &channels[number];
-  char rest[32];
   if (channel->out != NULL) return;
   channel->listed = 1;
-  snprintf(rest, sizeof rest, "%" PRIu32 ".pcap", number);
-  channel->out = create(out_prefix, rest);
-  put_u32(channel->out, 0xa1b2c3d4), put_u32(channel->out, 2 | 4 << 16);
-  put_u32(channel->out, 0), put_u32(channel->out, 0), put_u32(channel->out, 262144);
-  put_u32(channel->out, numbers.link_type);
+  channel->out = create(out_prefix, NULL, number);
+  put_header(channel->out, numbers.link_type);
 }
 
-/* Reads the numbers of the plan, and opens the captures of its channels. The result is that of the library. */
-static uint32_t read_plan(const struct bytes *plan, interlaken_refusal *refusal) {
+/* Opens the captures of the channels of the plan. */
+static void open_channels(const char *name, const struct bytes *plan) {
   static uint16_t listed[MOST_LISTED];
+  interlaken_refusal refusal;
   size_t count;
-  uint32_t result = interlaken_plan_read(plan->at, plan->count, &numbers, refusal);
-  if (result == INTERLAKEN_DONE) result = interlaken_plan_channels(plan->at, plan->count, listed, MOST_LISTED, &count, refusal);
-  if (result != INTERLAKEN_DONE) return result;
+  must_open(name, interlaken_plan_channels(plan->at, plan->count, listed, MOST_LISTED, &count, &refusal), &refusal);
   for (size_t i = 0; i < count; i++) open_channel(listed[i]);
-  return INTERLAKEN_DONE;
 }
 
 static void take_packet(interlaken_receiver *receiver, const interlaken_event *event) {
@@ -105,12 +63,11 @@ static void take_packet(interlaken_receiver *receiver, const interlaken_event *e
   struct channel *channel = &channels[event->channel];
   uint32_t offset = 0;
   open_channel(event->channel);
-  for (uint32_t field = 0; field < 4; field++) put_u32(channel->out, field < 2 ? 0 : event->length);
+  put_record(channel->out, event->length);
   while (offset < event->length) {
     size_t copied;
-    if (interlaken_receiver_read(receiver, offset, piece, sizeof piece, &copied) != INTERLAKEN_DONE || copied == 0) {
-      fail("no bytes of a packet", "read");
-    }
+    must("read", interlaken_receiver_read(receiver, offset, piece, sizeof piece, &copied));
+    if (copied == 0) fail("read", "no bytes of a packet");
     fwrite(piece, 1, copied, channel->out);
     offset += (uint32_t)copied;
   }
@@ -124,25 +81,24 @@ static void put_place(FILE *out, const interlaken_place *place) {
 }
 
 static void take_span(FILE *out, const interlaken_event *event) {
-  static const char *const why[] = {"start", "bad", "crc", "protocol", "lost", "end"};
   put_place(out, &event->first);
   put_place(out, &event->last);
-  fprintf(out, "%s\n", why[event->why]);
+  fprintf(out, "%s\n", interlaken_fault_text(event->why));
   span_count++;
 }
 
-/* Takes all events that there are; 1 where the end is among them. */
+/* Takes all events that there are; 1 where the end is among them. Kinds of later versions are passed over. */
 static int take_events(interlaken_receiver *receiver, FILE *spans) {
   interlaken_event event;
   for (;;) {
-    if (interlaken_receiver_next(receiver, &event) != INTERLAKEN_DONE) fail("no event", "next");
+    must("next", interlaken_receiver_next(receiver, &event));
     switch (event.kind) {
       case INTERLAKEN_PACKET: take_packet(receiver, &event); break;
-      case INTERLAKEN_DROPPED: drops[event.why]++; break;
+      case INTERLAKEN_DROPPED: drops[event.why % DROPS]++; break;
       case INTERLAKEN_SPAN: take_span(spans, &event); break;
-      case INTERLAKEN_FLOW: break;
       case INTERLAKEN_ENDED: return 1;
-      default: return 0;
+      case INTERLAKEN_NONE: return 0;
+      default: break;
     }
   }
 }
@@ -159,13 +115,11 @@ static void feed_lane(interlaken_receiver *receiver, uint32_t number) {
   size_t piece = drawn != 0 ? 1 + below(2 * PIECE) : PIECE;
   if (lane->over) return;
   if (left == 0) {
-    if (interlaken_receiver_finish(receiver, number) != INTERLAKEN_DONE) fail("not finished", "lane");
+    must("finish", interlaken_receiver_finish(receiver, number));
     lane->over = 1;
     return;
   }
-  if (interlaken_receiver_feed(receiver, number, lane->file.at + lane->fed, piece < left ? piece : left, &taken) != INTERLAKEN_DONE) {
-    fail("not fed", "lane");
-  }
+  must("feed", interlaken_receiver_feed(receiver, number, lane->file.at + lane->fed, piece < left ? piece : left, &taken));
   lane->fed += taken;
 }
 
@@ -179,7 +133,7 @@ static void receive(interlaken_receiver *receiver, FILE *spans) {
 
 static void print_lane(interlaken_receiver *receiver, uint32_t number) {
   interlaken_report r;
-  if (interlaken_receiver_report(receiver, number, &r) != INTERLAKEN_DONE) fail("no report", "lane");
+  must("report", interlaken_receiver_report(receiver, number, &r));
   printf("lane %" PRIu32 " locks=%" PRIu64 " first=", number, r.locks);
   if (r.has_first) printf("%" PRIu64, r.first);
   else putchar('-');
@@ -188,7 +142,6 @@ static void print_lane(interlaken_receiver *receiver, uint32_t number) {
 }
 
 static void print_all(interlaken_receiver *receiver) {
-  static const char *const why[] = {"bad", "crc", "protocol", "lost", "end", "toolong", "unlisted", "sender"};
   for (uint32_t number = 0; number < numbers.lanes; number++) print_lane(receiver, number);
   for (uint32_t number = 0; number < CHANNELS; number++) {
     const struct channel *channel = &channels[number];
@@ -197,7 +150,7 @@ static void print_all(interlaken_receiver *receiver) {
     finish_file(channel->out, "capture");
   }
   printf("spans %" PRIu64 "\ndropped", span_count);
-  for (int kind = 0; kind < 8; kind++) printf(" %s=%" PRIu64, why[kind], drops[kind]);
+  for (uint32_t why = 0; why < DROPS; why++) printf(" %s=%" PRIu64, interlaken_drop_text(why), drops[why]);
   putchar('\n');
 }
 
@@ -206,26 +159,22 @@ int main(int argc, char **argv) {
   interlaken_refusal refusal;
   struct bytes plan;
   FILE *spans;
-  uint32_t result;
   if (argc != 4 && argc != 5) {
     fprintf(stderr, "usage: receive PLAN PREFIX OUT [SEED]\n");
     return 2;
   }
   if (argc == 5) drawn = strtoull(argv[4], NULL, 10) * 2654435761u + 88172645463325252u;
   plan = load(argv[1]);
+  must_open(argv[1], interlaken_receiver_new(&receiver, plan.at, plan.count, &refusal), &refusal);
   out_prefix = argv[3];
-  result = read_plan(&plan, &refusal);
-  if (result == INTERLAKEN_DONE) result = interlaken_receiver_new(&receiver, plan.at, plan.count, &refusal);
-  if (result != INTERLAKEN_DONE) {
-    fprintf(stderr, "receive: result %" PRIu32 ", cause %" PRIu32 ", row %" PRIu32 "\n", result, refusal.cause, refusal.row);
-    return 1;
-  }
+  must_open(argv[1], interlaken_plan_read(plan.at, plan.count, &numbers, &refusal), &refusal);
+  open_channels(argv[1], &plan);
   for (uint32_t number = 0; number < numbers.lanes; number++) {
     char name[4096];
     snprintf(name, sizeof name, "%s.lane.%" PRIu32, argv[2], number);
     lanes[number].file = load(name);
   }
-  spans = create(argv[3], "spans.csv");
+  spans = create_spans(argv[3]);
   receive(&receiver, spans);
   finish_file(spans, "spans.csv");
   print_all(&receiver);

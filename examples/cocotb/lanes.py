@@ -14,16 +14,13 @@ class LaneBits:
     """Feeds a receiver with a bit of each lane at a time, and yields the events that are there then."""
 
     def __init__(self, receiver: Receiver, lanes: int):
-        self.receiver, self.count, self.bits = receiver, 0, [0] * lanes
+        self.receiver, self.lanes, self.count = receiver, lanes, 0
 
     def feed(self, bits: int) -> Iterator[Event]:
-        """A bit of each lane: that of lane I is bit I of this number. The receiver gets whole bytes."""
-        for lane in range(len(self.bits)):
-            self.bits[lane] = self.bits[lane] << 1 | bits >> lane & 1
+        """A bit of each lane: that of lane I is bit I of this number."""
+        for lane in range(self.lanes):
+            if not self.receiver.feed_bits(lane, bits >> lane & 1, 1):
+                raise ValueError("lane %d is more than 4,096 bytes ahead of the others" % lane)
         self.count += 1
-        if self.count % 8 == 0:
-            for lane, byte in enumerate(self.bits):
-                if self.receiver.feed(lane, bytes([byte])) != 1:
-                    raise ValueError("lane %d is more than 4,096 bytes ahead of the others" % lane)
-            self.bits = [0] * len(self.bits)
+        if self.count % 8 == 0:  # the receiver works in bytes
             yield from self.receiver.events()

@@ -1,9 +1,11 @@
-/* Both ends of an Interlaken link for a bench in SystemVerilog: the functions that interlaken_dpi.sv imports, over the C library of
- * interlaken.h. It is C99 and C++, and needs no header of a simulator. The calls are said in interlaken_dpi.sv.
+/* Both ends of an Interlaken link, and damage between them, for a bench in SystemVerilog: the functions that interlaken_dpi.sv imports,
+ * over the C library of interlaken.h. It is C99 and C++. Of a simulator it needs svdpi.h alone, which each has. The calls are said in
+ * interlaken_dpi.sv.
  *
- * A handle is the address of a `live` or of a `drive`, which stays until the simulation ends: a call on a closed one has the result
- * NO_RECEIVER or NO_TRANSMITTER, as one on null has. */
+ * A handle is the address of a `live`, a `drive` or a `hurt`, which stays until the simulation ends: a call on a closed one has the
+ * result NO_RECEIVER, NO_TRANSMITTER or NO_DAMAGE, as one on null has. */
 #include "interlaken.h"
+#include "svdpi.h"
 #include <stdlib.h>
 #include <string.h>
 
@@ -30,15 +32,29 @@ struct live {
 
 static struct live *all; /* the handles of this simulation */
 
+/* Bytes of a lane that were taken, and not all passed on: of the first, so many bits were. */
+struct ahead {
+  uint8_t bytes[9];
+  unsigned count, passed;
+};
+
 /* A transmitter, and the bytes of the packet that is put together for it. */
 struct drive {
   interlaken_transmitter transmitter;
+  struct ahead lanes[LANES];
   uint8_t *packet;
   uint32_t length;
   struct drive *other;
 };
 
 static struct drive *drives;
+
+struct hurt {
+  interlaken_damage damage;
+  struct hurt *other;
+};
+
+static struct hurt *hurts;
 
 #ifdef __cplusplus
 extern "C" {
@@ -52,6 +68,8 @@ int interlaken_dpi_next(void *receiver, unsigned int *kind, unsigned int *channe
                         unsigned int *first_known, unsigned int *first_index, unsigned long long *first_group, unsigned int *last_known,
                         unsigned int *last_index, unsigned long long *last_group, unsigned long long *word);
 int interlaken_dpi_byte(void *receiver, unsigned int offset, unsigned char *value);
+int interlaken_dpi_packet_bytes(void *receiver, const svOpenArrayHandle data, unsigned int *copied);
+int interlaken_dpi_is_on(void *receiver, unsigned int channel, unsigned int *on);
 int interlaken_dpi_report(void *receiver, unsigned int lane, unsigned long long *locks, unsigned long long *has_first,
                           unsigned long long *first, unsigned long long *lost, unsigned long long *unframed, unsigned long long *bad,
                           unsigned long long *sync, unsigned long long *state, unsigned long long *diag);
@@ -63,15 +81,52 @@ void *interlaken_dpi_open_transmitter(const char *plan, unsigned int *cause, uns
 int interlaken_dpi_close_transmitter(void *transmitter);
 int interlaken_dpi_put_byte(void *transmitter, unsigned char value);
 int interlaken_dpi_send_packet(void *transmitter, unsigned int channel);
+int interlaken_dpi_send_bytes(void *transmitter, unsigned int channel, const svOpenArrayHandle data, unsigned int count);
+int interlaken_dpi_sent(void *transmitter, unsigned int channel, unsigned long long *packets_given, unsigned long long *packets_sent,
+                        unsigned long long *bytes_given, unsigned long long *bytes_sent);
 int interlaken_dpi_flow(void *transmitter, unsigned long long word);
 int interlaken_dpi_local(void *transmitter, unsigned int channel, unsigned int on);
 int interlaken_dpi_take_byte(void *transmitter, unsigned int lane, unsigned char *value);
+int interlaken_dpi_take_bits(void *transmitter, unsigned int lane, unsigned int count, unsigned long long *bits);
 int interlaken_dpi_slots(void *transmitter, unsigned long long *slots);
 int interlaken_dpi_finish_packets(void *transmitter);
+
+void *interlaken_dpi_open_damage(unsigned int lanes);
+int interlaken_dpi_close_damage(void *damage);
+int interlaken_dpi_flip(void *damage, unsigned int lane, unsigned long long bit);
+int interlaken_dpi_dark(void *damage, unsigned int lane, unsigned long long first, unsigned long long bits);
+int interlaken_dpi_damage_byte(void *damage, unsigned int lane, unsigned char value, unsigned char *damaged);
+int interlaken_dpi_damage_bytes(void *damage, unsigned int lane, const svOpenArrayHandle data, unsigned int count);
 
 #ifdef __cplusplus
 }
 #endif
+
+/* The bytes of an array in their order, where the simulator keeps them so; otherwise NULL. */
+static uint8_t *whole(const svOpenArrayHandle array) {
+  return svSizeOfArray(array) == svSize(array, 1) ? (uint8_t *)svGetArrayPtr(array) : NULL;
+}
+
+/* A byte of an array, counted from its lowest index. */
+static uint8_t *byte_of(const svOpenArrayHandle array, size_t place) {
+  return (uint8_t *)svGetArrElemPtr1(array, svLow(array, 1) + (int)place);
+}
+
+static void write_array(const svOpenArrayHandle array, const uint8_t *bytes, size_t count) {
+  uint8_t *to = whole(array);
+  size_t i;
+  if (to != NULL) memcpy(to, bytes, count);
+  else for (i = 0; i < count; i++) *byte_of(array, i) = bytes[i];
+}
+
+/* The first bytes of an array: in their place, or copied to `room`, which has so many. */
+static uint8_t *read_array(const svOpenArrayHandle array, uint8_t *room, size_t count) {
+  uint8_t *from = whole(array);
+  size_t i;
+  if (from != NULL) return from;
+  for (i = 0; i < count; i++) room[i] = *byte_of(array, i);
+  return room;
+}
 
 void *interlaken_dpi_open(const char *plan, unsigned int *cause, unsigned int *row, unsigned int *key) {
   struct live *live = (struct live *)calloc(1, sizeof *live);
@@ -190,6 +245,26 @@ int interlaken_dpi_byte(void *receiver, unsigned int offset, unsigned char *valu
   return INTERLAKEN_DONE;
 }
 
+int interlaken_dpi_packet_bytes(void *receiver, const svOpenArrayHandle data, unsigned int *copied) {
+  const struct live *live = (const struct live *)receiver;
+  unsigned int room = (unsigned int)svSize(data, 1);
+  *copied = 0;
+  if (live == NULL || live->packet == NULL) return INTERLAKEN_NO_RECEIVER;
+  if (live->length == 0) return INTERLAKEN_NO_PACKET;
+  *copied = live->length < room ? live->length : room;
+  write_array(data, live->packet, *copied);
+  return INTERLAKEN_DONE;
+}
+
+int interlaken_dpi_is_on(void *receiver, unsigned int channel, unsigned int *on) {
+  struct live *live = (struct live *)receiver;
+  uint32_t found = 0, result = INTERLAKEN_NO_RECEIVER;
+  if (live != NULL && live->packet != NULL) result = INTERLAKEN_NO_CHANNEL;
+  if (live != NULL && channel <= 65535) result = interlaken_receiver_is_on(&live->receiver, (uint16_t)channel, &found);
+  *on = found;
+  return (int)result;
+}
+
 int interlaken_dpi_report(void *receiver, unsigned int lane, unsigned long long *locks, unsigned long long *has_first,
                           unsigned long long *first, unsigned long long *lost, unsigned long long *unframed, unsigned long long *bad,
                           unsigned long long *sync, unsigned long long *state, unsigned long long *diag) {
@@ -276,6 +351,35 @@ int interlaken_dpi_send_packet(void *transmitter, unsigned int channel) {
   return (int)interlaken_transmitter_packet(&drive->transmitter, (uint16_t)channel, drive->packet, length);
 }
 
+int interlaken_dpi_send_bytes(void *transmitter, unsigned int channel, const svOpenArrayHandle data, unsigned int count) {
+  struct drive *drive = (struct drive *)transmitter;
+  uint8_t *room;
+  int result;
+  if (drive == NULL || drive->packet == NULL) return INTERLAKEN_NO_TRANSMITTER;
+  if (channel > 65535) return INTERLAKEN_NO_CHANNEL;
+  if (count > (unsigned int)svSize(data, 1) || count > LONGEST) return INTERLAKEN_BAD_LENGTH;
+  room = (uint8_t *)malloc((size_t)count + 1);
+  if (room == NULL) return INTERLAKEN_OUT_OF_MEMORY;
+  result = (int)interlaken_transmitter_packet(&drive->transmitter, (uint16_t)channel, read_array(data, room, count), count);
+  free(room);
+  return result;
+}
+
+int interlaken_dpi_sent(void *transmitter, unsigned int channel, unsigned long long *packets_given, unsigned long long *packets_sent,
+                        unsigned long long *bytes_given, unsigned long long *bytes_sent) {
+  struct drive *drive = (struct drive *)transmitter;
+  interlaken_counts counts;
+  uint32_t result = INTERLAKEN_NO_TRANSMITTER;
+  memset(&counts, 0, sizeof counts);
+  if (drive != NULL && drive->packet != NULL) result = INTERLAKEN_NO_CHANNEL;
+  if (drive != NULL && channel <= 65535) result = interlaken_transmitter_sent(&drive->transmitter, (uint16_t)channel, &counts);
+  *packets_given = counts.packets_given;
+  *packets_sent = counts.packets_sent;
+  *bytes_given = counts.bytes_given;
+  *bytes_sent = counts.bytes_sent;
+  return (int)result;
+}
+
 int interlaken_dpi_flow(void *transmitter, unsigned long long word) {
   struct drive *drive = (struct drive *)transmitter;
   if (drive == NULL) return INTERLAKEN_NO_TRANSMITTER;
@@ -290,12 +394,34 @@ int interlaken_dpi_local(void *transmitter, unsigned int channel, unsigned int o
 }
 
 int interlaken_dpi_take_byte(void *transmitter, unsigned int lane, unsigned char *value) {
+  unsigned long long bits;
+  int result = interlaken_dpi_take_bits(transmitter, lane, 8, &bits);
+  *value = (unsigned char)bits;
+  return result;
+}
+
+int interlaken_dpi_take_bits(void *transmitter, unsigned int number, unsigned int count, unsigned long long *bits) {
   struct drive *drive = (struct drive *)transmitter;
+  struct ahead *lane;
+  uint8_t none;
   size_t taken = 0;
   uint32_t result = INTERLAKEN_NO_TRANSMITTER;
-  *value = 0;
-  if (drive != NULL) result = interlaken_transmitter_take(&drive->transmitter, lane, value, 1, &taken);
-  return result == INTERLAKEN_DONE && taken == 0 ? NO_ROOM : (int)result;
+  *bits = 0;
+  if (drive != NULL) result = interlaken_transmitter_take(&drive->transmitter, number, &none, 0, &taken);
+  if (result != INTERLAKEN_DONE) return (int)result;
+  if (count > 64) return INTERLAKEN_TOO_MANY;
+  lane = &drive->lanes[number];
+  if (lane->passed + count > 8 * lane->count) {
+    size_t bytes = (lane->passed + count + 7) / 8 - lane->count;
+    result = interlaken_transmitter_take(&drive->transmitter, number, lane->bytes + lane->count, bytes, &taken);
+    lane->count += (unsigned)taken;
+  }
+  if (result != INTERLAKEN_DONE || lane->passed + count > 8 * lane->count) return result != INTERLAKEN_DONE ? (int)result : NO_ROOM;
+  for (; count > 0; count--, lane->passed++) *bits = *bits << 1 | (unsigned)(lane->bytes[lane->passed / 8] >> (7 - lane->passed % 8) & 1);
+  lane->count -= lane->passed / 8;
+  memmove(lane->bytes, lane->bytes + lane->passed / 8, lane->count);
+  lane->passed %= 8;
+  return INTERLAKEN_DONE;
 }
 
 int interlaken_dpi_slots(void *transmitter, unsigned long long *slots) {
@@ -311,4 +437,51 @@ int interlaken_dpi_finish_packets(void *transmitter) {
   struct drive *drive = (struct drive *)transmitter;
   if (drive == NULL) return INTERLAKEN_NO_TRANSMITTER;
   return (int)interlaken_transmitter_finish(&drive->transmitter);
+}
+
+void *interlaken_dpi_open_damage(unsigned int lanes) {
+  struct hurt *hurt = (struct hurt *)calloc(1, sizeof *hurt);
+  if (hurt == NULL || interlaken_damage_new(&hurt->damage, lanes) != INTERLAKEN_DONE) {
+    free(hurt);
+    return NULL;
+  }
+  hurt->other = hurts;
+  hurts = hurt;
+  return hurt;
+}
+
+int interlaken_dpi_close_damage(void *damage) {
+  struct hurt *hurt = (struct hurt *)damage;
+  return hurt == NULL ? INTERLAKEN_NO_DAMAGE : (int)interlaken_damage_free(&hurt->damage);
+}
+
+int interlaken_dpi_flip(void *damage, unsigned int lane, unsigned long long bit) {
+  struct hurt *hurt = (struct hurt *)damage;
+  return hurt == NULL ? INTERLAKEN_NO_DAMAGE : (int)interlaken_damage_flip(&hurt->damage, lane, bit);
+}
+
+int interlaken_dpi_dark(void *damage, unsigned int lane, unsigned long long first, unsigned long long bits) {
+  struct hurt *hurt = (struct hurt *)damage;
+  return hurt == NULL ? INTERLAKEN_NO_DAMAGE : (int)interlaken_damage_dark(&hurt->damage, lane, first, bits);
+}
+
+int interlaken_dpi_damage_byte(void *damage, unsigned int lane, unsigned char value, unsigned char *damaged) {
+  struct hurt *hurt = (struct hurt *)damage;
+  *damaged = value;
+  return hurt == NULL ? INTERLAKEN_NO_DAMAGE : (int)interlaken_damage_apply(&hurt->damage, lane, damaged, 1);
+}
+
+int interlaken_dpi_damage_bytes(void *damage, unsigned int lane, const svOpenArrayHandle data, unsigned int count) {
+  struct hurt *hurt = (struct hurt *)damage;
+  uint8_t *room, *bytes;
+  int result;
+  if (hurt == NULL) return INTERLAKEN_NO_DAMAGE;
+  if (count > (unsigned int)svSize(data, 1)) return INTERLAKEN_TOO_MANY;
+  room = (uint8_t *)malloc((size_t)count + 1);
+  if (room == NULL) return INTERLAKEN_OUT_OF_MEMORY;
+  bytes = read_array(data, room, count);
+  result = (int)interlaken_damage_apply(&hurt->damage, lane, bytes, count);
+  if (bytes == room) write_array(data, room, count);
+  free(room);
+  return result;
 }

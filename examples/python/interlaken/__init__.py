@@ -36,8 +36,9 @@ The numbers of a plan, and the lane and bit of a word: of one that came, and of 
 
 Where lanes come live, call `feed` for each, and take `events()` after each: it takes no byte of a lane whose events are due.
 
-It calls the C library that tools/library makes. A call that is misused raises Misuse, and changes nothing; a plan that is refused
-raises BadPlan, with the row and the cause. A Receiver takes one call at a time, and so do a Transmitter and a Damage. It needs Python 3.10.
+It calls the C library that tools/library makes; `library` is its path, or its name if the system finds it by that. A call that is misused
+raises Misuse, and changes nothing; a plan that is refused raises BadPlan, with the row and the cause. Each of them takes one call at a
+time. Numbers of a later version of the library have the name UNKNOWN. It needs Python 3.10.
 """
 
 from __future__ import annotations
@@ -49,7 +50,19 @@ from dataclasses import dataclass
 from typing import Callable, Iterator, Optional, Sequence, TypeVar
 
 
-class Result(enum.IntEnum):
+class _Number(enum.IntEnum):
+    """Numbers of interlaken.h. One that is not among them, as of a later version of the library, has the name UNKNOWN."""
+
+    @classmethod
+    def _missing_(cls, value: object) -> Optional["_Number"]:
+        if not isinstance(value, int):
+            return None
+        number = int.__new__(cls, value)
+        number._name_, number._value_ = "UNKNOWN", value
+        return number
+
+
+class Result(_Number):
     """The results of calls, as in interlaken.h."""
 
     DONE = 0
@@ -72,7 +85,7 @@ class Result(enum.IntEnum):
     WAITING = 17
 
 
-class Cause(enum.IntEnum):
+class Cause(_Number):
     """Why a plan is refused."""
 
     NO_CAUSE = 0
@@ -86,7 +99,7 @@ class Cause(enum.IntEnum):
     CLASH = 8
 
 
-class Key(enum.IntEnum):
+class Key(_Number):
     """A key that a plan must have."""
 
     NO_KEY = 0
@@ -96,7 +109,7 @@ class Key(enum.IntEnum):
     OUT = 4
 
 
-class Kind(enum.IntEnum):
+class Kind(_Number):
     """Kinds of events."""
 
     NONE = 0
@@ -107,7 +120,7 @@ class Kind(enum.IntEnum):
     ENDED = 5
 
 
-class Drop(enum.IntEnum):
+class Drop(_Number):
     """Why a piece of a packet is dropped."""
 
     BAD = 0
@@ -120,7 +133,7 @@ class Drop(enum.IntEnum):
     SENDER_ERROR = 7
 
 
-class Fault(enum.IntEnum):
+class Fault(_Number):
     """What a fault span is for."""
 
     START = 0
@@ -131,7 +144,7 @@ class Fault(enum.IntEnum):
     END = 5
 
 
-class WordKind(enum.IntEnum):
+class WordKind(_Number):
     """Kinds of words: the tags of a words file."""
 
     DATA = 1
@@ -139,7 +152,7 @@ class WordKind(enum.IntEnum):
     BAD = 3
 
 
-class Rule(enum.IntEnum):
+class Rule(_Number):
     """The rules of a sender's words, in their order."""
 
     NONE = 0
@@ -164,7 +177,7 @@ class Rule(enum.IntEnum):
     OFF = 19
 
 
-class LaneState(enum.IntEnum):
+class LaneState(_Number):
     """How far the search for the locks of a lane is."""
 
     SEARCHING = 0
@@ -172,7 +185,7 @@ class LaneState(enum.IntEnum):
     DECLARED = 2
 
 
-class LaneEventKind(enum.IntEnum):
+class LaneEventKind(_Number):
     """What a lane shows at a word."""
 
     NO_LANE_EVENT = 0
@@ -346,8 +359,11 @@ class _Refusal(ctypes.Structure):
 class _Place(ctypes.Structure):
     _fields_ = [("known", ctypes.c_uint32), ("index", ctypes.c_uint32), ("group", ctypes.c_uint64)]
 
+    def place(self) -> Place:
+        return Place(self.group, self.index)
+
     def value(self) -> Optional[Place]:
-        return Place(self.group, self.index) if self.known else None
+        return self.place() if self.known else None
 
 
 class _Event(ctypes.Structure):
@@ -589,36 +605,96 @@ def version(library: str = "libinterlaken.so") -> tuple[int, int, int]:
     return number // 10000, number // 100 % 100, number % 100
 
 
+@dataclass
+class _Bits:
+    """Bits of a lane that wait: the `count` lowest of a number, the highest of them first."""
+
+    value: int = 0
+    count: int = 0
+
+    def put(self, bits: int, count: int) -> None:
+        """Adds bits at the end."""
+        self.value, self.count = self.value << count | bits, self.count + count
+
+    def whole_bytes(self) -> bytes:
+        """The first of them, as far as they fill bytes."""
+        return (self.value >> self.count % 8).to_bytes(self.count // 8, "big")
+
+    def drop(self, count: int) -> int:
+        """Takes the first `count` away, and gives their number."""
+        self.count -= count
+        first = self.value >> self.count
+        self.value &= (1 << self.count) - 1
+        return first
+
+
 class Receiver(_OfPlan):
     """A receiver of the lanes of a plan. As a context manager it is closed at the end."""
 
     def __init__(self, plan: bytes, library: str = "libinterlaken.so"):
         """`plan` is the text of a plan file, and `library` the path of the shared library."""
         super().__init__(plan, library, "interlaken_receiver_", _RECEIVER_CALLS)
+        self._bits: dict[int, _Bits] = {}
 
     def feed(self, lane: int, data: bytes) -> int:
-        """Feeds a lane with the next of its bytes, as many as its ring of 4,096 bytes has room for, and returns how many."""
+        """Feeds a lane with the next of its bytes, as many as its ring of 4,096 bytes has room for, and returns how many. It raises
+        ValueError where bits of `feed_bits` wait."""
+        if lane in self._bits and self._bits[lane].count > 0:
+            raise ValueError("bits of lane %d wait" % lane)
+        return self._feed(lane, data)
+
+    def _feed(self, lane: int, data: bytes) -> int:
         taken = _size()
         self._call("feed", _lane(lane), data, len(data), taken)
         return taken.value
 
+    def feed_bits(self, lane: int, bits: int, count: int) -> bool:
+        """Feeds a lane with its next `count` bits: those of a number, the highest first. The receiver works in bytes, so up to seven bits
+        wait for the next. False where the ring of the lane has no room: then nothing was taken; take events and feed these again."""
+        _within(bits, _within(count, 63, "count"), "number of %d bits" % count)
+        self._feed(lane, b"")  # what is misused raises before bits are kept
+        waiting = self._bits.setdefault(lane, _Bits())
+        if not self._push(lane, waiting):
+            return False
+        waiting.put(bits, count)
+        self._push(lane, waiting)
+        return True
+
+    def _push(self, lane: int, waiting: _Bits) -> bool:
+        """Feeds the whole bytes that wait: whether all were taken."""
+        if waiting.count >= 8:
+            waiting.drop(8 * self._feed(lane, waiting.whole_bytes()))
+        return waiting.count < 8
+
     def finish(self, lane: int) -> None:
-        """No further byte of this lane comes."""
+        """No further byte of this lane comes. Bits that wait are filled up with zeros; where there is no room for them it raises
+        ValueError, and the lane is not finished: take events first."""
+        waiting = self._bits.get(lane, _Bits())
+        if waiting.count > 0 and not self._push(lane, waiting):
+            raise ValueError("bytes of lane %d wait" % lane)
+        if waiting.count > 0 and self._feed(lane, bytes([waiting.value << 8 - waiting.count])) != 1:
+            raise ValueError("bits of lane %d wait" % lane)
+        waiting.drop(waiting.count)
         self._call("finish", _lane(lane))
 
     def next(self) -> Optional[Event]:
-        """The next event; None where there is none so far, and after the end."""
+        """The next event; None where there is none so far, and after the end. Events of kinds that are not known here are passed over. An
+        event comes once each lane that is not finished has been fed up to the byte that shows it."""
         event = _Event()
         self._call("next", event)
-        first, last = event.first.value(), event.last.value()
+        while event.kind > Kind.ENDED:
+            self._call("next", event)
+        return self._event(event)
+
+    def _event(self, event: _Event) -> Optional[Event]:
         if event.kind == Kind.PACKET:
-            return Packet(event.channel, self._packet(event.length), first, last)
+            return Packet(event.channel, self._packet(event.length), event.first.place(), event.last.place())
         if event.kind == Kind.DROPPED:
             return Dropped(event.channel, Drop(event.why))
         if event.kind == Kind.SPAN:
-            return Span(first, last, Fault(event.why))
+            return Span(event.first.value(), event.last.value(), Fault(event.why))
         if event.kind == Kind.FLOW:
-            return Flow(first, event.word)
+            return Flow(event.first.place(), event.word)
         return Ended() if event.kind == Kind.ENDED else None
 
     def _packet(self, length: int) -> bytes:
@@ -679,6 +755,7 @@ class Transmitter(_OfPlan):
         """`plan` is the text of a plan file, and `library` the path of the shared library."""
         super().__init__(plan, library, "interlaken_transmitter_", _TRANSMITTER_CALLS)
         self._finished = False
+        self._bits: dict[int, _Bits] = {}
 
     def packet(self, channel: int, data: bytes) -> None:
         """Gives a packet of 1 byte to the plan's `max_packet` bytes to be sent on a channel that the plan lists."""
@@ -694,8 +771,13 @@ class Transmitter(_OfPlan):
         self._call("local", _channel(channel), on)
 
     def take(self, lane: int, count: int) -> bytes:
-        """The next bytes of a lane, at most so many. They are fewer if 4,088 bytes or more of another lane wait, after the end, and, of
-        any lane, if `count` is above 4,088. Fewer never mean the end by themselves: `status` tells it."""
+        """The next bytes of a lane, at most so many: fewer where 4,088 bytes of another lane wait, or where more than 4,088 are asked for;
+        none after the end. It raises ValueError where bits of `take_bits` wait."""
+        if lane in self._bits and self._bits[lane].count > 0:
+            raise ValueError("bits of lane %d wait" % lane)
+        return self._take(lane, count)
+
+    def _take(self, lane: int, count: int) -> bytes:
         data, taken = ctypes.create_string_buffer(max(_within(count, 63, "count"), 1)), _size()
         self._call("take", _lane(lane), data, count, taken)
         return data.raw[: taken.value]
@@ -704,6 +786,16 @@ class Transmitter(_OfPlan):
         """No further packet comes; `flow` and `local` still count. Go on until `status` has no packet left, then `finish`. (`close` frees
         the transmitter.)"""
         self._call("close")
+
+    def take_bits(self, lane: int, count: int) -> Optional[int]:
+        """The next `count` bits of a lane as a number, the first highest. None where there are not so many, as after the end: then none was
+        taken. What is left of a byte waits for the next call."""
+        _within(count, 63, "count")
+        self._take(lane, 0)
+        waiting = self._bits.setdefault(lane, _Bits())
+        for byte in self._take(lane, max(count - waiting.count + 7, 0) // 8):
+            waiting.put(byte, 8)
+        return waiting.drop(count) if waiting.count >= count else None
 
     def finish(self) -> None:
         """No further packet and no further row comes: what may be sent is sent, and then the lanes end."""
