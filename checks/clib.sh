@@ -367,7 +367,8 @@ with i.Transmitter(plan, library) as near, i.Transmitter(plan, library) as far, 
     print(near.status(0).left, near.status(0).ended, near.status(1).held)
     near.finish()
     print([len(data) for data in near.take_all(2)].count(0), near.take(0, 9), near.status(1))
-    for wrong in (lambda: far.local(3, True), lambda: far.status(2), lambda: far.take_all(2), lambda: near.take_all(1), lambda: near.packet(1, b"a"), lambda: near.flow(0), lambda: near.local(1, True), lambda: far.packet(3, b"a"), lambda: far.packet(1, b""),
+    for wrong in (lambda: far.local(3, True), lambda: far.status(2), lambda: far.take_all(2), lambda: near.take_all(1),
+                  lambda: near.packet(1, b"a"), lambda: near.flow(0), lambda: near.local(1, True), lambda: far.packet(3, b"a"), lambda: far.packet(1, b""),
                   lambda: far.packet(2, bytes(262145)), lambda: far.take(2, 1), lambda: far.take(-1, 1), lambda: far.sent(3), far.close, lambda: far.slots(),
                   lambda: far.sent(1), far.finish, lambda: near.take(0, -1), lambda: near.packet(65536, b"a"), lambda: near.flow(1 << 64),
                   lambda: i.Transmitter(b"lanes,0", library)):

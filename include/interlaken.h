@@ -29,9 +29,9 @@
  *
  * - A receiver: INTERLAKEN_ENDED, once, after all lanes are finished. INTERLAKEN_NONE before that
  *   means that at least one unfinished lane has an empty ring: feed or finish that lane.
- * - A transmitter: for each lane, `ended` is 1 and `waiting` is 0 in what
- *   `interlaken_transmitter_status_of` writes. That comes after `finish`. If `take` returns fewer
- *   bytes before, take the other lanes: too many of their bytes wait.
+ * - A transmitter: after `finish`, for each lane, `ended` is 1 and `waiting` is 0 in what
+ *   `interlaken_transmitter_status_of` writes. If `take` returns 0 bytes of one lane before, take
+ *   the others: too many of their bytes wait.
  * - An inspector: INTERLAKEN_NO_LANE_EVENT means that no event is due on any lane. All events of
  *   the bytes that were taken were returned: feed more bytes.
  * - A checker: INTERLAKEN_RULE_NONE means that no fault is due. Give it the next word.
@@ -468,11 +468,11 @@ uint32_t interlaken_transmitter_local(interlaken_transmitter *transmitter, uint1
 
 /* Takes the next bytes of a lane, counted from 0, first bit first: `taken` is how many. While fewer
  * than `count` bytes wait, the next word of each lane is made. No word is made if a lane is full,
- * with 4,088 bytes or more that wait, or if the lanes have ended. So fewer than `count` bytes are
- * taken if another lane is full, after the last byte of a finished transmitter, and, of any lane,
- * if `count` is above 4,088. Fewer never mean the end by themselves: `status_of` tells it. At least
- * one byte is taken of a lane with waiting bytes, if `count` is not 0. The rest of `bytes` stays
- * unchanged.
+ * which it is from 4,088 waiting bytes on, or if the lanes have ended. So fewer than `count` bytes
+ * may be taken: of any lane if `count` is above 4,088, if another lane is full, or at the end of a
+ * finished transmitter. Fewer bytes alone never mean the end: `status_of` says whether the lanes
+ * have ended. At least one byte is taken of a lane with waiting bytes, if `count` is not 0. The
+ * rest of `bytes` stays unchanged.
  * Results: DONE, NO_LANE, NO_TRANSMITTER; `taken` is 0 if it is not DONE. */
 uint32_t interlaken_transmitter_take(interlaken_transmitter *transmitter, uint32_t lane,
                                      uint8_t *bytes, size_t count, size_t *taken);
@@ -485,7 +485,7 @@ uint32_t interlaken_transmitter_take(interlaken_transmitter *transmitter, uint32
 uint32_t interlaken_transmitter_close(interlaken_transmitter *transmitter);
 
 /* Ends the input: no packet or flow control may follow. Queued packets are sent on channels that
- * are on; packets on a channel that is off are not sent. The lanes end a few metaframes later: then
+ * are on; packets on a channel that is off are not sent. The lanes end a few metaframes later, and
  * `status_of` says so. A second call changes nothing.
  * Results: DONE, NO_TRANSMITTER. */
 uint32_t interlaken_transmitter_finish(interlaken_transmitter *transmitter);

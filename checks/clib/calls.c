@@ -591,8 +591,8 @@ struct told {
   interlaken_counts counts;
 };
 
-/* A handle of a transmitter, whether its packets were closed and it was finished, the packets that it took, the words that it was told by the far end, and the bytes that were taken of its
- * lanes. */
+/* A handle of a transmitter, whether its packets were closed and whether it was finished, the packets that it took, the words that it was
+ * told by the far end, and the bytes that were taken of its lanes. */
 struct sender {
   interlaken_transmitter transmitter;
   int has, closed, finished, ended;

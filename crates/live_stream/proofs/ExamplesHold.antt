@@ -45,5 +45,16 @@ live_examples_hold = record {
   goes_before_three = refl;
   whole_of_one_packet = one_whole;
   whole_of_two_channels = two_whole;
+  the_longest = refl;
+  one_byte_longer = refl;
+  no_byte = refl;
+  after_the_packets = refl;
+  state_after_the_packets = refl;
+  after_the_close = refl;
+  state_after_the_close = refl;
+  of_no_channel = refl;
+  state_of_no_channel = refl;
+  all_are_left = refl;
+  two_are_left = refl;
   with_a_later_packet = (later_is_not_heard (at_once one_packet 0) (given_after 5 1 (9 ∷ []) ∷ []) [] [] one_packet_words later).0 one_whole.live;
 }

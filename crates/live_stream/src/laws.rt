@@ -31,9 +31,10 @@ pub fn words_are_live()
     ensures { (s : LiveScheduler) (g : Given) (w : List Word) → Gives s g w → IsLiveStream g w }
 {}
 
-/// Where the packets are closed, the words that are right stay the same. Of a stream that was closed before, nothing changes: each packet
-/// is refused as it was.
+/// Where the packets are closed, the words that are right stay the same. Where they were closed before, nothing changes. Nor does it where
+/// the stream was closed before: each packet is refused as it was.
 pub fn closed_packets_change_no_word()
+    ensures again { (given : Given) → packets_closed_in (packets_closed_in given) ≡ packets_closed_in given }
     ensures live { (given : Given) (w : List Word) → IsLiveStream given w ↔ IsLiveStream (packets_closed_in given) w }
     ensures whole { (given : Given) (w : List Word) → IsWholeLiveStream given w ↔ IsWholeLiveStream (packets_closed_in given) w }
     ensures refused { (given : Given) (slot channel : ℕ) (bytes : List ℕ) → given.closed ≡ Some slot → refusal_of (packets_closed_in given) channel bytes ≡ refusal_of given channel bytes }
