@@ -328,7 +328,8 @@ uint32_t interlaken_plan_read(const uint8_t *plan, size_t size, interlaken_plan 
                               interlaken_refusal *refusal);
 
 /* Writes the numbers of the channels that a plan lists, in rising order, as many as there is `room`
- * for. `count` is how many are listed. The rest of `channels` stays unchanged.
+ * for. `count` is how many are listed, as the plan's `channels` says. The rest of `channels` stays
+ * unchanged.
  * Results: DONE, OUT_OF_MEMORY, BAD_PLAN; `count` is 0 and `channels` unchanged if it is not DONE.
  */
 uint32_t interlaken_plan_channels(const uint8_t *plan, size_t size, uint16_t *channels, size_t room,

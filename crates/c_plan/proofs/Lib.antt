@@ -1,3 +1,4 @@
+mod Counted
 mod GroupPlaces
 mod Limits
 mod SlotFits

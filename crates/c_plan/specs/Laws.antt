@@ -10,6 +10,7 @@ use Rattle.lane_model.specs.Key.{first_state, key_place, key_word, start_of}
 use Rattle.lane_model.specs.LaneBits.{stream_lane_bits}
 use Rattle.lane_model.specs.LaneWords.{scrambled}
 use Rattle.epoch_model.specs.Groups.{SyncAt, behind_for, name_of, no_sync, place, size_of, sync_for}
+use Rattle.link_plan.specs.Listing.{channels_in_order, numbers_of as listed_in}
 use Rattle.link_plan.specs.Plan.{plan_of}
 use Rattle.link_plan.specs.Views.{GivesPlan}
 use Rattle.link_plan.specs.declared.plan.Plan.{Plan}
@@ -19,6 +20,10 @@ use Rattle.c_plan.specs.Places.{bit_of_place, bit_of_slot, lane_of_place, lane_o
 -- a plan's numbers are within the limits
 abbrev pub NumbersAreOfPlans : Type 0
 NumbersAreOfPlans = (rows : List Row) (plan : Plan) → GivesPlan (Ok plan) (plan_of rows) → ArePlanNumbers (numbers_of plan)
+
+-- `channels` lists as many channels as the plan's numbers count
+abbrev pub AllChannelsAreListed : Type 0
+AllChannelsAreListed = (plan : Plan) → length (channels_in_order (listed_in plan.channels.items)) ≡ (numbers_of plan).channels
 
 -- ---- words that are sent
 

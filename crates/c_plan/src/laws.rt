@@ -2,12 +2,17 @@
 ghost use Rattle.std.specs.Prelude.{◌≡◌};
 ghost use Rattle.lk_base.specs.Link.{IsLink, group_of};
 ghost use Rattle.c_plan.specs.Examples.{at, two_lanes};
-ghost use Rattle.c_plan.specs.Laws.{NumbersAreOfPlans, PlacesAreFound, SlotsAreFound};
+ghost use Rattle.c_plan.specs.Laws.{AllChannelsAreListed, NumbersAreOfPlans, PlacesAreFound, SlotsAreFound};
 ghost use Rattle.c_plan.specs.Places.{place_found, slot_found};
 
 /// The numbers of a plan that is read are within the limits, so `place` and `slot` never refuse them.
 pub fn numbers_are_of_plans()
     ensures { NumbersAreOfPlans }
+{}
+
+/// The numbers of a plan count the channels that `channels` lists.
+pub fn all_channels_are_listed()
+    ensures { AllChannelsAreListed }
 {}
 
 /// Word number `slot` of a stream is on the lane that `slot` writes, and its code begins at the bit that it writes.
