@@ -145,7 +145,7 @@ class Table:
         told = [run.unit, shown(a, "%.1f"), shown(b, "%.1f"), shown(ratio(b, a), "%.3f")]
         if with_plain:
             to_plain = ratio(b, run.plain)
-            told += [shown(run.plain, "%d"), shown(to_plain, "%.2f"), "" if to_plain is None else "yes" if to_plain <= TARGET else "no"]
+            told += [shown(run.plain, "%d"), shown(to_plain, "%.2f"), verdict(to_plain)]
         return told
 
     def seconds(self, turns):
@@ -172,6 +172,13 @@ def head(names):
 
 def ratio(one, other):
     return one / other if one is not None and other else None
+
+
+def verdict(to_plain):
+    """Whether a ratio is at most TARGET, as it is shown."""
+    if to_plain is None:
+        return ""
+    return "yes" if round(to_plain, 2) <= TARGET else "no"
 
 
 def shown(number, form):

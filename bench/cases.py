@@ -69,7 +69,7 @@ ON_CAPTURE = [
     Run("the capture", BURST_FILE, (), BURST_FILE, plain=64),
     Run("its words file", ("join", "a.pcap.words"), (BURST_FILE,), BURST_FILE, plain=66),
     Run("a plan", BURST, (), BURST, plain=67),
-    Run("a plan", ("join", "a.plan"), (BURST,), BURST, plain=66),
+    Run("a plan", ("join", "a.plan"), (BURST,), BURST),
     Run("8 lanes", SEND, (), BURST, plain=144),
     Run("8 lanes", ("stripe", "a.plan"), (BURST,), BURST, plain=126),
     Run("a plan", ("check", "a.plan"), (BURST,), BURST, plain=80),
