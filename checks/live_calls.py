@@ -239,7 +239,8 @@ class Transmitting(Numbered):
         return self.r.choice(listed * 4 + [next(n for n in range(256) if n not in listed), 65_535 if 65_535 not in listed else listed[0]])
 
     def packet(self):
-        length = self.r.choice([self.r.randint(1, 250), self.r.randint(1, 250), self.r.randint(1, 20), 0, model.LONGEST + 1])
+        longest = min(250, self.link.plan.settings.max_packet)
+        length = self.r.choice([self.r.randint(1, longest), self.r.randint(1, longest), self.r.randint(1, 20), 0, model.LONGEST + 1])
         if self.has:
             return self.sending.packet(self.r, self.channel(), length, self.mark())
         self.put("tpacket %d %d %d 0 %d" % (self.handle, self.channel(), RANDOM_BYTES, length), "12")
