@@ -174,22 +174,21 @@ def first_difference(found, wanted):
 # ---- transmitters
 
 def live_turn(r, sending, sizes, refuses):
-    """A few calls, and then bytes of each lane but one now and then."""
+    """A few calls, words of the far end, and then bytes of each lane but one now and then."""
     plan = sending.plan
-    for _ in range(r.choice([0, 1, 1, 2, 6])):
-        kind = r.randrange(9)
-        if kind < 4:
+    for _ in range(r.choice([0, 1, 2, 5, 12])):
+        kind = r.randrange(10)
+        if kind < 7:
             longest = min(plan.settings.max_packet, r.choice([20, 100, 300, 1_000]))
             sending.packet(r, r.choice(plan.channels), r.randint(1, longest), r.choice(["", "! ", "!! "]) if refuses else "")
-        elif kind < 6:
-            for word in flow_words(r, plan):
-                sending.flow(word)
-        elif kind == 6:
-            sending.local(r.choice(plan.channels), r.choice([0, 1, 0, 2, 256, 0xFFFFFFFF]))
         elif kind == 7:
+            sending.local(r.choice(plan.channels), r.choice([0, 1, 0, 2, 256, 0xFFFFFFFF]))
+        elif kind == 8:
             sending.sent(r.choice(plan.channels))
         else:
             sending.slots()
+    for word in flow_words(r, plan) if r.randrange(2) else []:
+        sending.flow(word)
     for lane in r.sample(range(plan.link.lanes), plan.link.lanes):
         if r.randrange(9):
             sending.take(lane, r.randint(0, r.choice(sizes)))

@@ -42,12 +42,17 @@ class Feeding:
 
 
 def flow_words(r, plan):
-    """Words of the far end: a calendar or parts of it, whose checksums are anything, and words of other kinds."""
-    if r.randrange(6) == 0:
-        return [r.choice([0, r.getrandbits(64), r.getrandbits(63), 1 << 63 | 0b0110 << 57 | r.getrandbits(56)])]
+    """Words of the far end: a calendar or a part of it, whose checksums are anything, and one of another kind before, in or after it."""
     states = [r.randrange(3) > 0 for _ in plan.entries]
     words = [row.number ^ r.choice([0, r.getrandbits(24)]) for row in drawn.calendar_rows(r, 0, states)]
-    return words[:r.randint(1, len(words))] if r.randrange(4) == 0 else words
+    if r.randrange(6) == 0:
+        words = words[r.randrange(len(words)):]
+    if r.randrange(6) == 0:
+        words = words[:r.randint(0, len(words))]
+    if r.randrange(2) == 0:
+        other = r.choice([0, r.getrandbits(64), r.getrandbits(63), 1 << 63 | 0b0110 << 57 | r.getrandbits(56)])
+        words.insert(r.choice([0, 1, 1, 2]), other)
+    return words
 
 
 def all_on(r, plan):
@@ -234,7 +239,8 @@ class Transmitting(Numbered):
         return self.r.choice(listed * 4 + [next(n for n in range(256) if n not in listed), 65_535 if 65_535 not in listed else listed[0]])
 
     def packet(self):
-        length = self.r.choice([self.r.randint(1, 250), self.r.randint(1, 250), self.r.randint(1, 20), 0, model.LONGEST + 1])
+        longest = min(250, self.link.plan.settings.max_packet)
+        length = self.r.choice([self.r.randint(1, longest), self.r.randint(1, longest), self.r.randint(1, 20), 0, model.LONGEST + 1])
         if self.has:
             return self.sending.packet(self.r, self.channel(), length, self.mark())
         self.put("tpacket %d %d %d 0 %d" % (self.handle, self.channel(), RANDOM_BYTES, length), "12")
@@ -248,7 +254,7 @@ class Transmitting(Numbered):
         self.sending.local(channel, on) if self.has else self.put("tlocal %d %d %d" % (self.handle, channel, on), "12")
 
     def take(self):
-        lane, count = self.lane(), self.r.randrange(self.r.choice([30, 300, 300, 5_000]))
+        lane, count = self.lane(), self.r.randrange(self.r.choice([30, 300, 2_000, 5_000]))
         self.sending.take(lane, count) if self.has else self.put("ttake %d %d %d" % (self.handle, lane, count), "12 0")
 
     def told(self):

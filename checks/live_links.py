@@ -23,7 +23,7 @@ def chosen_plan(r, lanes):
             ("warmup", r.choice([4, 4, 4, 5, 7])), ("burst_max", burst_max), ("burst_short", r.randrange(32, min(burst_max, 256) + 1, 8)),
             ("burst_min", r.choice([0, r.randrange(0, burst_max // 2 + 1, 32)])), ("wide", int(wide)), ("out", "o")]
     channels = r.sample(WIDE if wide else NARROW, r.choice([1, 1, 2, 3, 5, 12, 20]))
-    entries = r.choice([0, 0, 1, len(channels), 16, 17, 33, 40])
+    entries = r.choice([0, 0, 1, len(channels), 17, 17, 33, 40])
     return rows + [("entry", r.choice(channels)) for _ in range(entries)], channels
 
 

@@ -43,10 +43,12 @@ uint32_t __real_interlaken_receiver_feed(interlaken_receiver *r, uint32_t lane, 
 /* A byte alone is given with the next one. */
 static uint32_t feed_late(interlaken_receiver *r, uint32_t lane, const uint8_t *bytes, size_t count, size_t *taken) {
   struct kept *k = kept_of(r);
-  uint32_t result = INTERLAKEN_DONE;
-  if (lane < 64 && k->has_byte[lane]) result = __real_interlaken_receiver_feed(r, lane, &k->byte[lane], 1, taken);
-  if (lane >= 64 || count != 1 || result != INTERLAKEN_DONE) return __real_interlaken_receiver_feed(r, lane, bytes, count, taken);
-  k->has_byte[lane] = 1, k->byte[lane] = *bytes, *taken = 1;
+  uint32_t result = __real_interlaken_receiver_feed(r, lane, bytes, 0, taken);
+  if (result != INTERLAKEN_DONE) return result;
+  if (k->has_byte[lane]) result = __real_interlaken_receiver_feed(r, lane, &k->byte[lane], 1, taken);
+  k->has_byte[lane] = count == 1;
+  if (count != 1) return __real_interlaken_receiver_feed(r, lane, bytes, count, taken);
+  k->byte[lane] = *bytes, *taken = 1;
   return result;
 }
 
@@ -128,13 +130,18 @@ uint32_t __wrap_interlaken_transmitter_packet(interlaken_transmitter *t, uint16_
   return result;
 }
 
-uint32_t __real_interlaken_transmitter_slots(interlaken_transmitter *t, uint64_t *slots);
+/* What `flow` gives, without anything that it does: a packet without bytes is refused first where the transmitter is finished. */
+static uint32_t flow_result(interlaken_transmitter *t) {
+  uint8_t byte = 0;
+  uint32_t result = __real_interlaken_transmitter_packet(t, 0, &byte, 0);
+  return result == INTERLAKEN_FINISHED || result == INTERLAKEN_NO_TRANSMITTER ? result : INTERLAKEN_DONE;
+}
+
 uint32_t __real_interlaken_transmitter_flow(interlaken_transmitter *t, uint64_t word);
 uint32_t __wrap_interlaken_transmitter_flow(interlaken_transmitter *t, uint64_t word) {
-  uint64_t slots;
-  uint32_t end = (uint32_t)(word >> 57) & 15;
-  if (is_wrong(13) && (!(word >> 63) || (end > 1 && end < 8))) return __real_interlaken_transmitter_slots(t, &slots);
-  if (is_wrong(14) && told == NULL) return told = t, told_word = word, __real_interlaken_transmitter_slots(t, &slots);
+  uint32_t end = (uint32_t)(word >> 57) & 15, result = flow_result(t);
+  if (is_wrong(13) && (!(word >> 63) || (end > 1 && end < 8))) return result;
+  if (is_wrong(14) && told == NULL && result == INTERLAKEN_DONE) return told = t, told_word = word, result;
   return __real_interlaken_transmitter_flow(t, word);
 }
 
@@ -143,6 +150,7 @@ uint32_t __wrap_interlaken_transmitter_local(interlaken_transmitter *t, uint16_t
   return __real_interlaken_transmitter_local(t, channel, is_wrong(15) ? on == 1 : on);
 }
 
+uint32_t __real_interlaken_transmitter_slots(interlaken_transmitter *t, uint64_t *slots);
 uint32_t __real_interlaken_transmitter_take(interlaken_transmitter *t, uint32_t lane, uint8_t *bytes, size_t count, size_t *taken);
 
 /* The word of the far end counts from the word after the next on. */
@@ -168,7 +176,7 @@ uint32_t __wrap_interlaken_transmitter_take(interlaken_transmitter *t, uint32_t 
   result = __real_interlaken_transmitter_take(t, lane, bytes, count, taken);
   all += *taken;
   if (is_wrong(16) && *taken > 0 && all % 5 == 0) bytes[*taken - 1] ^= 1;
-  if (is_wrong(17) && *taken < count) bytes[*taken] = 0;
+  if (is_wrong(17) && *taken > 0 && *taken < count) bytes[*taken] = 0;
   return result;
 }
 
