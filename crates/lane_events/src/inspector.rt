@@ -170,8 +170,8 @@ impl LaneInspector {
         true
     }
 
-    // Takes the next bytes, at most seven. Returns whether the word that ends within them shows events, and writes these if it does. They
-    // are written by few words only: so the loops make none for the others.
+    // Takes the next bytes, at most seven. Returns whether the word that ends within them shows events, and writes these if it does. Few
+    // words show some: so the caller has room for them, and its loop makes none for the others.
     #[inline(always)]
     fn next_events(&mut self, bits: u64, count: u32, events: &mut WordEvents) -> bool
         requires some { 1 ≤ count }
