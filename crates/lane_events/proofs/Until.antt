@@ -46,9 +46,13 @@ goes_to_end v u w bytes i count number new is all one two =
     subst (λ (n : ℕ). GoesOn v w (bits_of_bytes (take n bytes)) new) all (goes_more v u w bytes i count number new is one two)
 
 -- no word showed any
-pub none_shown : (shown : Option WordEvents) → is_some shown ≡ false → shown_in shown ≡ []
+none_shown : (shown : Option WordEvents) → is_some shown ≡ false → shown_in shown ≡ []
 none_shown None e = refl
 none_shown (Some w) e = absurd (true≢false e)
+
+-- what showed none
+pub sevens_on : (v u : InspectorView) (bytes : List ℕ) (at : ℕ) (shown : Option WordEvents) → is_some shown ≡ false → GoesOn v u (bits_of_bytes (take at bytes)) (shown_in shown) → GoesOn v u (bits_of_bytes (take at bytes)) []
+sevens_on v u bytes at shown none on = subst (λ (es : List LaneEvent). GoesOn v u (bits_of_bytes (take at bytes)) es) (none_shown shown none) on
 
 pub none_if_not : (shown : Option WordEvents) → ((w : WordEvents) → shown ≡ Some w → ⊥) → shown_in shown ≡ []
 none_if_not None e = refl

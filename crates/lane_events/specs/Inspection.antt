@@ -47,6 +47,10 @@ events_in w = map (event_of w.bit) (filter (has_kind w) all_kinds)
 abbrev pub due_from : WordEvents → ℕ → List LaneEvent
 due_from w n = map (event_of w.bit) (filter (has_kind w) (drop n all_kinds))
 
+-- they, if the word shows any
+abbrev pub events_if : Bool → WordEvents → List LaneEvent
+events_if shows w = if shows then events_in w else []
+
 -- the events of a word, if it shows any
 abbrev pub shown_in : Option WordEvents → List LaneEvent
 shown_in None = []

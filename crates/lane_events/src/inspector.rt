@@ -6,7 +6,7 @@ ghost use Rattle.lane_lock.specs.Standing.{IsReport};
 ghost use Rattle.lane_events.specs.declared.types.LaneEvent.{LaneEvent as Event};
 ghost use Rattle.lane_events.specs.Events.{AreLaneEvents};
 ghost use Rattle.lane_events.specs.Balance.{balance_after as balance_with};
-ghost use Rattle.lane_events.specs.Inspection.{Finds, GoesOn, Inspects, IsCounted, IsPassed, IsPushed, IsShown, IsTold, ShowsNone, events_in, excess_before, shown_in};
+ghost use Rattle.lane_events.specs.Inspection.{Finds, GoesOn, Inspects, IsCounted, IsPassed, IsPushed, IsShown, IsTold, ShowsNone, events_if, events_in, excess_before, shown_in};
 
 use crate::balance::balance_with;
 use crate::told::{balance_after, balance_before, is_plain, told};
@@ -74,10 +74,12 @@ impl LaneInspector {
         ensures events { (s : Settings) (so_far : List Bool) (events : List Event) → Inspects self.old s so_far → AreLaneEvents s so_far events →
             AreLaneEvents s (so_far ++ bits_of (8 * count) bits) (events ++ events_in result) }
     {
-        match self.next_events(bits, count) {
-            Some(events) => events,
-            None => WordEvents::none(0),
+        let mut events = WordEvents::none(0);
+        let shows = self.next_events(bits, count, &mut events);
+        if shows {
+            return events;
         }
+        WordEvents::none(0)
     }
 
     // Takes the next bytes, at most seven, and gives the word that ends within them. Its step is neither told nor passed over yet.
@@ -152,39 +154,42 @@ impl LaneInspector {
         true
     }
 
-    // The events of the word of a step after which this many bits came. Few words come to it: it is kept out of the loops.
+    // Writes the events of the word of a step after which this many bits came, and returns whether it shows any. Few words come to it: it
+    // is kept out of the loops.
     #[inline(never)]
-    fn tell(&mut self, step: LaneStep, further: u32) -> WordEvents
+    fn tell(&mut self, step: LaneStep, further: u32, events: &mut WordEvents) -> bool
         requires { further ≤ 55 }
-        ensures { IsTold self.old self.new step further (events_in result) }
+        ensures told { IsTold self.old self.new step further (events_if result events.new) }
+        ensures some { result ≡ true → events_in events.new ≡ [] → ⊥ }
     {
         let after = self.lock.report();
-        self.shown(&after, step, further)
+        *events = self.shown(&after, step, further);
+        if events.is_empty() {
+            return false;
+        }
+        true
     }
 
-    // Takes the next bytes, at most seven. Returns the events of the word that ends within them, if it shows any.
+    // Takes the next bytes, at most seven. Returns whether the word that ends within them shows events, and writes these if it does. Few
+    // words show some: so the caller has room for them, and its loop makes none for the others.
     #[inline(always)]
-    fn next_events(&mut self, bits: u64, count: u32) -> Option<WordEvents>
+    fn next_events(&mut self, bits: u64, count: u32, events: &mut WordEvents) -> bool
         requires some { 1 ≤ count }
         requires most { count ≤ 7 }
         requires bits { bits < 2 ^ (8 * count) }
         requires few { self.old.taken + 8 * count ≤ 2 ^ 60 }
         ensures taken { self.new.taken ≡ self.old.taken + 8 * count }
-        ensures goes_on { GoesOn self.old self.new (bits_of (8 * count) bits) (shown_in result) }
-        ensures some { IfSome result (λ events. events_in events ≡ [] → ⊥) }
+        ensures goes_on { GoesOn self.old self.new (bits_of (8 * count) bits) (events_if result events.new) }
+        ensures some { result ≡ true → events_in events.new ≡ [] → ⊥ }
     {
         let Some(word) = self.push(bits, count) else {
-            return None;
+            return false;
         };
         let further = 8 * count - 1 - word.place;
         if self.passes(word.step, further) {
-            return None;
+            return false;
         }
-        let events = self.tell(word.step, further);
-        if events.is_empty() {
-            return None;
-        }
-        Some(events)
+        self.tell(word.step, further, events)
     }
 
     /// Takes the next byte of the lane, and returns the events of the word that ends within it, if one does. At most 2^60 bits come in
@@ -220,8 +225,12 @@ impl LaneInspector {
         if left == 0 {
             return (at, None);
         }
-        let shown = self.next_events(number_at(bytes, at, left), left as u32);
-        (bytes.len(), shown)
+        let mut events = WordEvents::none(0);
+        let shows = self.next_events(number_at(bytes, at, left), left as u32, &mut events);
+        if shows {
+            return (bytes.len(), Some(events));
+        }
+        (bytes.len(), None)
     }
 
     // Takes bytes in pieces of seven, while more than seven are left and none showed an event. Returns how many it took, and the events
@@ -235,12 +244,13 @@ impl LaneInspector {
         ensures rest { IfNone result.1 (length bytes.now ≤ result.0 + 7) }
         ensures soon { (n : ℕ) → n + 7 ≤ result.0 → ShowsNone self.old (bits_of_bytes (take n bytes.now)) }
     {
+        let mut events = WordEvents::none(0);
         let mut at = 0;
         while bytes.len() - at > PIECE {
-            let shown = self.next_events(number_at(bytes, at, PIECE), PIECE as u32);
+            let shows = self.next_events(number_at(bytes, at, PIECE), PIECE as u32, &mut events);
             at += PIECE;
-            if shown.is_some() {
-                return (at, shown);
+            if shows {
+                return (at, Some(events));
             }
         }
         (at, None)

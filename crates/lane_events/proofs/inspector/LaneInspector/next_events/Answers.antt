@@ -1,7 +1,6 @@
 -- A word ends within the bits, which is passed over or told, or none does.
-use Rattle.std.proofs.Common.{◌-◌, ◌*◌, [], subst, arith, List}
-use Rattle.lane_events.specs.declared.types.LaneEvent.{LaneEvent}
-use Rattle.lane_events.specs.Inspection.{IsTold, events_in}
+use Rattle.std.proofs.Common.{◌*◌, arith}
+use Rattle.lane_events.specs.Inspection.{events_if}
 use Rattle.lane_events.proofs.Inspecting.{goes_on_none, goes_past_cut, told_of}
 use Rattle.lane_events.proofs.inspector.LaneInspector.next_events.Goals as goal
 
@@ -15,15 +14,8 @@ returns-then-passes-clause-goes_on c =
     goes_past_cut c.args.self.now c.push.new.self (8 * c.args.count) c.in-Some.word.place c.args.bits c.in-Some.word.step c.in-Some.ensures.place (omega (arith, most)) c.requires.bits
     c.in-Some.ensures.stands c.in-Some.ensures.pushed c.passes.new.self (c.passes.ensures.passed c.if-passes.true)
 
-pub returns-then-is_empty-clause-goes_on : goal.returns-then-is_empty-clause-goes_on
-returns-then-is_empty-clause-goes_on c =
-    let most = c.requires.most in
-    told_of c.args.self.now c.push.new.self c.passes.new.self c.tell-events.new.self (8 * c.args.count) c.in-Some.word.place c.args.bits c.in-Some.word.step [] c.in-Some.ensures.place (omega (arith, most)) c.requires.bits
-    c.in-Some.ensures.stands c.in-Some.ensures.pushed (c.passes.ensures.other c.if-passes.false)
-    (subst (λ (es : List LaneEvent). IsTold c.passes.new.self c.tell-events.new.self c.in-Some.word.step (8 * c.args.count - 1 - c.in-Some.word.place) es) (c.is_empty.ensures.none c.if-is_empty.true) c.tell-events.ensures)
-
 pub returns-clause-goes_on : goal.returns-clause-goes_on
 returns-clause-goes_on c =
     let most = c.requires.most in
-    told_of c.args.self.now c.push.new.self c.passes.new.self c.tell-events.new.self (8 * c.args.count) c.in-Some.word.place c.args.bits c.in-Some.word.step (events_in c.tell-events.result) c.in-Some.ensures.place (omega (arith, most)) c.requires.bits
-    c.in-Some.ensures.stands c.in-Some.ensures.pushed (c.passes.ensures.other c.if-passes.false) c.tell-events.ensures
+    told_of c.args.self.now c.push.new.self c.passes.new.self c.tell.new.self (8 * c.args.count) c.in-Some.word.place c.args.bits c.in-Some.word.step (events_if c.tell.result c.tell.new.events) c.in-Some.ensures.place (omega (arith, most)) c.requires.bits
+    c.in-Some.ensures.stands c.in-Some.ensures.pushed (c.passes.ensures.other c.if-passes.false) c.tell.ensures.told
