@@ -123,7 +123,7 @@ for made in by_words by_cmake/by_interlaken by_cmake/by_shared; do
     holds "$made, run" "$(LD_LIBRARY_PATH=$folder/library/lib "./$made" damaged.plan damaged got 2>&1)" "$("$program" receive damaged.plan 2>&1)"
 done
 . "$top/checks/clib/packages.bash"
-try_versions "$("$program" receive damaged.plan 2>&1)"
+try_versions
 try_further_calls
 try_texts
 try_promises

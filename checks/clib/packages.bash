@@ -10,7 +10,7 @@ nodes_of() { # LIBRARY
 # A program that was linked with 1.4.1, whose library had one node without a number, runs with this library. A call that is gone is
 # missing from the header or from the archive, and tools/library then makes nothing.
 try_versions() {
-  local calls version minor
+  local calls version minor wanted
   calls=$(sed -n 's/^1\.4 //p' "$top/tools/library_calls.txt")
   holds 'how many calls 1.4 had' "$(grep -c . <<<"$calls")" 23
   holds 'calls of 1.4 that the header lacks' "$(grep -vxFf <(grep -oE 'interlaken_[a-z_]+' "$include/interlaken.h") <<<"$calls")" ''
@@ -29,11 +29,14 @@ try_versions() {
   mkdir old && echo 'INTERLAKEN { global: interlaken_receiver_*; interlaken_transmitter_*; interlaken_damage_*; local: *; };' >old/exports
   cc -shared -Wl,-soname,libinterlaken.so.1 -Wl,--version-script,old/exports -o old/libinterlaken.so.1 \
     -Wl,--whole-archive library/lib/libinterlaken.a -Wl,--no-whole-archive &&
-    cc -std=c99 "${strict[@]}" -o of_old "$top/examples/c/receive.c" old/libinterlaken.so.1 &&
-    cc -std=c99 "${strict[@]}" -o of_new "$top/examples/c/receive.c" library/lib/libinterlaken.so
-  holds 'a program linked with 1.4.1, run with this library' "$(LD_LIBRARY_PATH=library/lib ./of_old damaged.plan damaged got 2>&1)" "$1"
-  holds 'a program linked with this library' "$(LD_LIBRARY_PATH=library/lib ./of_new damaged.plan damaged got 2>&1)" "$1"
-  holds 'a program linked with this library, run with that of 1.4.1' "$(LD_LIBRARY_PATH=old ./of_new damaged.plan damaged got 2>&1 | grep -c INTERLAKEN_1.4)" 1
+    cc -std=c99 "${strict[@]}" -o of_old "$top/examples/c/transmit.c" old/libinterlaken.so.1 &&
+    cc -std=c99 "${strict[@]}" -o of_new "$top/examples/c/transmit.c" library/lib/libinterlaken.so
+  # Its calls are those of 1.4.
+  sed 's/^out,.*/out,versions/; /^schedule,/d' "$top/examples/damaged.plan" >versions.plan
+  wanted=$("$program" send versions.plan 2>&1)
+  holds 'a program linked with 1.4.1, run with this library' "$(LD_LIBRARY_PATH=library/lib ./of_old versions.plan got 1 one.pcap 2 two.pcap 2>&1)" "$wanted"
+  holds 'a program linked with this library' "$(LD_LIBRARY_PATH=library/lib ./of_new versions.plan got 1 one.pcap 2 two.pcap 2>&1)" "$wanted"
+  holds 'a program linked with this library, run with that of 1.4.1' "$(LD_LIBRARY_PATH=old ./of_new versions.plan got 1 one.pcap 2 two.pcap 2>&1 | grep -c INTERLAKEN_1.4)" 1
 }
 
 # A checkout whose header and archive have a call more, of version 1.99: the call is of the newest node. One that lacks a call of 1.4,
@@ -58,8 +61,8 @@ try_further_calls() {
   holds 'a call more' "$(nodes_of further/made/lib/libinterlaken.so | grep -v '1\.4$\|INTERLAKEN$' | grep further)" interlaken_further@@INTERLAKEN_1.99
   holds 'the other calls beside it' "$(nodes_of further/made/lib/libinterlaken.so | grep -c '@@INTERLAKEN_1.4$')" 23
   sed 's/^uint32_t interlaken_receiver_free/uint32_t interlaken_further(void);\n&/; s/^#define INTERLAKEN_VERSION .*/#define INTERLAKEN_VERSION "1.4.9"/' header.h >"$header"
-  holds 'a call more of a version that is listed' "$(further/tools/library further/again 2>&1)" \
-    'library: library_calls.txt has all calls of 1.4, and not interlaken_further: a further call raises the version'
+  holds 'a call more of a version that is listed' "$(further/tools/library further/again 2>&1 | sed 's/, and not interlaken_[a-z_]*:/:/')" \
+    'library: library_calls.txt has all calls of 1.4: a further call raises the version'
   cp header.h "$header"
   objcopy -L interlaken_damage_dark archive.a further/release/libinterlaken-x86_64-linux.a
   (cd further/release && sha256sum libinterlaken-x86_64-linux.a >libinterlaken-x86_64-linux.a.sha256)
@@ -353,7 +356,7 @@ with i.Transmitter(plan, "library/lib/libinterlaken.so") as near:
     tried(2)
 print(i.Drop(9).name, int(i.Drop(9)), i.Result(99).name, i.Fault(0).name)
 ' "$python")" "$(
-    printf '%s\n' 'the transmitter is not finished' 'the plan does not have 1 lanes' 'the plan does not have 3 lanes' 'the plan does not have 0 lanes'
+    printf '%s\n' 'the transmitter was not finished' 'the plan has 2 lanes, not 1' 'the plan has 2 lanes, not 3' 'the plan has 2 lanes, not 0'
     sed '/^channel/d; s/^out,.*/out,one/' sent.plan >one.plan && packet_of_90 >ninety.pcap && echo 'channel,1,ninety.pcap' >>one.plan
     sed -n '/^channel,2/s/,[^,]*$//p' sent.plan >>one.plan && "$program" send one.plan >/dev/null
     echo "$(wc -c <one.lane.0) $(wc -c <one.lane.1)"

@@ -836,7 +836,7 @@ class Transmitter(_OfPlan):
     def _lane_count(self) -> int:
         lane = 0
         while (result := self._result("status_of", lane, _Status())) is not Result.NO_LANE:
-            self._check(result)
+            _check(result)
             lane += 1
         return lane
 
