@@ -140,10 +140,10 @@ class Monitor:
         """A lock of each lane has to be declared in twelve metaframes, and then a control word has to be verified after each burst."""
         fed = 8 * min(self._fed)
         if self._unlocked:
-            is_late, first = fed > _CODE_BITS * 12 * self.plan.metaframe, Word(min(self._unlocked), 0)
+            is_late, first = fed >= _CODE_BITS * 12 * self.plan.metaframe, Word(min(self._unlocked), 0)
         else:
             limit = _CODE_BITS * (self.plan.metaframe + self.plan.burst_max // 8 * 3 // 2)
-            is_late, first = fed > 8 * self._heard + limit, self._verified
+            is_late, first = fed >= 8 * self._heard + limit, self._verified
         if is_late and not self._silent:
             yield Finding(Silence(), first)
         self._silent = is_late
