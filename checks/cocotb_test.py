@@ -50,6 +50,65 @@ def try_bits(tally, folder, library):
     tally.expect("spans", spans, int(re.search(r"^spans (\d+)", text, re.M)[1]) - 1)
 
 
+def rows_of(path):
+    with open(path, encoding="utf-8") as file:
+        return [line.split(",") for line in file.read().split("\n") if line]
+
+
+def make_many(folder):
+    """Two lanes with some bits inverted; the rows that say which."""
+    with open(folder + "/many.schedule", "w", encoding="utf-8") as file:
+        file.write("skew,0,11\nskew,1,200\nflip,0,9000\nflip,1,15000\nflip,0,21001\nflip,1,21002\n")
+    with open(folder + "/damaged.plan", encoding="utf-8") as file:
+        plan = file.read().replace("warmup,4", "warmup,20").replace("damaged", "many")
+    with open(folder + "/many.plan", "w", encoding="utf-8") as file:
+        file.write(plan)
+    run(PROGRAM, "link", "many.plan", folder=folder)
+    run(PROGRAM, "inspect", "many.plan", folder=folder)
+    return rows_of(folder + "/many.schedule")
+
+
+def monitored(folder, library):
+    """The packets and the findings of a monitor of these lanes."""
+    from lanes import LaneBits
+    from interlaken import Packet
+    from interlaken.monitor import Finding, Monitor
+
+    lanes = []
+    for lane in range(2):
+        with open("%s/many.lane.%d" % (folder, lane), "rb") as file:
+            lanes.append(file.read())
+    events = []
+    with open(folder + "/many.plan", "rb") as file, Monitor(file.read(), library) as monitor:
+        bits = LaneBits(monitor, len(lanes))
+        for at in range(8 * min(map(len, lanes))):
+            events += bits.feed(sum((data[at // 8] >> (7 - at % 8) & 1) << lane for lane, data in enumerate(lanes)))
+    return [event for event in events if isinstance(event, Packet)], [event for event in events if isinstance(event, Finding)]
+
+
+def try_monitor(tally, folder, library):
+    """The same lanes and a monitor: its findings are the events of `inspect` but the locks, and the spans of `receive` but the first and last,
+    between whose words a bit was inverted."""
+    from interlaken import LaneEvent, Span
+
+    rows = make_many(folder)
+    shown = [(int(lane), int(bit), event) for lane, bit, event in rows_of(folder + "/many.events.csv")[1:] if event != "lock"]
+    skews = {int(row[1]): int(row[2]) for row in rows if row[0] == "skew"}
+    flips = [int(row[2]) - skews[int(row[1])] for row in rows if row[0] == "flip"]
+    packets, found = monitored(folder, library)
+    names = {"BAD_WORD": "bad", "BAD_DIAGNOSTIC": "diag"}
+    of_lanes = [(event.first.lane, event.first.bit, names.get(event.what.kind.name, event.what.kind.name[4:].lower()))
+                for event in found if isinstance(event.what, LaneEvent)]
+    tally.expect("findings of lanes", (sorted(of_lanes), len(of_lanes) > 0), (sorted(shown), True))
+    spans = [event for event in found if isinstance(event.what, Span)]
+    tally.expect("findings of spans", (len(spans), len(spans) > 0), (len(rows_of(folder + "/many.spans.csv")) - 3, True))
+    for span in spans:
+        first, last = span.first.bit - skews[span.first.lane], span.last.bit - skews[span.last.lane]
+        tally.expect("a bit within a span", any(first - 67 < flip < last + 67 for flip in flips), True)
+    got = re.findall(r"^got channel=\d+ packets=(\d+)", run(PROGRAM, "receive", "many.plan", folder=folder)[1], re.M)
+    tally.expect("packets beside a monitor", len(packets), sum(map(int, got)))
+
+
 def try_cocotb(tally, folder, library):
     """The test of cocotb, with a simulator that is there."""
     if not shutil.which("cocotb-config"):
@@ -71,6 +130,7 @@ def main():
         tally.expect("the library", run(TOP + "/tools/library", "library", folder=folder)[0], 0)
         library = folder + "/library/lib/libinterlaken.so"
         try_bits(tally, folder, library)
+        try_monitor(tally, folder, library)
         try_cocotb(tally, folder, library)
     return tally.end()
 

@@ -9,6 +9,7 @@ import tempfile
 
 from captures import packets_of
 import documents
+from dpi_monitor import try_monitor
 from machine import copy_examples, patience
 from tally import Tally
 
@@ -74,9 +75,38 @@ def make_lanes(folder):
     return Received(folder, "long.plan", "long")
 
 
+def make_words(folder):
+    """Words of these lanes, some of them changed, and the faults that `check` finds in them."""
+    run(PROGRAM, "gather", "long.plan", folder=folder)
+    run(sys.executable, "-B", TOP + "/checks/clib/changed.py", "long.words", "changed.words", "changed.flow", "1", folder=folder)
+    with open(folder + "/long.plan", encoding="utf-8") as plan, open(folder + "/changed.plan", "w", encoding="utf-8") as file:
+        file.write(plan.read().replace("out,long", "out,changed"))
+    run(PROGRAM, "check", "changed.plan", folder=folder)
+    return table_of(folder + "/changed.faults.csv")
+
+
+def table_of(path):
+    """The rows of a table without its head."""
+    with open(path, encoding="utf-8") as file:
+        return [line.split(",") for line in file.read().split("\n")[1:-1]]
+
+
+def make_events(folder):
+    """What `inspect` finds in the lanes: its events by their numbers in the header, and the counts of each lane."""
+    kinds = ["bad", "sync", "state", "skip", "diag", "health", "balance", "lock", "lost-headers", "lost-sync", "lost-state", "unframed"]
+    text = run(PROGRAM, "inspect", "long.plan", folder=folder)[1]
+    counts = [re.sub(r"^lane|first=\S+ ", "", line).strip() for line in text.split("\n") if line.startswith("lane ")]
+    return [(int(lane), int(bit), 1 + kinds.index(event)) for lane, bit, event in table_of(folder + "/long.events.csv")], counts
+
+
+RULES = ["bad", "control", "crc", "data", "max", "empty", "short", "end", "fill", "part", "min", "sop", "open", "channel", "long", "idle", "multi", "calendar", "off"]
+
+
 def try_layer(tally, folder):
     """The C layer alone, in drawn pieces and orders."""
     wanted = make_lanes(folder)
+    events, counts = make_events(folder)
+    faults = sorted((int(word), 1 + RULES.index(rule), channel) for word, rule, channel in make_words(folder))
     root = run("verilator", "--getenv", "VERILATOR_ROOT", folder=folder)[1].strip()
     header = ["-I%s/include/vltstd" % root, "-include", "dpi/obj_dir/Vtb_live__Dpi.h", "-Idpi/library/include"]
     words = ["cc", *STRICT, "-O1", *sanitizers(tally, folder), *header, "-o", "layer", TOP + "/checks/dpi/layer.c", "dpi/interlaken_dpi.c"]
@@ -88,13 +118,18 @@ def try_layer(tally, folder):
         spans.append("span %s %d" % (" ".join(places[0] + places[1]), whys.index(why)))
     full = False
     for seed in range(1, 31):
-        status, text = run("./layer", "long.plan", str(seed), "long.lane.0", "long.lane.1", folder=folder)
+        status, text = run("./layer", "long.plan", str(seed), "changed.words", "long.lane.0", "long.lane.1", folder=folder)
         lines = text.split("\n")
         full = full or "no room" in lines
         what = "the layer, seed %d" % seed
         tally.expect(what, (status, [line for line in lines if line.startswith("wrong")]), (0, []))
         tally.expect(what + ": spans", [line for line in lines if line.startswith("span")], spans)
         tally.expect(what + ": lanes", [line for line in lines if line.startswith("lane")], wanted.lanes)
+        tally.expect(what + ": inspected lanes", [line[len("inspected "):] for line in lines if line.startswith("inspected")], counts)
+        shown = [tuple(map(int, found)) for found in re.findall(r"^shows (\d+) (\d+) (\d+)$", text, re.M)]
+        tally.expect(what + ": events", sorted(shown, key=lambda event: event[0]), events)
+        told = [(int(word), int(rule), "-" if channel == "-0" else channel) for word, rule, channel in re.findall(r"^fault (\d+) (\d+) (\S+)$", text, re.M)]
+        tally.expect(what + ": faults", sorted(told), faults)
         for channel, packets in wanted.packets.items():
             begin = "packet %d " % channel
             tally.expect(what + ": packets", [line[len(begin):] for line in lines if line.startswith(begin)], [packet.hex() for packet in packets])
@@ -103,7 +138,7 @@ def try_layer(tally, folder):
 
 def build(tally, folder, bench, name, shape):
     """A bench of other parameters."""
-    parameters = ["-G%s=%d" % pair for pair in zip(("LANES", "METAFRAME", "SKIPS"), shape)]
+    parameters = ["-G%s=%d" % pair for pair in zip(("LANES", "METAFRAME", "SKIPS", "WIDTH"), shape)]
     words = ["--binary", "--timing", "-f", bench + ".f", "--top-module", "tb_" + bench, "--Mdir", name, "-MAKEFLAGS", "OPT_FAST=-O0 OPT_GLOBAL=-O0", *parameters]
     tally.expect("tb_%s of other parameters" % bench, run("verilator", *words, folder=folder)[0], 0)
 
@@ -123,6 +158,27 @@ def try_drive(tally, folder):
         turned = [(state, int(slot)) for state, slot in re.findall(r"^channel 1 is (off|on) from word (\d+) on$", text, re.M)]
         tally.expect(what + ": turns", [state for state, _ in turned], ["off", "on"])
         tally.expect(what + ": words while it is off", turned[1][1] - turned[0][1] > 0, True)
+
+
+def try_bare(tally, folder):
+    """tb_live with a device of which it has valid and the lanes alone."""
+    path = folder + "/dpi/tb_live.sv"
+    with open(path, encoding="utf-8") as file:
+        text = file.read()
+    bare = re.sub(r", \.taken, \.slot, \.begins, \.ends\)", ", .taken(), .slot(), .begins(), .ends())", text)
+    tally.expect("what the device says is left out", bare != text, True)
+    with open(path, "w", encoding="utf-8") as file:
+        file.write(bare)
+    words = ["--binary", "--timing", "-f", "live.f", "--top-module", "tb_live", "--Mdir", "obj_bare", "-MAKEFLAGS", "OPT_FAST=-O0 OPT_GLOBAL=-O0"]
+    tally.expect("tb_live of a bare device", run("verilator", *words, "-GSCOREBOARD=0", folder=folder + "/dpi")[0], 0)
+    status, text = run("dpi/obj_bare/Vtb_live", "+lanes=live", folder=folder)
+    wanted = [(number % 2 + 1, 16 + number * 37 % 200) for number in range(40)]
+    told = [(int(channel), int(length)) for channel, length in re.findall(r"^packet channel=(\d+) bytes=(\d+)$", text, re.M)]
+    tally.expect("packets of a bare device", (status, sorted(told)), (0, sorted(wanted)))
+    status, text = run("dpi/obj_bare/Vtb_live", "+lane=1", "+bit=20000", folder=folder)
+    places = [tuple(map(int, found)) for found in re.findall(r"^lane (\d+): bits (\d+) to (\d+)$", text, re.M)]
+    tally.expect("a bit of a bare device", (status != 0, [lane == 1 and first <= 20000 <= last for lane, first, last in places]), (True, [True]))
+    tally.expect("lost packets of a bare device", re.findall("^lost packet", text, re.M), [])
 
 
 def numbers_in(packets):
@@ -205,15 +261,18 @@ def main():
             tally.give_up("the bench", "it is not built")
         names = numbers_of(TOP + "/include/interlaken.h") + [("INTERLAKEN_NO_ROOM", "100")]
         tally.expect("names and numbers of the header and of the package", numbers_of(folder + "/dpi/interlaken_dpi.sv"), sorted(names))
-        for files, top_module in (("live.f", "tb_live"), ("drive.f", "tb_drive")):
-            lint = run("verilator", "--lint-only", "-Wall", "--timing", "-f", files, "--top-module", top_module, folder=folder + "/dpi")
-            tally.expect("lint of " + top_module, lint, (0, ""))
+        for bench in ("live", "drive", "monitor"):
+            lint = run("verilator", "--lint-only", "-Wall", "--timing", "-f", bench + ".f", "--top-module", "tb_" + bench, folder=folder + "/dpi")
+            tally.expect("lint of tb_" + bench, lint, (0, ""))
         try_layer(tally, folder)
         try_drive(tally, folder + "/dpi")
         for shape, name in PLANS.items():
             if not os.path.exists(folder + "/dpi/" + name):
                 build(tally, folder + "/dpi", "live", name, shape)
             Bench(tally, folder, shape, name).try_all()
+        sys.path.insert(0, TOP + "/examples/python")
+        try_monitor(tally, folder, run, lambda name, shape: build(tally, folder + "/dpi", "monitor", name, shape), PROGRAM)
+        try_bare(tally, folder)
     return tally.end()
 
 

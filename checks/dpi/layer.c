@@ -1,17 +1,18 @@
 /* The functions of examples/dpi/interlaken_dpi.c without a simulator: lanes in drawn pieces and orders, a transmitter whose lanes come back,
- * and each misuse. Its prototypes are those that verilator made of the imports.
+ * words of a sender, and each misuse. Its prototypes are those that verilator made of the imports.
  *
- *     layer PLAN SEED LANE..
+ *     layer PLAN SEED WORDS LANE..
  *
- * PLAN is a plan file, and each LANE the file of a lane, from lane 0 on. It prints a line for each packet, fault span and dropped piece
- * and for each lane, and a line that begins with `wrong` for each call with another result than it should have. */
+ * PLAN is a plan file, WORDS a words file, and each LANE the file of a lane, from lane 0 on. It prints a line for each packet, fault span
+ * and dropped piece and for each lane, for each event of a lane, for each fault of the words, and a line that begins with `wrong` for each
+ * call with another result than it should have. */
 #include <stdint.h>
 #include <stdio.h>
 #include <stdlib.h>
 #include <string.h>
 
 enum { DONE, NO_LANE = 3, FINISHED, TOO_MANY, NO_PACKET, NO_RECEIVER, NO_DAMAGE = 9, OUT_OF_RANGE, PASSED, NO_TRANSMITTER, NO_CHANNEL,
-       BAD_LENGTH, NO_ROOM = 100 };
+       BAD_LENGTH, NO_INSPECTOR, NO_CHECKER, WAITING, NO_ROOM = 100 };
 enum { NONE, PACKET, DROPPED, SPAN, FLOW, ENDED };
 
 struct file {
@@ -187,6 +188,7 @@ static void try_none(void *receiver) {
   want("report of none", interlaken_dpi_report(receiver, 0, &n[0], &n[1], &n[2], &n[3], &n[4], &n[5], &n[6], &n[7], &n[8]), NO_RECEIVER);
   want("state of none", interlaken_dpi_lane_state(receiver, 0, &u[0]), NO_RECEIVER);
   want("place of none", interlaken_dpi_place(receiver, 1, 0, 0, &u[0], &n[0]), NO_RECEIVER);
+  want("arrival of none", interlaken_dpi_arrival(receiver, 1, 0, 0, &u[0], &n[0]), NO_RECEIVER);
 }
 
 static void try_plan(const char *plan, unsigned wanted_cause, unsigned wanted_row, unsigned wanted_key) {
@@ -405,20 +407,175 @@ static void try_damage(void) {
   try_no_damage(damage);
 }
 
+/* All that a handle without an inspector answers. */
+static void try_no_inspector(void *inspector) {
+  struct array array = make_array(1);
+  unsigned kind = 9, lane = 9, taken = 9;
+  unsigned long long n[9];
+  want("close of no inspector", interlaken_dpi_close_inspector(inspector), NO_INSPECTOR);
+  want("bits of none", interlaken_dpi_inspect_bits(inspector, 0, 1, 65), NO_INSPECTOR);
+  want("bytes of none", interlaken_dpi_inspect_bytes(inspector, 0, &array, 1, &taken), NO_INSPECTOR);
+  want("taken by none", (int)taken, 0);
+  want("finish of none", interlaken_dpi_finish_inspection(inspector, 0), NO_INSPECTOR);
+  want("an event of none", interlaken_dpi_next_lane_event(inspector, &kind, &lane, &n[0]), NO_INSPECTOR);
+  want("the event of none", kind == 0 && lane == 0 && n[0] == 0, 1);
+  want("report of none", interlaken_dpi_inspector_report(inspector, 0, &n[0], &n[1], &n[2], &n[3], &n[4], &n[5], &n[6], &n[7], &n[8]), NO_INSPECTOR);
+  free(array.bytes);
+}
+
+/* Prints the events that are due, each after its last bit; how many there are. */
+static unsigned show_events(void *inspector, const struct file *lanes) {
+  unsigned kind, lane, events = 0;
+  unsigned long long bit;
+  for (;; events++) {
+    want("next_lane_event", interlaken_dpi_next_lane_event(inspector, &kind, &lane, &bit), DONE);
+    if (kind == 0) return events;
+    want("an event before its word", bit + 67 <= lanes[lane].fed || lanes[lane].over, 1);
+    printf("shows %u %llu %u\n", lane, bit, kind);
+  }
+}
+
+/* The next bytes of a lane, as an array; 1 if all were taken. */
+static int inspect_array(void *inspector, struct file *file, unsigned lane, unsigned count) {
+  struct array array = make_array((int)count);
+  unsigned long long bits;
+  unsigned i, taken;
+  for (i = 0; i < count; i++, file->fed += 8) {
+    (void)piece(file, 8, &bits);
+    array.bytes[i * (unsigned)array.stride] = (uint8_t)bits;
+  }
+  want("an array that is too short", interlaken_dpi_inspect_bytes(inspector, lane, &array, count + 1, &taken) == TOO_MANY || taken == 0, 1);
+  want("inspect_bytes", interlaken_dpi_inspect_bytes(inspector, lane, &array, count, &taken), DONE);
+  file->fed -= 8 * (count - taken);
+  free(array.bytes);
+  return taken == count;
+}
+
+/* Bits or bytes of a lane up to its end, or up to events, which are taken now or later; 1 if the lane is finished. */
+static int inspect_some(void *inspector, struct file *file, unsigned lane) {
+  unsigned long long bits;
+  unsigned most = 1 + below(64), pieces = below(300), length;
+  int result = DONE;
+  while (result == DONE && pieces-- > 0 && file->fed < file->bits) {
+    if (below(4) == 0 && file->bits - file->fed >= 8 * most) result = inspect_array(inspector, file, lane, most) ? DONE : NO_ROOM;
+    else {
+      length = piece(file, 1 + below(most), &bits);
+      result = interlaken_dpi_inspect_bits(inspector, lane, bits, length);
+      if (result == DONE) file->fed += length;
+      else want("inspect_bits", result, NO_ROOM);
+    }
+  }
+  if (result != DONE || file->fed < file->bits) return 0;
+  result = interlaken_dpi_finish_inspection(inspector, lane);
+  if (result != NO_ROOM) want("finish_inspection", result, DONE);
+  return result == DONE;
+}
+
+/* Lanes through an inspector, in drawn pieces and orders. */
+static void try_inspector(const char *plan, const struct file *lanes, unsigned count) {
+  static struct file own[64];
+  unsigned cause, row, key, left = count, lane;
+  unsigned long long n[9];
+  void *inspector = interlaken_dpi_open_inspector("lanes,x\n", &cause, &row, &key);
+  want("a refused plan of an inspector", inspector == NULL && cause == 4 && row == 1, 1);
+  inspector = interlaken_dpi_open_inspector(plan, &cause, &row, &key);
+  if (inspector == NULL) exit(1);
+  memcpy(own, lanes, count * sizeof *own);
+  want("bits of no lane", interlaken_dpi_inspect_bits(inspector, count, 1, 1), NO_LANE);
+  want("65 bits", interlaken_dpi_inspect_bits(inspector, 0, 1, 65), TOO_MANY);
+  want("finish of no lane", interlaken_dpi_finish_inspection(inspector, ~0u), NO_LANE);
+  want("report of no lane", interlaken_dpi_inspector_report(inspector, count, &n[0], &n[1], &n[2], &n[3], &n[4], &n[5], &n[6], &n[7], &n[8]), NO_LANE);
+  while (left > 0) {
+    lane = below(count);
+    if (!own[lane].over) left -= (unsigned)(own[lane].over = inspect_some(inspector, &own[lane], lane));
+    if (below(3) == 0) (void)show_events(inspector, own);
+  }
+  (void)show_events(inspector, own);
+  want("bits of a finished lane", interlaken_dpi_inspect_bits(inspector, 0, 1, 1), FINISHED);
+  want("finish of a finished lane", interlaken_dpi_finish_inspection(inspector, 0), FINISHED);
+  for (lane = 0; lane < count; lane++) {
+    want("inspector_report", interlaken_dpi_inspector_report(inspector, lane, &n[0], &n[1], &n[2], &n[3], &n[4], &n[5], &n[6], &n[7], &n[8]), DONE);
+    printf("inspected %u locks=%llu lost=%llu unframed=%llu bad=%llu sync=%llu state=%llu diag=%llu\n", lane, n[0], n[3], n[4], n[5], n[6], n[7], n[8]);
+  }
+  want("close_inspector", interlaken_dpi_close_inspector(inspector), DONE);
+  try_no_inspector(inspector);
+}
+
+/* All that a handle without a checker answers. */
+static void try_no_checker(void *checker) {
+  unsigned u[3] = {9, 9, 9};
+  unsigned long long number = 9;
+  want("close of no checker", interlaken_dpi_close_checker(checker), NO_CHECKER);
+  want("a word of none", interlaken_dpi_check_word(checker, 0, 1), NO_CHECKER);
+  want("flow of none", interlaken_dpi_check_flow(checker, 1), NO_CHECKER);
+  want("finish of no checker", interlaken_dpi_finish_words(checker), NO_CHECKER);
+  want("a fault of none", interlaken_dpi_next_fault(checker, &u[0], &u[1], &u[2], &number), NO_CHECKER);
+  want("the fault of none", u[0] == 0 && u[1] == 0 && u[2] == 0 && number == 0, 1);
+}
+
+/* Takes the faults that are due, and prints them if they have a name; the rule and the channel of the last. */
+static unsigned take_faults(void *checker, const char *name, unsigned *channel) {
+  unsigned rule, has_channel, of_last = 0, found;
+  unsigned long long number;
+  for (;; of_last = rule, *channel = found) {
+    want("next_fault", interlaken_dpi_next_fault(checker, &rule, &has_channel, &found, &number), DONE);
+    if (rule == 0) return of_last;
+    if (name != NULL) printf("%s %llu %u %s%u\n", name, number, rule, has_channel ? "" : "-", found);
+  }
+}
+
+/* The words of a file, and then a burst word on a channel that is off. */
+static void try_checker(const char *plan, const struct file *words) {
+  unsigned cause, row, key, channel = 0;
+  size_t at;
+  unsigned long long number, i;
+  void *checker = interlaken_dpi_open_checker("lanes,x\n", &cause, &row, &key);
+  want("a refused plan of a checker", checker == NULL && cause == 4 && row == 1, 1);
+  checker = interlaken_dpi_open_checker(plan, &cause, &row, &key);
+  if (checker == NULL) exit(1);
+  want("a kind of word that is none", interlaken_dpi_check_word(checker, 4, 0), OUT_OF_RANGE);
+  for (at = 0; at + 9 <= words->bits / 8; at += 9) {
+    int result;
+    for (number = i = 0; i < 8; i++) number = number << 8 | words->at[at + 1 + i];
+    result = interlaken_dpi_check_word(checker, words->at[at], number);
+    if (result == WAITING) {
+      want("flow while faults are due", interlaken_dpi_check_flow(checker, 0), WAITING);
+      want("faults that are due", take_faults(checker, "fault", &channel) != 0, 1);
+      result = interlaken_dpi_check_word(checker, words->at[at], number);
+    }
+    want("check_word", result, DONE);
+    if (below(2) == 0) (void)take_faults(checker, "fault", &channel);
+  }
+  (void)take_faults(checker, "fault", &channel);
+  want("check_flow", interlaken_dpi_check_flow(checker, 0x8100000000000000u), DONE);
+  want("a burst word", interlaken_dpi_check_word(checker, 2, 0xe1ffff0100000000u), DONE);
+  want("the rule of channels that are off", (int)take_faults(checker, NULL, &channel), 19);
+  want("the channel that is off", (int)channel, 1);
+  want("finish_words", interlaken_dpi_finish_words(checker), DONE);
+  want("a word after the last", interlaken_dpi_check_word(checker, 1, 0), FINISHED);
+  want("close_checker", interlaken_dpi_close_checker(checker), DONE);
+  try_no_checker(checker);
+}
+
 int main(int argc, char **argv) {
-  static struct file lanes[64], plan;
-  unsigned count = (unsigned)argc - 3, cause, row, key, i;
+  static struct file lanes[64], plan, words;
+  unsigned count = (unsigned)argc - 4, cause, row, key, i;
   unsigned long long bits, n;
   unsigned state;
   void *receiver;
-  if (argc < 4) return 2;
+  if (argc < 5) return 2;
   drawn = strtoull(argv[2], NULL, 10) * 2654435761u + 88172645463325252u;
   plan = load(argv[1]);
-  for (i = 0; i < count; i++) lanes[i] = load(argv[i + 3]);
+  words = load(argv[3]);
+  for (i = 0; i < count; i++) lanes[i] = load(argv[i + 4]);
   try_none(NULL);
   try_no_transmitter(NULL);
   try_no_damage(NULL);
+  try_no_inspector(NULL);
+  try_no_checker(NULL);
   try_damage();
+  try_inspector((const char *)plan.at, lanes, count);
+  try_checker((const char *)plan.at, &words);
   try_transmitter((const char *)plan.at, count);
   try_plan("lanes,2\nlanes,3\n", 6, 2, 0);
   try_plan("lanes,2\n", 7, 0, 2);
@@ -431,6 +588,8 @@ int main(int argc, char **argv) {
   want("no place", interlaken_dpi_place(receiver, 0, 0, 0, &state, &n), OUT_OF_RANGE);
   want("a place", interlaken_dpi_place(receiver, 1, count, 9, &state, &n), DONE);
   want("its lane", (int)state, 0);
+  want("an arrival before locks", interlaken_dpi_arrival(receiver, 1, count + 1, 9, &state, &n), DONE);
+  want("its lane", (int)state, 1);
   want("report of no lane", interlaken_dpi_report(receiver, count, &n, &n, &n, &n, &n, &n, &n, &n, &n), NO_LANE);
   want("feed of 65 bits", interlaken_dpi_feed(receiver, 0, 1, 65), TOO_MANY);
   want("feed of no bits", interlaken_dpi_feed(receiver, 0, 1, 0), DONE);
@@ -462,5 +621,6 @@ int main(int argc, char **argv) {
   try_none(receiver);
   for (i = 0; i < count; i++) free(lanes[i].at);
   free(plan.at);
+  free(words.at);
   return 0;
 }

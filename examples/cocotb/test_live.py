@@ -1,4 +1,5 @@
-"""A test of cocotb: the transmitter of examples/dpi as the device, and the receiver of the C library beside it in Python.
+"""A test of cocotb: the transmitter of examples/dpi as the device, and the receiver of the C library beside it in Python, alone and together
+with the inspector.
 
 INTERLAKEN_LIBRARY names the shared library that tools/library makes. Another device has its place at `dut`: what the receiver needs is
 a bit of each lane at each clock at which `valid` is 1, and the plan.
@@ -12,6 +13,7 @@ from cocotb.triggers import FallingEdge
 
 from lanes import LaneBits
 from interlaken import Dropped, Fault, Packet, Receiver, Span
+from interlaken.monitor import Finding, Monitor
 
 PACKETS = 12
 CHANNELS = 2
@@ -39,7 +41,7 @@ async def begin(dut) -> None:
     dut.rst.value = 0
 
 
-async def packets_of(dut, receiver: Receiver, lanes: int, flip: int = -1):
+async def packets_of(dut, receiver: Receiver | Monitor, lanes: int, flip: int = -1):
     """The events, bit by bit, as they come; bit number `flip` of lane 0 is inverted on its way."""
     bits, number = LaneBits(receiver, lanes), 0
     while True:
@@ -76,3 +78,30 @@ async def a_bit_is_inverted(dut):
             if isinstance(event, Span) and event.why is not Fault.START:
                 break
         assert event.after is not None and event.before is not None
+
+
+async def first_finding(dut, flip: int = -1):
+    """The first finding of a monitor, or None after all packets; and the bits of a metaframe."""
+    lanes, metaframe, skips = (int(getattr(dut, name).value) for name in ("LANES", "METAFRAME", "SKIPS"))
+    await begin(dut)
+    came = 0
+    with Monitor(plan_of(lanes, metaframe, skips), os.environ["INTERLAKEN_LIBRARY"]) as monitor:
+        async for event in packets_of(dut, monitor, lanes, flip):
+            came += isinstance(event, Packet)
+            if isinstance(event, Finding) or came == PACKETS:
+                return event if isinstance(event, Finding) else None, 67 * metaframe
+
+
+@cocotb.test()
+async def nothing_is_found(dut):
+    """Neither the receiver nor the inspector finds anything wrong. With PLUSARGS=+bug=1 the device has a bug, and this test names it."""
+    finding, _ = await first_finding(dut)
+    assert finding is None, finding
+
+
+@cocotb.test()
+async def the_bit_is_found(dut):
+    """One bit inverted on its way is found within two metaframes, with a lane and a bit."""
+    finding, metaframe = await first_finding(dut, flip=20000)
+    assert finding is not None and finding.first is not None
+    assert abs(finding.first.bit - 20000) < metaframe, finding

@@ -1,9 +1,9 @@
-/* Both ends of an Interlaken link, and damage between them, for a bench in SystemVerilog: the functions that interlaken_dpi.sv imports,
- * over the C library of interlaken.h. It is C99 and C++. Of a simulator it needs svdpi.h alone, which each has. The calls are said in
- * interlaken_dpi.sv.
+/* Both ends of an Interlaken link, damage between them, and checks of lanes and words, for a bench in SystemVerilog: the functions that
+ * interlaken_dpi.sv imports, over the C library of interlaken.h. It is C99 and C++. Of a simulator it needs svdpi.h alone, which each
+ * has. The calls are said in interlaken_dpi.sv.
  *
- * A handle is the address of a `live`, a `drive` or a `hurt`, which stays until the simulation ends: a call on a closed one has the
- * result NO_RECEIVER, NO_TRANSMITTER or NO_DAMAGE, as one on null has. */
+ * A handle is the address of a `live`, a `drive`, a `hurt`, a `look` or a `judge`, which stays until the simulation ends: a call on a
+ * closed one has the result NO_RECEIVER, NO_TRANSMITTER, NO_DAMAGE, NO_INSPECTOR or NO_CHECKER, as one on null has. */
 #include "interlaken.h"
 #include "svdpi.h"
 #include <stdlib.h>
@@ -13,7 +13,7 @@
 #define LONGEST 262144 /* bytes of a packet */
 #define NO_ROOM 100    /* one result more than those of interlaken.h: INTERLAKEN_NO_ROOM of the package */
 
-/* The bits of a lane that the receiver has not taken: whole bytes, and fewer than eight bits after these. */
+/* The bits of a lane that the library has not taken: whole bytes, and fewer than eight bits after these. */
 struct lane {
   uint8_t bytes[8];
   unsigned count;
@@ -56,6 +56,22 @@ struct hurt {
 
 static struct hurt *hurts;
 
+struct look {
+  interlaken_inspector inspector;
+  struct lane lanes[LANES];
+  unsigned count; /* of lanes; 0 if it is closed */
+  struct look *other;
+};
+
+static struct look *looks;
+
+struct judge {
+  interlaken_checker checker;
+  struct judge *other;
+};
+
+static struct judge *judges;
+
 #ifdef __cplusplus
 extern "C" {
 #endif
@@ -76,6 +92,8 @@ int interlaken_dpi_report(void *receiver, unsigned int lane, unsigned long long 
 int interlaken_dpi_lane_state(void *receiver, unsigned int lane, unsigned int *state);
 int interlaken_dpi_place(void *receiver, unsigned int known, unsigned int index, unsigned long long group, unsigned int *lane,
                          unsigned long long *bit);
+int interlaken_dpi_arrival(void *receiver, unsigned int known, unsigned int index, unsigned long long group, unsigned int *lane,
+                           unsigned long long *bit);
 
 void *interlaken_dpi_open_transmitter(const char *plan, unsigned int *cause, unsigned int *row, unsigned int *key);
 int interlaken_dpi_close_transmitter(void *transmitter);
@@ -97,6 +115,26 @@ int interlaken_dpi_flip(void *damage, unsigned int lane, unsigned long long bit)
 int interlaken_dpi_dark(void *damage, unsigned int lane, unsigned long long first, unsigned long long bits);
 int interlaken_dpi_damage_byte(void *damage, unsigned int lane, unsigned char value, unsigned char *damaged);
 int interlaken_dpi_damage_bytes(void *damage, unsigned int lane, const svOpenArrayHandle data, unsigned int count);
+
+void *interlaken_dpi_open_inspector(const char *plan, unsigned int *cause, unsigned int *row, unsigned int *key);
+int interlaken_dpi_close_inspector(void *inspector);
+int interlaken_dpi_inspect_bits(void *inspector, unsigned int lane, unsigned long long bits, unsigned int count);
+int interlaken_dpi_inspect_bytes(void *inspector, unsigned int lane, const svOpenArrayHandle data, unsigned int count,
+                                 unsigned int *taken);
+int interlaken_dpi_finish_inspection(void *inspector, unsigned int lane);
+int interlaken_dpi_next_lane_event(void *inspector, unsigned int *kind, unsigned int *lane, unsigned long long *bit);
+int interlaken_dpi_inspector_report(void *inspector, unsigned int lane, unsigned long long *locks, unsigned long long *has_first,
+                                    unsigned long long *first, unsigned long long *lost, unsigned long long *unframed,
+                                    unsigned long long *bad, unsigned long long *sync, unsigned long long *state,
+                                    unsigned long long *diag);
+
+void *interlaken_dpi_open_checker(const char *plan, unsigned int *cause, unsigned int *row, unsigned int *key);
+int interlaken_dpi_close_checker(void *checker);
+int interlaken_dpi_check_word(void *checker, unsigned int kind, unsigned long long word);
+int interlaken_dpi_check_flow(void *checker, unsigned long long word);
+int interlaken_dpi_finish_words(void *checker);
+int interlaken_dpi_next_fault(void *checker, unsigned int *rule, unsigned int *has_channel, unsigned int *channel,
+                              unsigned long long *number);
 
 #ifdef __cplusplus
 }
@@ -128,6 +166,49 @@ static uint8_t *read_array(const svOpenArrayHandle array, uint8_t *room, size_t 
   return room;
 }
 
+/* Puts bits at the end of a lane that has no whole byte. */
+static void put_bits(struct lane *lane, unsigned long long bits, unsigned int count) {
+  while (count-- > 0) {
+    lane->bits = lane->bits << 1 | (unsigned)(bits >> count & 1);
+    if (++lane->bit_count == 8) {
+      lane->bytes[lane->count++] = (uint8_t)lane->bits;
+      lane->bits = lane->bit_count = 0;
+    }
+  }
+}
+
+/* Fills the last byte of a lane up with zeros, if it has begun. */
+static void fill_byte(struct lane *lane) {
+  if (lane->bit_count > 0) put_bits(lane, 0, 8 - lane->bit_count);
+}
+
+/* Drops the first bytes of a lane: NO_ROOM if some are left. */
+static int drop_bytes(struct lane *lane, size_t taken) {
+  lane->count -= (unsigned)taken;
+  memmove(lane->bytes, lane->bytes + taken, lane->count);
+  return lane->count == 0 ? INTERLAKEN_DONE : NO_ROOM;
+}
+
+static void write_report(const interlaken_report *report, unsigned long long *locks, unsigned long long *has_first,
+                         unsigned long long *first, unsigned long long *lost, unsigned long long *unframed, unsigned long long *bad,
+                         unsigned long long *sync, unsigned long long *state, unsigned long long *diag) {
+  *locks = report->locks;
+  *has_first = report->has_first;
+  *first = report->first;
+  *lost = report->lost;
+  *unframed = report->unframed;
+  *bad = report->bad;
+  *sync = report->sync;
+  *state = report->state;
+  *diag = report->diag;
+}
+
+static void write_refusal(const interlaken_refusal *refusal, unsigned int *cause, unsigned int *row, unsigned int *key) {
+  *cause = refusal->cause;
+  *row = refusal->row;
+  *key = refusal->key;
+}
+
 void *interlaken_dpi_open(const char *plan, unsigned int *cause, unsigned int *row, unsigned int *key) {
   struct live *live = (struct live *)calloc(1, sizeof *live);
   interlaken_refusal refusal = {0, 0, 0};
@@ -142,9 +223,7 @@ void *interlaken_dpi_open(const char *plan, unsigned int *cause, unsigned int *r
     live->other = all;
     all = live;
   }
-  *cause = refusal.cause;
-  *row = refusal.row;
-  *key = refusal.key;
+  write_refusal(&refusal, cause, row, key);
   return live;
 }
 
@@ -171,10 +250,7 @@ static int push(struct live *live, unsigned int number, struct lane *lane) {
   uint32_t result;
   if (lane->count == 0) return INTERLAKEN_DONE;
   result = interlaken_receiver_feed(&live->receiver, number, lane->bytes, lane->count, &taken);
-  if (result != INTERLAKEN_DONE) return (int)result;
-  lane->count -= (unsigned)taken;
-  memmove(lane->bytes, lane->bytes + taken, lane->count);
-  return lane->count == 0 ? INTERLAKEN_DONE : NO_ROOM;
+  return result == INTERLAKEN_DONE ? drop_bytes(lane, taken) : (int)result;
 }
 
 int interlaken_dpi_feed(void *receiver, unsigned int number, unsigned long long bits, unsigned int count) {
@@ -185,13 +261,7 @@ int interlaken_dpi_feed(void *receiver, unsigned int number, unsigned long long 
   if (count > 64) return INTERLAKEN_TOO_MANY;
   result = push(live, number, lane);
   if (result != INTERLAKEN_DONE) return result;
-  while (count-- > 0) {
-    lane->bits = lane->bits << 1 | (unsigned)(bits >> count & 1);
-    if (++lane->bit_count == 8) {
-      lane->bytes[lane->count++] = (uint8_t)lane->bits;
-      lane->bits = lane->bit_count = 0;
-    }
-  }
+  put_bits(lane, bits, count);
   result = push(live, number, lane);
   return result == NO_ROOM ? INTERLAKEN_DONE : result; /* what it did not take waits here */
 }
@@ -201,11 +271,7 @@ int interlaken_dpi_finish(void *receiver, unsigned int number) {
   struct lane *lane;
   int result = find_lane(live, number, &lane);
   if (result == INTERLAKEN_DONE) result = push(live, number, lane);
-  if (result == INTERLAKEN_DONE && lane->bit_count > 0) {
-    lane->bytes[lane->count++] = (uint8_t)(lane->bits << (8 - lane->bit_count));
-    lane->bits = lane->bit_count = 0;
-    result = push(live, number, lane);
-  }
+  if (result == INTERLAKEN_DONE) fill_byte(lane), result = push(live, number, lane);
   if (result == INTERLAKEN_DONE) result = (int)interlaken_receiver_finish(&live->receiver, number);
   if (result == INTERLAKEN_DONE) lane->finished = 1;
   return result;
@@ -273,15 +339,7 @@ int interlaken_dpi_report(void *receiver, unsigned int lane, unsigned long long 
   uint32_t result = INTERLAKEN_NO_RECEIVER;
   memset(&report, 0, sizeof report);
   if (live != NULL) result = interlaken_receiver_report(&live->receiver, lane, &report);
-  *locks = report.locks;
-  *has_first = report.has_first;
-  *first = report.first;
-  *lost = report.lost;
-  *unframed = report.unframed;
-  *bad = report.bad;
-  *sync = report.sync;
-  *state = report.state;
-  *diag = report.diag;
+  write_report(&report, locks, has_first, first, lost, unframed, bad, sync, state, diag);
   return (int)result;
 }
 
@@ -306,6 +364,24 @@ int interlaken_dpi_place(void *receiver, unsigned int known, unsigned int index,
   return (int)result;
 }
 
+/* How many bits later a lane comes than lane 0, by the first locks of both. The lanes of a group are less than half a metaframe apart. */
+static long long lateness(struct live *live, unsigned int lane) {
+  interlaken_report of_lane, of_first;
+  long long bits = 67 * (long long)live->numbers.metaframe, late;
+  if (interlaken_receiver_report(&live->receiver, lane, &of_lane) != INTERLAKEN_DONE || !of_lane.has_first) return 0;
+  if (interlaken_receiver_report(&live->receiver, 0, &of_first) != INTERLAKEN_DONE || !of_first.has_first) return 0;
+  late = ((long long)of_lane.first - (long long)of_first.first) % bits;
+  if (late < 0) late += bits;
+  return 2 * late > bits ? late - bits : late;
+}
+
+int interlaken_dpi_arrival(void *receiver, unsigned int known, unsigned int index, unsigned long long group, unsigned int *lane,
+                           unsigned long long *bit) {
+  int result = interlaken_dpi_place(receiver, known, index, group, lane, bit);
+  if (result == INTERLAKEN_DONE) *bit = (unsigned long long)((long long)*bit + lateness((struct live *)receiver, *lane));
+  return result;
+}
+
 void *interlaken_dpi_open_transmitter(const char *plan, unsigned int *cause, unsigned int *row, unsigned int *key) {
   struct drive *drive = (struct drive *)calloc(1, sizeof *drive);
   interlaken_refusal refusal = {0, 0, 0};
@@ -319,9 +395,7 @@ void *interlaken_dpi_open_transmitter(const char *plan, unsigned int *cause, uns
     drive->other = drives;
     drives = drive;
   }
-  *cause = refusal.cause;
-  *row = refusal.row;
-  *key = refusal.key;
+  write_refusal(&refusal, cause, row, key);
   return drive;
 }
 
@@ -484,4 +558,160 @@ int interlaken_dpi_damage_bytes(void *damage, unsigned int lane, const svOpenArr
   if (bytes == room) write_array(data, room, count);
   free(room);
   return result;
+}
+
+void *interlaken_dpi_open_inspector(const char *plan, unsigned int *cause, unsigned int *row, unsigned int *key) {
+  struct look *look = (struct look *)calloc(1, sizeof *look);
+  interlaken_refusal refusal = {0, 0, 0};
+  interlaken_plan numbers;
+  if (look == NULL || interlaken_plan_read((const uint8_t *)plan, strlen(plan), &numbers, &refusal) != INTERLAKEN_DONE ||
+      interlaken_inspector_new(&look->inspector, (const uint8_t *)plan, strlen(plan), &refusal) != INTERLAKEN_DONE) {
+    free(look);
+    look = NULL;
+  } else {
+    look->count = numbers.lanes;
+    look->other = looks;
+    looks = look;
+  }
+  write_refusal(&refusal, cause, row, key);
+  return look;
+}
+
+int interlaken_dpi_close_inspector(void *inspector) {
+  struct look *look = (struct look *)inspector;
+  if (look == NULL) return INTERLAKEN_NO_INSPECTOR;
+  look->count = 0;
+  return (int)interlaken_inspector_free(&look->inspector);
+}
+
+/* The lane of this number, if the handle has an inspector with such a lane that is not finished. */
+static int find_inspected(struct look *look, unsigned int number, struct lane **lane) {
+  if (look == NULL || look->count == 0) return INTERLAKEN_NO_INSPECTOR;
+  if (number >= look->count) return INTERLAKEN_NO_LANE;
+  *lane = &look->lanes[number];
+  return (*lane)->finished ? INTERLAKEN_FINISHED : INTERLAKEN_DONE;
+}
+
+/* Has the inspector take the whole bytes: NO_ROOM if it does not take all, since events are due. */
+static int push_inspected(struct look *look, unsigned int number, struct lane *lane) {
+  size_t taken = 0;
+  uint32_t result;
+  if (lane->count == 0) return INTERLAKEN_DONE;
+  result = interlaken_inspector_feed(&look->inspector, number, lane->bytes, lane->count, &taken);
+  return result == INTERLAKEN_DONE ? drop_bytes(lane, taken) : (int)result;
+}
+
+int interlaken_dpi_inspect_bits(void *inspector, unsigned int number, unsigned long long bits, unsigned int count) {
+  struct look *look = (struct look *)inspector;
+  struct lane *lane;
+  int result = find_inspected(look, number, &lane);
+  if (result != INTERLAKEN_DONE) return result;
+  if (count > 64) return INTERLAKEN_TOO_MANY;
+  result = push_inspected(look, number, lane);
+  if (result != INTERLAKEN_DONE) return result;
+  put_bits(lane, bits, count);
+  result = push_inspected(look, number, lane);
+  return result == NO_ROOM ? INTERLAKEN_DONE : result; /* what it did not take waits here */
+}
+
+int interlaken_dpi_inspect_bytes(void *inspector, unsigned int lane, const svOpenArrayHandle data, unsigned int count,
+                                 unsigned int *taken) {
+  int result = interlaken_dpi_inspect_bits(inspector, lane, 0, 0);
+  *taken = 0;
+  if (result == NO_ROOM) return INTERLAKEN_DONE;
+  if (result == INTERLAKEN_DONE && count > (unsigned int)svSize(data, 1)) result = INTERLAKEN_TOO_MANY;
+  while (result == INTERLAKEN_DONE && *taken < count) {
+    result = interlaken_dpi_inspect_bits(inspector, lane, *byte_of(data, *taken), 8);
+    *taken += result == INTERLAKEN_DONE;
+  }
+  return result == NO_ROOM ? INTERLAKEN_DONE : result;
+}
+
+int interlaken_dpi_finish_inspection(void *inspector, unsigned int number) {
+  struct look *look = (struct look *)inspector;
+  struct lane *lane;
+  int result = find_inspected(look, number, &lane);
+  if (result == INTERLAKEN_DONE) result = push_inspected(look, number, lane);
+  if (result == INTERLAKEN_DONE) fill_byte(lane), result = push_inspected(look, number, lane);
+  if (result == INTERLAKEN_DONE) result = (int)interlaken_inspector_finish(&look->inspector, number);
+  if (result == INTERLAKEN_DONE) lane->finished = 1;
+  return result;
+}
+
+int interlaken_dpi_next_lane_event(void *inspector, unsigned int *kind, unsigned int *lane, unsigned long long *bit) {
+  struct look *look = (struct look *)inspector;
+  interlaken_lane_event event;
+  uint32_t result = INTERLAKEN_NO_INSPECTOR;
+  unsigned i;
+  memset(&event, 0, sizeof event);
+  if (look != NULL) result = interlaken_inspector_next(&look->inspector, &event);
+  if (result == INTERLAKEN_DONE && event.kind == INTERLAKEN_NO_LANE_EVENT) { /* bytes that wait may show one */
+    for (i = 0; i < look->count; i++) (void)push_inspected(look, i, &look->lanes[i]);
+    result = interlaken_inspector_next(&look->inspector, &event);
+  }
+  *kind = event.kind;
+  *lane = event.lane;
+  *bit = event.bit;
+  return (int)result;
+}
+
+int interlaken_dpi_inspector_report(void *inspector, unsigned int lane, unsigned long long *locks, unsigned long long *has_first,
+                                    unsigned long long *first, unsigned long long *lost, unsigned long long *unframed,
+                                    unsigned long long *bad, unsigned long long *sync, unsigned long long *state,
+                                    unsigned long long *diag) {
+  struct look *look = (struct look *)inspector;
+  interlaken_report report;
+  uint32_t result = INTERLAKEN_NO_INSPECTOR;
+  memset(&report, 0, sizeof report);
+  if (look != NULL) result = interlaken_inspector_report(&look->inspector, lane, &report);
+  write_report(&report, locks, has_first, first, lost, unframed, bad, sync, state, diag);
+  return (int)result;
+}
+
+void *interlaken_dpi_open_checker(const char *plan, unsigned int *cause, unsigned int *row, unsigned int *key) {
+  struct judge *judge = (struct judge *)calloc(1, sizeof *judge);
+  interlaken_refusal refusal = {0, 0, 0};
+  if (judge == NULL || interlaken_checker_new(&judge->checker, (const uint8_t *)plan, strlen(plan), &refusal) != INTERLAKEN_DONE) {
+    free(judge);
+    judge = NULL;
+  } else {
+    judge->other = judges;
+    judges = judge;
+  }
+  write_refusal(&refusal, cause, row, key);
+  return judge;
+}
+
+int interlaken_dpi_close_checker(void *checker) {
+  struct judge *judge = (struct judge *)checker;
+  return judge == NULL ? INTERLAKEN_NO_CHECKER : (int)interlaken_checker_free(&judge->checker);
+}
+
+int interlaken_dpi_check_word(void *checker, unsigned int kind, unsigned long long word) {
+  struct judge *judge = (struct judge *)checker;
+  return judge == NULL ? INTERLAKEN_NO_CHECKER : (int)interlaken_checker_word(&judge->checker, kind, word);
+}
+
+int interlaken_dpi_check_flow(void *checker, unsigned long long word) {
+  struct judge *judge = (struct judge *)checker;
+  return judge == NULL ? INTERLAKEN_NO_CHECKER : (int)interlaken_checker_flow(&judge->checker, word);
+}
+
+int interlaken_dpi_finish_words(void *checker) {
+  struct judge *judge = (struct judge *)checker;
+  return judge == NULL ? INTERLAKEN_NO_CHECKER : (int)interlaken_checker_finish(&judge->checker);
+}
+
+int interlaken_dpi_next_fault(void *checker, unsigned int *rule, unsigned int *has_channel, unsigned int *channel,
+                              unsigned long long *number) {
+  struct judge *judge = (struct judge *)checker;
+  interlaken_rule_fault fault;
+  uint32_t result = INTERLAKEN_NO_CHECKER;
+  memset(&fault, 0, sizeof fault);
+  if (judge != NULL) result = interlaken_checker_next(&judge->checker, &fault);
+  *rule = fault.rule;
+  *has_channel = fault.has_channel;
+  *channel = fault.channel;
+  *number = fault.word;
+  return (int)result;
 }

@@ -1,0 +1,175 @@
+"""The part of checks/dpi.sh on tb_monitor: each planted bug of the device is found while it is sent, at the lane and the bit that the device
+says, as `inspect` and the Monitor of Python find it in the lanes that arrived; and without a bug there is no finding."""
+
+import glob
+import os
+import random
+import re
+
+CODE_BITS = 67
+METAFRAMES = 2  # a bug is told in so many
+# The bugs of lane_pkg.sv that a lane shows, with the event of `inspect` and the name of interlaken.h.
+LANE_BUGS = {1: ("skip", "BAD_SKIP"), 2: ("diag", "BAD_DIAGNOSTIC"), 3: ("health", "HEALTH"), 4: ("balance", "BALANCE"), 5: ("state", "BAD_STATE"),
+             6: ("sync", "BAD_SYNC"), 7: ("bad", "BAD_WORD"), 8: ("bad", "BAD_WORD")}
+PLAIN_CODES, WRONG_CRC24, BURST_CRC24, ERROR_END = 4, 9, 10, 11
+# A bench as verilator builds it: lanes, metaframe, Skip words, and bits of each lane at a clock.
+SHAPES = {(2, 32, 1, 1): "obj_monitor", (3, 40, 2, 67): "obj_monitor_other"}
+SAYS = re.compile(r"^bug \d+: the first wrong word is on lane (\d+), sent from bit (\d+) on$", re.M)
+FINDS = re.compile(r"^(.*), after (\d+) bits$", re.M)
+WORD = re.compile(r"lane (\d+) bit (\d+)")
+
+
+def skew_of(lane):
+    """How late the wire of tb_monitor.sv has a lane arrive."""
+    return 11 + 189 * lane % 400
+
+
+def text_of(finding):
+    """A finding of Python as the bench prints it."""
+    from interlaken import Dropped, LaneEvent, Span
+
+    def word(one):
+        return "lane %d bit %d" % (one.lane, one.bit)
+
+    what, start = finding.what, "from %s on" % (word(finding.first) if finding.first else "the first word")
+    if isinstance(what, LaneEvent):
+        return "%s: INTERLAKEN_LANE_EVENT_%s" % (word(finding.first), what.kind.name)
+    if isinstance(what, Dropped):
+        return "%s: INTERLAKEN_DROP_%s on channel %d" % (start, what.why.name, what.channel)
+    if isinstance(what, Span):
+        return "between %s and %s: INTERLAKEN_FAULT_%s" % (word(finding.first), word(finding.last), what.why.name)
+    return "lane %d: no lock" % finding.first.lane if finding.first and finding.first.bit == 0 else start + ": no verified control word"
+
+
+def found_in_python(library, plan, lanes):
+    """The first finding in lanes, a byte of each at a time; None if there is none."""
+    from interlaken.monitor import Finding, Monitor
+
+    with Monitor(plan, library) as monitor:
+        for at in range(min(map(len, lanes))):
+            for lane, data in enumerate(lanes):
+                monitor.feed(lane, data[at:at + 1])
+            for event in monitor.events():
+                if isinstance(event, Finding):
+                    return text_of(event)
+    return None
+
+
+class Monitored:
+    """A bench with the monitor as it was built."""
+
+    def __init__(self, tally, folder, run, program, shape):
+        self.tally, self.folder, self.run, self.inspects = tally, folder, run, program
+        self.lanes, self.metaframe, skips, self.width = shape
+        self.bench, self.library = "dpi/%s/Vtb_monitor" % SHAPES[shape], folder + "/dpi/library/lib/libinterlaken.so"
+        rows = ["lanes,%d" % self.lanes, "metaframe,%d" % self.metaframe, "skips,%d" % skips, "burst_max,128", "channel,1", "channel,2", "out,seen"]
+        self.plan = "".join(row + "\n" for row in rows)
+        with open(folder + "/seen.plan", "w", encoding="utf-8") as file:
+            file.write(self.plan)
+        self.what = "monitor of %d lanes, %d bits at a clock" % (self.lanes, self.width)
+
+    def call(self, *options):
+        """Status and text of a run, whose lanes are in files then."""
+        for path in glob.glob(self.folder + "/seen.*.*"):
+            os.remove(path)
+        return self.run(self.bench, "+lanes=seen", *options, folder=self.folder)
+
+    def arrived(self):
+        lanes = []
+        for lane in range(self.lanes):
+            with open("%s/seen.lane.%d" % (self.folder, lane), "rb") as file:
+                lanes.append(file.read())
+        return lanes
+
+    def shown(self):
+        """The events that `inspect` has of the lanes that arrived, without the locks."""
+        self.run(self.inspects, "inspect", "seen.plan", folder=self.folder)
+        with open(self.folder + "/seen.events.csv", encoding="utf-8") as file:
+            rows = [line.split(",") for line in file.read().split("\n")[1:-1]]
+        return [(int(lane), int(bit), event) for lane, bit, event in rows if event != "lock"]
+
+    def order(self, lane, bit):
+        """The place of a word among those of all lanes, by its lane and the bit at which it arrives."""
+        return (bit - skew_of(lane)) // CODE_BITS, lane
+
+    def finding(self, what, *options):
+        """What a run says that it sends wrong, with the bit at which that arrives; what it finds, and after how many bits. Python finds the
+        same."""
+        status, text = self.call(*options)
+        says, finds = SAYS.search(text), FINDS.search(text)
+        self.tally.expect(what + ": status", status != 0, True)
+        self.tally.expect(what + ": a finding", finds is not None, True)
+        self.tally.expect(what + ": in Python", found_in_python(self.library, self.plan.encode(), self.arrived()), finds and finds[1])
+        sent = (int(says[1]), int(says[2]) + skew_of(int(says[1]))) if says else None
+        return sent, finds[1] if finds else "", int(finds[2]) if finds else 0
+
+    def is_in_time(self, bit, after):
+        return bit + CODE_BITS <= after <= bit + METAFRAMES * CODE_BITS * self.metaframe
+
+    def try_lane_bug(self, bug, on):
+        """A bug of one lane: the first finding is the word that the device names, or, if nothing is inverted, the one that `inspect` finds."""
+        what, (event, name) = "%s, bug %d on lane %d" % (self.what, bug, on), LANE_BUGS[bug]
+        sent, found, after = self.finding(what, "+bug=%d" % bug, "+on=%d" % on, "+packets=400")
+        rows = self.shown()
+        lane, bit = sent or (0, 0)
+        if bug == PLAIN_CODES and rows:
+            self.tally.expect(what + ": after what is sent", rows[0][1] > bit, True)
+            bit = rows[0][1]
+        self.tally.expect(what + ": its finding", (lane, found), (on, "lane %d bit %d: INTERLAKEN_LANE_EVENT_%s" % (on, bit, name)))
+        self.tally.expect(what + ": in time", self.is_in_time(bit, after), True)
+        self.tally.expect(what + ": by inspect", rows[:1], [(on, bit, event)])
+
+    def try_word_bug(self, bug, start, wanted):
+        """A bug of words: what the receiver finds begins before the word that the device names, or there, and not long before it."""
+        what = "%s, bug %d from metaframe %d" % (self.what, bug, start)
+        sent, found, after = self.finding(what, "+bug=%d" % bug, "+from=%d" % start)
+        words = [(int(lane), int(bit)) for lane, bit in WORD.findall(found)]
+        self.tally.expect(what + ": its finding", bool(re.fullmatch(wanted, found)), True)
+        self.tally.expect(what + ": in time", sent is not None and self.is_in_time(sent[1], after), True)
+        if sent and words:
+            first, wrong = self.order(*words[0]), self.order(*sent)
+            self.tally.expect(what + ": from there on", first == wrong if bug == ERROR_END else first < wrong, True)
+            self.tally.expect(what + ": not long before", wrong[0] - first[0] < self.metaframe, True)
+            self.tally.expect(what + ": up to there", all(self.order(*word) > wrong for word in words[1:]), True)
+        self.tally.expect(what + ": no lane shows it", self.shown(), [])
+
+    def try_flip(self, lane, bit):
+        """A bit that is inverted on its way."""
+        what = "%s, lane %d, bit %d" % (self.what, lane, bit)
+        _, found, after = self.finding(what, "+lane=%d" % lane, "+bit=%d" % bit)
+        self.tally.expect(what + ": in time", bit < after <= bit + METAFRAMES * CODE_BITS * self.metaframe, True)
+
+    def try_starts(self):
+        """Bugs from the first word on: no lane has a lock, or no control word is verified."""
+        for bug, wanted in ((8, "lane 1: no lock"), (6, "lane 1 bit N: INTERLAKEN_LANE_EVENT_UNFRAMED"), (WRONG_CRC24, "from the first word on: no verified control word")):
+            what = "%s, bug %d from the first word on" % (self.what, bug)
+            _, found, _ = self.finding(what, "+bug=%d" % bug, "+on=1", "+from=0")
+            self.tally.expect(what + ": its finding", re.sub(r"bit \d+", "bit N", found), wanted)
+
+    def try_all(self):
+        status, text = self.call()
+        self.tally.expect(self.what + ": status without a bug", status, 0)
+        self.tally.expect(self.what + ": no finding", re.findall(r"^no finding, (\d+) packets$", text, re.M), ["40"])
+        self.tally.expect(self.what + ": nothing shown", (self.shown(), found_in_python(self.library, self.plan.encode(), self.arrived())), ([], None))
+        for bug in LANE_BUGS:
+            for on in range(self.lanes):
+                self.try_lane_bug(bug, on)
+        drop = r"from lane \d+ bit \d+ on: INTERLAKEN_DROP_%s on channel [12]"
+        span = r"between lane \d+ bit \d+ and lane \d+ bit \d+: INTERLAKEN_FAULT_CRC"
+        self.try_word_bug(WRONG_CRC24, 8, drop % "CRC")
+        self.try_word_bug(WRONG_CRC24, 5, r"from lane \d+ bit \d+ on: no verified control word")
+        self.try_word_bug(BURST_CRC24, 5, span)
+        self.try_word_bug(BURST_CRC24, 8, span + "|" + drop % "CRC")
+        self.try_word_bug(ERROR_END, 8, drop % "SENDER_ERROR")
+        self.try_starts()
+        draw = random.Random(2)
+        for lane in range(self.lanes):
+            self.try_flip(lane, draw.randrange(5 * CODE_BITS * self.metaframe, 8 * CODE_BITS * self.metaframe))
+
+
+def try_monitor(tally, folder, run, build, program):
+    """The benches with the monitor: the one of the page, and another link with whole codes at a clock."""
+    for shape, name in SHAPES.items():
+        if not os.path.exists(folder + "/dpi/" + name):
+            build(name, shape)
+        Monitored(tally, folder, run, program, shape).try_all()

@@ -1,0 +1,149 @@
+"""What is wrong with the lanes of a device, while it runs: a receiver and an inspector over the same bytes, as one stream.
+
+    with Monitor(plan, library="lib/libinterlaken.so") as monitor:
+        for lane, data in enumerate(pieces):
+            monitor.feed(lane, data)
+        for event in monitor.events():
+            if isinstance(event, Finding):
+                ...
+
+Each Finding has a lane and a bit of it, as far as there is one. The other events are the Packet and Flow of the receiver.
+"""
+
+from __future__ import annotations
+
+from collections import deque
+from dataclasses import dataclass
+from typing import Iterator, Optional
+
+from . import Dropped, Ended, Event, Fault, Flow, Inspector, LaneEvent, LaneEventKind, Packet, Place, Plan, Receiver, Span, _Bits
+
+_CODE_BITS = 67
+
+
+@dataclass(frozen=True)
+class Word:
+    """A word that arrived: its lane, and the bit at which its code begins in the bytes of the lane."""
+
+    lane: int
+    bit: int
+
+
+@dataclass(frozen=True)
+class Silence:
+    """No lock is declared on a lane in time, or no control word is verified."""
+
+
+@dataclass(frozen=True)
+class Finding:
+    """What is wrong. `first` is the word that shows it if that is a LaneEvent. Otherwise it is the last control word that was verified
+    before, and `last` the first one after a Span: what is wrong is between them. Each is None if there is none."""
+
+    what: LaneEvent | Span | Dropped | Silence
+    first: Optional[Word]
+    last: Optional[Word] = None
+
+
+class Monitor:
+    """A receiver and an inspector of the lanes of a plan. As a context manager it is closed at the end."""
+
+    def __init__(self, plan: bytes, library: str = "libinterlaken.so"):
+        """`plan` is the text of a plan file, and `library` the path of the shared library."""
+        self.plan = Plan(plan, library)
+        self.receiver, self.inspector = Receiver(plan, library), Inspector(plan, library)
+        self._due: deque[Finding] = deque()
+        self._bits: dict[int, _Bits] = {}
+        self._fed = [0] * self.plan.lanes
+        self._unlocked = set(range(self.plan.lanes))
+        self._verified: Optional[Word] = None
+        self._heard = 0
+        self._silent = False
+
+    def __enter__(self) -> "Monitor":
+        return self
+
+    def __exit__(self, *error: object) -> None:
+        self.close()
+
+    def close(self) -> None:
+        """Frees both."""
+        self.receiver.close()
+        self.inspector.close()
+
+    def feed(self, lane: int, data: bytes) -> int:
+        """Feeds a lane with the next of its bytes, as many as the ring of the receiver has room for, and returns how many."""
+        count = self.receiver.feed(lane, data)
+        taken = 0
+        while taken < count:
+            taken += self.inspector.feed(lane, data[taken:count])
+            for event in self.inspector.events():
+                self._show(event)
+        self._fed[lane] += count
+        return count
+
+    def feed_bits(self, lane: int, bits: int, count: int) -> bool:
+        """Feeds a lane with its next `count` bits: those of a number, the highest first. Up to seven bits wait for the next. False if the ring of
+        the receiver has no room: then nothing was taken; take events and feed these again."""
+        waiting = self._bits.setdefault(lane, _Bits())
+        if not self._push(lane, waiting):
+            return False
+        waiting.put(bits, count)
+        self._push(lane, waiting)
+        return True
+
+    def _push(self, lane: int, waiting: _Bits) -> bool:
+        if waiting.count >= 8:
+            waiting.drop(8 * self.feed(lane, waiting.whole_bytes()))
+        return waiting.count < 8
+
+    def finish(self, lane: int) -> None:
+        """No further byte of this lane comes. Bits that do not fill a byte are left out."""
+        self.receiver.finish(lane)
+        self.inspector.finish(lane)
+
+    def events(self) -> Iterator[Packet | Flow | Finding]:
+        """What there is so far. What the lanes show comes first, and then what the receiver makes of them."""
+        yield from self._taken()
+        for event in self.receiver.events():
+            yield from self._received(event)
+        yield from self._silences()
+
+    def _taken(self) -> Iterator[Finding]:
+        while self._due:
+            yield self._due.popleft()
+
+    def _show(self, event: LaneEvent) -> None:
+        if event.kind is LaneEventKind.LOCK:
+            self._unlocked.discard(event.lane)
+            self._heard = min(self._fed)
+        else:
+            self._due.append(Finding(event, Word(event.lane, event.bit)))
+
+    def _received(self, event: Event) -> Iterator[Packet | Flow | Finding]:
+        if isinstance(event, Flow):
+            self._verified, self._heard = self.arrival(event.at), min(self._fed)
+        if isinstance(event, (Packet, Flow)):
+            yield event
+        elif isinstance(event, Dropped):
+            yield Finding(event, self._verified)
+        elif isinstance(event, Span) and event.why not in (Fault.START, Fault.END):
+            yield Finding(event, event.after and self.arrival(event.after), event.before and self.arrival(event.before))
+
+    def arrival(self, place: Place) -> Word:
+        """The word at a place of the receiver, as it arrived: its lane is later or earlier than lane 0 by less than half a metaframe."""
+        lane, bit = self.plan.place(place)
+        metaframe = _CODE_BITS * self.plan.metaframe
+        late = ((self.receiver.report(lane).first or 0) - (self.receiver.report(0).first or 0)) % metaframe
+        return Word(lane, bit + (late - metaframe if 2 * late > metaframe else late))
+
+    def _silences(self) -> Iterator[Finding]:
+        """A lock of each lane has to be declared in twelve metaframes, and then a control word has to be verified after each burst."""
+        fed = 8 * min(self._fed)
+        if self._unlocked:
+            is_late, first = fed >= _CODE_BITS * 12 * self.plan.metaframe, Word(min(self._unlocked), 0)
+        else:
+            limit = _CODE_BITS * (self.plan.metaframe + self.plan.burst_max // 8 * 3 // 2)
+            is_late, first = fed >= 8 * self._heard + limit, self._verified
+        if is_late and not self._silent:
+            yield Finding(Silence(), first)
+        self._silent = is_late
