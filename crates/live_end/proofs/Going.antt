@@ -142,15 +142,21 @@ not_refused g channel bytes e = not_closed g.packets_closed g.closed _ e
 pub packet_is : (sch now : LiveScheduler) (lanes : Lanes) (row : List Word) (channel : ℕ) (bytes : List ℕ) (r : Result (Unit {0}) Refused) →
     OnOk r ((g : Given) (w : List Word) → Gives sch g w → Gives now (packet_added g w channel bytes) w) → OnErr r ((g : Given) (w : List Word) → Gives sch g w → Gives now g w) →
     ((g : Given) (w : List Word) → Gives sch g w → MatchOption (refusal_of g channel bytes) ((r ≡ Ok tt) ⊎ (r ≡ Err refused.OutOfMemory)) (λ why. r ≡ Err why)) → IsPacket (state sch lanes row) (state now lanes row) channel bytes r
-packet_is sch now lanes row channel bytes (Ok done) ok err why = λ x k.
-    let none = ok_none (refusal_of x.given channel bytes) done (why x.given x.words k.gives) in
-    (none, more_sends sch now lanes row x k (packet_added x.given x.words channel bytes) (ok x.given x.words k.gives) refl refl refl (not_refused x.given channel bytes none))
-packet_is sch now lanes row channel bytes (Err e) ok err why = λ x k.
-    (err_why (refusal_of x.given channel bytes) e (why x.given x.words k.gives), same_sends sch now lanes row x k (err x.given x.words k.gives))
+packet_is sch now lanes row channel bytes (Ok done) ok err why = (
+  refl,
+  λ x k.
+      let none = ok_none (refusal_of x.given channel bytes) done (why x.given x.words k.gives) in
+      (none, more_sends sch now lanes row x k (packet_added x.given x.words channel bytes) (ok x.given x.words k.gives) refl refl refl (not_refused x.given channel bytes none)),
+)
+packet_is sch now lanes row channel bytes (Err e) ok err why = (
+  refl,
+  λ x k.
+      (err_why (refusal_of x.given channel bytes) e (why x.given x.words k.gives), same_sends sch now lanes row x k (err x.given x.words k.gives)),
+)
 
 pub packet_keeps : (t u : State) (channel : ℕ) (bytes : List ℕ) (r : Result (Unit {0}) Refused) → IsPacket t u channel bytes r → (x : Sent) → Sends t x → (y : Sent) × Sends u y
-packet_keeps t u channel bytes (Ok done) h x k = (with_packet channel bytes x, (h x k).1)
-packet_keeps t u channel bytes (Err why) h x k = (x, (h x k).1)
+packet_keeps t u channel bytes (Ok done) h x k = (with_packet channel bytes x, (h.1 x k).1)
+packet_keeps t u channel bytes (Err why) h x k = (x, (h.1 x k).1)
 
 by_closed : (o : Option ℕ) → (o ≡ None) ⊎ ((c : ℕ) × (o ≡ Some c))
 by_closed None = inl refl
@@ -159,18 +165,24 @@ by_closed (Some c) = inr (c, refl)
 pub flow_is : (sch now : LiveScheduler) (lanes : Lanes) (row : List Word) (word : ℕ) (r : Result (Unit {0}) Closed) →
     ((g : Given) (w : List Word) → Gives sch g w → g.closed ≡ None → (r ≡ Ok tt) × Gives now (flow_added g w word) w) → ((g : Given) (w : List Word) (slot : ℕ) → Gives sch g w → g.closed ≡ Some slot → (is_err r ≡ true) × Gives now g w) →
     IsFlow (state sch lanes row) (state now lanes row) word r
-flow_is sch now lanes row word (Ok done) going past = λ x k. elim (by_closed x.given.closed) [
-  | inl none ↦ (none, more_sends sch now lanes row x k (flow_added x.given x.words word) (going x.given x.words k.gives none).1 refl refl refl none)
-  | inr some ↦ absurd (false≢true (past x.given x.words some.0 k.gives some.1).0)
-]
-flow_is sch now lanes row word (Err why) going past = λ x k. elim (by_closed x.given.closed) [
-  | inl none ↦ (let e = (going x.given x.words k.gives none).0 in absurd (cc))
-  | inr some ↦ (ap (λ (o : Option ℕ). is_some o) some.1, same_sends sch now lanes row x k (past x.given x.words some.0 k.gives some.1).1)
-]
+flow_is sch now lanes row word (Ok done) going past = (
+  refl,
+  λ x k. elim (by_closed x.given.closed) [
+    | inl none ↦ (none, more_sends sch now lanes row x k (flow_added x.given x.words word) (going x.given x.words k.gives none).1 refl refl refl none)
+    | inr some ↦ absurd (false≢true (past x.given x.words some.0 k.gives some.1).0)
+  ],
+)
+flow_is sch now lanes row word (Err why) going past = (
+  refl,
+  λ x k. elim (by_closed x.given.closed) [
+    | inl none ↦ (let e = (going x.given x.words k.gives none).0 in absurd (cc))
+    | inr some ↦ (ap (λ (o : Option ℕ). is_some o) some.1, same_sends sch now lanes row x k (past x.given x.words some.0 k.gives some.1).1)
+  ],
+)
 
 pub flow_keeps : (t u : State) (word : ℕ) (r : Result (Unit {0}) Closed) → IsFlow t u word r → (x : Sent) → Sends t x → (y : Sent) × Sends u y
-flow_keeps t u word (Ok done) h x k = (with_flow word x, (h x k).1)
-flow_keeps t u word (Err why) h x k = (x, (h x k).1)
+flow_keeps t u word (Ok done) h x k = (with_flow word x, (h.1 x k).1)
+flow_keeps t u word (Err why) h x k = (x, (h.1 x k).1)
 
 -- ---- a state of this end's own
 
@@ -193,15 +205,21 @@ local_open g channel e = local_not_closed g.closed _ e
 pub local_is : (sch now : LiveScheduler) (lanes : Lanes) (row : List Word) (channel : ℕ) (on : Bool) (r : Result (Unit {0}) LocalRefused) →
     OnOk r ((g : Given) (w : List Word) → Gives sch g w → Gives now (local_added g w channel on) w) → OnErr r ((g : Given) (w : List Word) → Gives sch g w → Gives now g w) →
     ((g : Given) (w : List Word) → Gives sch g w → MatchOption (local_refusal_of g channel) (r ≡ Ok tt) (λ why. r ≡ Err why)) → IsLocal (state sch lanes row) (state now lanes row) channel on r
-local_is sch now lanes row channel on (Ok done) ok err why = λ x k.
-    let none = local_none (local_refusal_of x.given channel) done (why x.given x.words k.gives) in
-    (none, more_sends sch now lanes row x k (local_added x.given x.words channel on) (ok x.given x.words k.gives) refl refl refl (local_open x.given channel none))
-local_is sch now lanes row channel on (Err e) ok err why = λ x k.
-    (local_why (local_refusal_of x.given channel) e (why x.given x.words k.gives), same_sends sch now lanes row x k (err x.given x.words k.gives))
+local_is sch now lanes row channel on (Ok done) ok err why = (
+  refl,
+  λ x k.
+      let none = local_none (local_refusal_of x.given channel) done (why x.given x.words k.gives) in
+      (none, more_sends sch now lanes row x k (local_added x.given x.words channel on) (ok x.given x.words k.gives) refl refl refl (local_open x.given channel none)),
+)
+local_is sch now lanes row channel on (Err e) ok err why = (
+  refl,
+  λ x k.
+      (local_why (local_refusal_of x.given channel) e (why x.given x.words k.gives), same_sends sch now lanes row x k (err x.given x.words k.gives)),
+)
 
 pub local_keeps : (t u : State) (channel : ℕ) (on : Bool) (r : Result (Unit {0}) LocalRefused) → IsLocal t u channel on r → (x : Sent) → Sends t x → (y : Sent) × Sends u y
-local_keeps t u channel on (Ok done) h x k = (with_local channel on x, (h x k).1)
-local_keeps t u channel on (Err why) h x k = (x, (h x k).1)
+local_keeps t u channel on (Ok done) h x k = (with_local channel on x, (h.1 x k).1)
+local_keeps t u channel on (Err why) h x k = (x, (h.1 x k).1)
 
 -- ---- words more of each lane
 
