@@ -76,7 +76,7 @@ after [] x = x
 after (GiveWord word ∷ calls) x = after calls (with_word word x)
 after (GiveFlow heard ∷ calls) x = after calls (with_heard heard x)
 
--- the same, where these faults were given back, and the words were ended or not
+-- the same, if these faults were given back, and the words were ended or not
 abbrev pub told_of : Checked → List Fault → Bool → Checked
 told_of x given finished = record { plan = x.plan; words = x.words; given = given; finished = finished }
 
