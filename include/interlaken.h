@@ -95,11 +95,11 @@
  * Memory comes from the three functions of interlaken_alloc.h. The libraries that tools/library
  * makes have them over malloc, realloc and free. Of the calls on a receiver, an inspector or a
  * checker, `new` alone allocates memory. Of the calls on damage `new`, `flip` and `dark` do; of the
- * calls on a transmitter `new` and `packet` do.
- * `interlaken_plan_read` and `interlaken_plan_channels` allocate memory, and free it before they
- * return. A receiver keeps room for the longest packet of the plan (`max_packet`) on each channel,
- * so a smaller `max_packet` saves memory. Give a thread that calls a `new` with a plan, or one of
- * these two calls, a stack of 128 KiB or more. */
+ * calls on a transmitter `new` and `packet` do. `interlaken_plan_read` and
+ * `interlaken_plan_channels` allocate memory, and free it before they return. A receiver keeps room
+ * for the longest packet of the plan (`max_packet`) on each channel, so a smaller `max_packet`
+ * saves memory. Give a thread that calls a `new` with a plan, or one of these two calls, a stack of
+ * 128 KiB or more. */
 #ifndef INTERLAKEN_H
 #define INTERLAKEN_H
 
