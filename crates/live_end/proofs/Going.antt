@@ -29,7 +29,7 @@ use Rattle.live_lanes.specs.Standing.{Progress, Stands, framed, progress, took, 
 use Rattle.live_lanes.proofs.Places.{lane_of, waiting_is}
 use Rattle.live_lanes.proofs.Taken.{are_whole_bytes}
 use Rattle.live_end.specs.States.{State, state}
-use Rattle.live_end.specs.Calls.{AreMore, GoesOn, IsFlow, IsLocal, IsPacket, IsStill, MakesRow, MakesWords, Rests}
+use Rattle.live_end.specs.Calls.{AreMore, GoesOn, HaveRoom, IsFlow, IsLocal, IsPacket, IsStill, MakesRow, MakesWords, Rests}
 use Rattle.live_end.specs.Sending.{IsOver, Sends, Sent, progress_of, sent, with_close, with_columns, with_flow, with_given, with_local, with_packet, with_packets_closed, with_taken}
 
 -- ---- words more
@@ -46,7 +46,7 @@ module _ (lane count : ℕ) where
   makes_none t x k = (0, [], (λ n low. absurd (omega (arith, low))), subst (Sends t) (sym (with_none x)) k)
 
   -- a word more, where these bytes want it
-  pub makes_more : (t u v : State) → MakesWords lane count t u → ((x : Sent) → Sends u x → AreMore x x.columns lane count) → MakesRow u v → MakesWords lane count t v
+  pub makes_more : (t u v : State) → MakesWords lane count t u → ((x : Sent) → Sends u x → AreMore x x.columns lane count × HaveRoom x x.columns) → MakesRow u v → MakesWords lane count t v
   makes_more t u v a wanted b x k =
       let (n, words, each, l) = a x k in
       let (more, r) = b (with_columns n words x) l in (
@@ -54,7 +54,7 @@ module _ (lane count : ℕ) where
         words ++ more,
         (λ m low. elim (cases_lt m n) [
           | inl before ↦ each m before
-          | inr here ↦ (let e : m ≡ n = omega (arith, low, here) in subst (λ i. AreMore x (x.columns + i) lane count) (sym e) (wanted (with_columns n words x) l))
+          | inr here ↦ (let e : m ≡ n = omega (arith, low, here) in subst (λ i. AreMore x (x.columns + i) lane count × HaveRoom x (x.columns + i)) (sym e) (wanted (with_columns n words x) l))
         ]),
         subst (Sends v) (with_both x n 1 words more) r,
       )
@@ -372,6 +372,19 @@ pub wanted_more : (lanes : Lanes) (x : Sent) (lane count : ℕ) → Stands lanes
 wanted_more lanes x lane count k going there low =
     let whole = are_whole_bytes lanes (progress_of x) lane k going (omega (arith, there, k.count)) in
     omega (arith, whole, low)
+
+room_left : (n : ℕ) → nat_le (n + 9) 4096 ≡ true → n + 9 ≤ 4096
+room_left n e = grind (arith, nat_tests)
+
+-- of each lane so many bytes wait that there is room for a word more
+pub with_room : (lanes : Lanes) (x : Sent) → Stands lanes (progress_of x) → lanes.ended ≡ false → has_room lanes ≡ true → HaveRoom x x.columns
+with_room lanes x k going room i h =
+    let d : Lane = lane_of lanes (progress_of x) k in
+    let there : i < length lanes.lanes = omega (arith, h, k.count) in
+    let low = room_left (length (get_or lanes.lanes i d).waiting) (AllPass-from_list_all lane_has_room lanes.lanes room i d there) in
+    let same = ap (λ (b : List ℕ). length b) (waiting_is lanes i d there) in
+    let whole = are_whole_bytes lanes (progress_of x) i k going h in
+    omega (arith, whole, low, same)
 
 -- a lane on which bytes wait is there
 some_there : (lanes : List Lane) (lane n : ℕ) → n < length (get_or (map (λ (l : Lane). l.waiting) lanes) lane []) → lane < length lanes

@@ -58,6 +58,8 @@ AreMade t n = (x : Sent) → Sends t x → n ≡ length x.words
 pub record IsStatus (t : State) (lane : ℕ) (status : Status) : Type 0 where
   -- the bytes of the lane that were made and not taken
   pub waiting : status.waiting ≡ length (waiting_on lane t.lanes)
+  -- they fit into its ring
+  pub few : status.waiting ≤ 4096
   -- the lanes have ended: no byte more is made
   pub ended : status.ended ≡ t.lanes.ended
   -- the ring of some lane has no room, so that no word is made
@@ -84,9 +86,14 @@ MakesRow t u = (x : Sent) → Sends t x → (words : List Word) × Sends u (with
 abbrev pub AreMore : Sent → ℕ → ℕ → ℕ → Type 0
 AreMore x columns lane count = 67 * columns / 8 < length (x.taken lane) + count
 
--- each lane made words more, none of them before so many bytes of this one wanted it
+-- Each lane has room for a word more, of 9 bytes at most: of the bytes that the words so far complete, 4,087 at most were not taken.
+abbrev pub HaveRoom : Sent → ℕ → Type 0
+HaveRoom x columns = (i : ℕ) → i < x.settings.lanes → 67 * columns / 8 + 9 ≤ length (x.taken i) + 4096
+
+-- each lane made words more: before each of them so many bytes of this lane wanted it, and each lane had room
 abbrev pub MakesWords : ℕ → ℕ → State → State → Type 0
-MakesWords lane count t u = (x : Sent) → Sends t x → (n : ℕ) × (words : List Word) × ((k : ℕ) → k < n → AreMore x (x.columns + k) lane count) × Sends u (with_columns n words x)
+MakesWords lane count t u =
+    (x : Sent) → Sends t x → (n : ℕ) × (words : List Word) × ((k : ℕ) → k < n → AreMore x (x.columns + k) lane count × HaveRoom x (x.columns + k)) × Sends u (with_columns n words x)
 
 -- No word is made: the lanes have ended, or a ring has no room, or the stream is whole at the end of a metaframe, or it has nearly the
 -- most words.
