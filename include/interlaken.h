@@ -54,13 +54,13 @@
  * - Verified: a control word that ends a block without a bad word, with the right CRC24, and by
  *   the rules of bursts and ends.
  * - Fault span: the words between two verified control words, if a block between them failed or a
- *   lock was lost; also the words before the first verified word and after the last.
+ *   lock was lost. The words before the first verified word are one, too, and those after the last.
  * - Metaframe: on each lane the words from one Sync word to the next. It ends with a Diagnostic
  *   word, which has a CRC32.
  * - Word lock: the receiver knows where the words of a lane begin. Declared lock: it knows where
  *   metaframes begin, too. The Sync word that shows this, the fourth in a row, declares it.
- * - Covered: a word of a declared lock, from the Sync word that declares it, up to the last word
- *   before the one that loses it.
+ * - Covered: a word of a declared lock, from the Sync word that declares it up to the word before
+ *   the one that loses it.
  * - Running state: the state of a lane's scrambler that the receiver has computed.
  * - Group: the words of one metaframe of all lanes, without its framing words. Its name is the bit
  *   at which lane 0's Sync word begins.
@@ -72,31 +72,34 @@
  *
  * A call returns one of `enum interlaken_result`. It is defined for every value of its numbers and
  * every content of its bytes, as long as
- * - each pointer is valid for what it points to, aligned for its type, and not null; a pointer to
- *   `count` bytes may be null if `count` is 0;
+ * - each pointer is valid for what it points to, aligned for its type, and not null. A pointer to
+ *   bytes or numbers may be null if their count is 0;
  * - no two pointers of one call lead to the same bytes;
  * - a handle is either all zeros or exactly what the last call left in it. You may move it. If you
  *   copy it, use only one of the two afterwards.
  *
  * Any other misuse returns an error code and changes nothing. If several results apply, the call
- * returns the first of NO_RECEIVER or NO_DAMAGE or NO_TRANSMITTER or NO_INSPECTOR, IN_USE,
- * NO_LANE, FINISHED, NO_CHANNEL, BAD_LENGTH, TOO_MANY, OUT_OF_RANGE, PASSED, OUT_OF_MEMORY. IN_USE
- * also precedes BAD_PLAN, and NO_RECEIVER precedes NO_PACKET. The results of a call are listed in
- * the order of their numbers. What a call only writes need not be initialised, and is written
- * whatever the result is.
+ * returns the first of
+ * - NO_RECEIVER, NO_DAMAGE, NO_TRANSMITTER, NO_INSPECTOR or NO_CHECKER: the handle has none,
+ * - IN_USE, NO_LANE, FINISHED, WAITING, NO_CHANNEL, BAD_LENGTH, TOO_MANY, OUT_OF_RANGE, PASSED,
+ * - OUT_OF_MEMORY.
+ *
+ * IN_USE also precedes BAD_PLAN, and NO_RECEIVER precedes NO_PACKET. The results of a call are
+ * listed in the order of their numbers. What a call only writes need not be initialised, and is
+ * written whatever the result is.
  *
  * A later version with the same first number may have further results, kinds of events, reasons and
  * causes. Pass over an event of an unknown kind, and take an unknown result for a failure. The
  * numbers in words are in interlaken_text.h.
  *
  * Memory comes from the three functions of interlaken_alloc.h. The libraries that tools/library
- * makes have them over malloc, realloc and free. After `interlaken_receiver_new` no call on a
- * receiver allocates memory, nor after `interlaken_inspector_new` on an inspector. Of the calls on
- * damage `new`, `flip` and `dark` do; of the calls on a transmitter `new` and `packet` do.
- * `interlaken_plan_read` and `interlaken_plan_channels` allocate memory, and free it before they
- * return. A receiver keeps room for the longest packet of the plan (`max_packet`) on each channel,
- * so a smaller `max_packet` saves memory. Give a thread that calls a `new` with a plan, or one of
- * these two calls, a stack of 128 KiB or more. */
+ * makes have them over malloc, realloc and free. Of the calls on a receiver, an inspector or a
+ * checker, `new` alone allocates memory. Of the calls on damage `new`, `flip` and `dark` do; of the
+ * calls on a transmitter `new` and `packet` do. `interlaken_plan_read` and
+ * `interlaken_plan_channels` allocate memory, and free it before they return. A receiver keeps room
+ * for the longest packet of the plan (`max_packet`) on each channel, so a smaller `max_packet`
+ * saves memory. Give a thread that calls a `new` with a plan, or one of these two calls, a stack of
+ * 128 KiB or more. */
 #ifndef INTERLAKEN_H
 #define INTERLAKEN_H
 
@@ -118,18 +121,20 @@ extern "C" {
 enum interlaken_result {
   INTERLAKEN_DONE = 0,            /* the call did what it was asked */
   INTERLAKEN_OUT_OF_MEMORY = 1,   /* memory ran out: no handle was opened, no row or packet added */
-  INTERLAKEN_BAD_PLAN = 2,        /* the plan is refused: no receiver or transmitter was opened */
+  INTERLAKEN_BAD_PLAN = 2,        /* the plan is refused: no handle was opened, and nothing was
+                                     read */
   INTERLAKEN_NO_LANE = 3,         /* no lane has this number */
-  INTERLAKEN_FINISHED = 4,        /* the lane, or the transmitter, was finished before; or its
-                                     packets were closed */
-  INTERLAKEN_TOO_MANY = 5,        /* the lane or the piece has 2^40 bytes or more, or the channel
-                                     would be given more than 2^60 */
+  INTERLAKEN_FINISHED = 4,        /* the lane, the transmitter or the words of a checker were
+                                     finished before; or the packets were closed */
+  INTERLAKEN_TOO_MANY = 5,        /* the lane or the piece has 2^40 bytes or more, the channel
+                                     would be given more than 2^60, or the checker has 2^57 words */
   INTERLAKEN_NO_PACKET = 6,       /* the last event was no packet */
   INTERLAKEN_NO_RECEIVER = 7,     /* the handle has no receiver: it is all zeros, or was freed */
   INTERLAKEN_IN_USE = 8,          /* the handle is open already, and stays as it is */
   INTERLAKEN_NO_DAMAGE = 9,       /* the handle has no damage: it is all zeros, or was freed */
-  INTERLAKEN_OUT_OF_RANGE = 10,   /* the number of lanes, or the bit of a lane, is not allowed; no
-                                     plan has these numbers, or no group has this place */
+  INTERLAKEN_OUT_OF_RANGE = 10,   /* the number of lanes or the bit of a lane is not allowed; a
+                                     number of a plan is out of its range; no group has this
+                                     place; the slot is 2^56 or more; no word has this kind */
   INTERLAKEN_PASSED = 11,         /* all named bits have passed: nothing happens to them any more */
   INTERLAKEN_NO_TRANSMITTER = 12, /* the handle has no transmitter: it is all zeros, or was freed */
   INTERLAKEN_NO_CHANNEL = 13,     /* the plan does not list the channel */
@@ -155,7 +160,7 @@ typedef struct interlaken_transmitter {
 } interlaken_transmitter;
 
 /* What a transmitter was given on a channel, and what it sent of it. A burst is sent once its
- * control word was made: from then on all its bytes count, and so does its packet if the burst is
+ * control word was made. From then on all its bytes count; its packet counts, too, if the burst is
  * the packet's last. The differences are what is left. */
 typedef struct interlaken_counts {
   uint64_t packets_given;
@@ -164,14 +169,14 @@ typedef struct interlaken_counts {
   uint64_t bytes_sent;
 } interlaken_counts;
 
-/* How a lane of a transmitter stands, and what is left to send. */
+/* The state of a lane of a transmitter, and what is left to send. */
 typedef struct interlaken_transmitter_status {
   uint64_t waiting; /* bytes of the lane that were made and not taken */
   uint64_t left;    /* packets of all channels that were given and are not sent: their last burst
                        was not; 2^64 - 1 at most */
   uint32_t ended;   /* 1 if the lanes have ended, so that no byte more is made; otherwise 0 */
-  uint32_t held;    /* 1 if 4,088 bytes or more of some lane wait, so that no word is made before
-                       some of them are taken; otherwise 0 */
+  uint32_t held;    /* 1 if 4,088 bytes or more of some lane wait; otherwise 0. Then no word is made
+                       before some of them are taken, or at all, if `ended` is 1 */
 } interlaken_transmitter_status;
 
 /* A handle of a checker, or of none. All zeros is a handle of none. Both members belong to the
@@ -284,7 +289,8 @@ typedef struct interlaken_event {
   uint64_t word;          /* a control word */
 } interlaken_event;
 
-/* The locks of a lane and the wrong words that they cover, in the bytes that were used so far. */
+/* The locks of a lane and the wrong words that they cover, in the bytes that were used so far, or
+ * that an inspector took. */
 typedef struct interlaken_report {
   uint64_t locks;     /* declared locks */
   uint64_t has_first; /* 1 if a lock was declared; otherwise 0 */
@@ -307,7 +313,7 @@ typedef struct interlaken_plan {
   uint32_t metaframe;   /* words of a metaframe on each lane: 32 to 8,192 */
   uint32_t skips;       /* Skip words of a metaframe: 1 to 4 */
   uint32_t wide;        /* 1 if channel numbers have 16 bits; 0 if they have 8 */
-  uint32_t deskew;      /* words by which lanes may be apart: below half of `metaframe` */
+  uint32_t deskew;      /* words by which lanes may be apart: 1 to below half of `metaframe` */
   uint32_t max_packet;  /* bytes of the longest packet: 1 to 262,144 */
   uint32_t link_type;   /* link type of the captures that the program writes: 0 to 65,535 */
   uint32_t entries;     /* entries of the calendar: 1 to 1,024 */
@@ -335,19 +341,22 @@ uint32_t interlaken_plan_read(const uint8_t *plan, size_t size, interlaken_plan 
 uint32_t interlaken_plan_channels(const uint8_t *plan, size_t size, uint16_t *channels, size_t room,
                                   size_t *count, interlaken_refusal *refusal);
 
-/* Finds the word at a place of an event: its lane, and the bit of that lane at which its code would
- * begin if no lane were skewed. So it is the bit of the group, and 67 for each word since. If the
- * lane's Sync words come some bits later than those of lane 0, so does the code.
+/* Finds the word at a place of an event: its lane, and a bit of that lane. At this bit its code
+ * would begin if no lane were skewed: it is the bit of the group, and 67 for each word since. If
+ * the lane's Sync words come some bits later than those of lane 0, so does the code.
  * Results: DONE, OUT_OF_RANGE; `lane` and `bit` are 0 if it is not DONE. It is OUT_OF_RANGE if and
- * only if no plan has these numbers, `known` is not 1, the group has no word `index`, or `group` is
- * 2^44 or more. */
+ * only if
+ * - a number of the plan is out of its range above,
+ * - `known` is not 1,
+ * - the group has no word `index`, or
+ * - `group` is 2^44 or more. */
 uint32_t interlaken_plan_place(const interlaken_plan *numbers, const interlaken_place *place,
                                uint32_t *lane, uint64_t *bit);
 
-/* Finds payload word number `slot` of a transmitter, as `interlaken_transmitter_slots` counts them:
- * its lane, and the bit of that lane at which its code begins in the bytes that are taken.
+/* Finds payload word number `slot` of a transmitter, as `interlaken_transmitter_slots` counts them.
+ * It writes the lane of the word, and the bit at which its code begins in the lane's taken bytes.
  * Results: DONE, OUT_OF_RANGE; `lane` and `bit` are 0 if it is not DONE. It is OUT_OF_RANGE if and
- * only if no plan has these numbers, or `slot` is 2^56 or more. */
+ * only if a number of the plan is out of its range above, or `slot` is 2^56 or more. */
 uint32_t interlaken_plan_slot(const interlaken_plan *numbers, uint64_t slot, uint32_t *lane,
                               uint64_t *bit);
 
@@ -379,9 +388,9 @@ uint32_t interlaken_receiver_finish(interlaken_receiver *receiver, uint32_t lane
  * before. Until the end, NONE means that at least one unfinished lane has an empty ring. Feed or
  * finish that lane; the rings of the other lanes may be full.
  *
- * If byte n of a lane, counted from 0, shows an event, `next` returns the event once n + 1 bytes of
- * each unfinished lane were fed. A lane that is fed further than the others does not bring it
- * sooner.
+ * Bytes of a lane are counted from 0. If byte n shows an event, `next` returns the event once n + 1
+ * bytes of each unfinished lane were fed. A lane that is fed further than the others does not bring
+ * it sooner.
  * Results: DONE, NO_RECEIVER; the event is INTERLAKEN_NONE if it is not DONE. */
 uint32_t interlaken_receiver_next(interlaken_receiver *receiver, interlaken_event *event);
 
@@ -397,17 +406,17 @@ uint32_t interlaken_receiver_read(interlaken_receiver *receiver, uint32_t offset
 uint32_t interlaken_receiver_report(interlaken_receiver *receiver, uint32_t lane,
                                     interlaken_report *report);
 
-/* Writes how far the search for the locks of a lane, counted from 0, is, in the bytes that were
- * used so far: an enum interlaken_lane_state. The lane is in a declared lock if its report has
- * more locks than lost ones.
+/* Writes how far the search for the locks of a lane, counted from 0, is in the bytes that were used
+ * so far: an enum interlaken_lane_state. The lane is in a declared lock if its report has more
+ * locks than lost ones.
  * Results: DONE, NO_LANE, NO_RECEIVER; the state is INTERLAKEN_LANE_SEARCHING if it is not DONE. */
 uint32_t interlaken_receiver_lane_state(interlaken_receiver *receiver, uint32_t lane,
                                         uint32_t *state);
 
-/* Writes whether the far end lets packets be sent on a channel, 1 or 0, by the plan's calendar and
- * the control words that `next` returned as INTERLAKEN_FLOW. A channel is on until an entry turns
- * it off; a listed channel without an entry stays on. After a fault span, in which words may be
- * missing, no word counts up to the next with Reset Calendar.
+/* Writes whether the far end lets packets be sent on a channel: 1 or 0. It does by the plan's
+ * calendar and the control words that `next` returned as INTERLAKEN_FLOW. A channel is on until an
+ * entry turns it off; a listed channel without an entry stays on. After a fault span, in which
+ * words may be missing, no word counts up to the next with Reset Calendar.
  * Results: DONE, NO_RECEIVER, NO_CHANNEL; `on` is 0 if it is not DONE. It is NO_CHANNEL if and only
  * if the plan does not list the channel. An entry of the calendar is always a listed channel. */
 uint32_t interlaken_receiver_is_on(interlaken_receiver *receiver, uint16_t channel, uint32_t *on);
@@ -417,17 +426,19 @@ uint32_t interlaken_receiver_is_on(interlaken_receiver *receiver, uint16_t chann
  * counts from the next word on, and not from the next metaframe on.
  *
  * All lanes are in step: a word is made on each lane at once, 8.375 bytes of each. Up to 4,096
- * bytes of each lane wait until they are taken, so take all lanes in turn: a lane that is not
- * taken holds back the others. As long as no packet waits, or none may be sent, idle words are
- * made: the lanes go on until `finish`.
+ * bytes of each lane wait until they are taken. A lane that is not taken holds back the others, so
+ * take all lanes in turn. As long as no packet waits, or none may be sent, idle words are made: the
+ * lanes go on until `finish`.
  *
  * A channel is ready if it is on and has bytes to send. The next burst is on the ready channel that
- * has waited longest: since its last burst began, or since it was turned on if that is later.
- * Before all these come the channels that had no burst and were not turned on, by their numbers. */
+ * has waited longest. It waits since its last burst began, or since it was turned on if that is
+ * later. Of channels that were turned on before the same word, the one whose entry was read first
+ * comes first. Before all these come the channels that had no burst and were not turned on, by
+ * their numbers. */
 
 /* Opens a transmitter behind a handle that has none. `plan` is the text of a plan file, of any
  * length; it is not kept. All its rows are read, and refused if they are wrong, but no file that
- * they name is opened: packets, flow control and states are given by calls alone. The transmitter
+ * they name is opened. Packets, flow control and states are given by calls alone. The transmitter
  * has the plan's lanes, channels and calendar. No word is made yet, and all channels are on.
  * `refusal` has the cause INTERLAKEN_NO_CAUSE if the plan is not refused.
  * Results: DONE, OUT_OF_MEMORY, BAD_PLAN, IN_USE. */
@@ -450,7 +461,7 @@ uint32_t interlaken_transmitter_packet(interlaken_transmitter *transmitter, uint
 
 /* Passes on a control word of the far end that the caller has verified, as INTERLAKEN_FLOW has it.
  * Its CRC24 is not looked at, since it covers the data before it. The word turns channels off and
- * on by the plan's calendar, from the next word on that is made: on a channel that is off no burst
+ * on by the plan's calendar, from the next word on that is made. On a channel that is off no burst
  * begins. A channel keeps the state of its most recent calendar entry.
  *
  * All channels are on, and no word counts, until one with Reset Calendar. After a fault span, in
@@ -469,17 +480,17 @@ uint32_t interlaken_transmitter_local(interlaken_transmitter *transmitter, uint1
 
 /* Takes the next bytes of a lane, counted from 0, first bit first: `taken` is how many. While fewer
  * than `count` bytes wait, the next word of each lane is made. No word is made if a lane is full,
- * which it is from 4,088 waiting bytes on, or if the lanes have ended. So fewer than `count` bytes
- * may be taken: of any lane if `count` is above 4,088, if another lane is full, or at the end of a
- * finished transmitter. Fewer bytes alone never mean the end: `status_of` says whether the lanes
- * have ended. At least one byte is taken of a lane with waiting bytes, if `count` is not 0. The
- * rest of `bytes` stays unchanged.
+ * which it is from 4,088 waiting bytes on, or if the lanes have ended. Fewer than `count` bytes are
+ * taken if too few of them are made: `count` is above 4,088, another lane is full, or a finished
+ * transmitter ends. Fewer bytes alone never mean the end: `status_of` says whether the lanes have
+ * ended. At least one byte is taken of a lane with waiting bytes, if `count` is not 0. The rest of
+ * `bytes` stays unchanged.
  * Results: DONE, NO_LANE, NO_TRANSMITTER; `taken` is 0 if it is not DONE. */
 uint32_t interlaken_transmitter_take(interlaken_transmitter *transmitter, uint32_t lane,
                                      uint8_t *bytes, size_t count, size_t *taken);
 
-/* Closes the packets: none may follow. `flow` and `local` count as before, and the lanes go on, so
- * that what waits on a channel that is off can still be sent: go on until `status_of` says that no
+/* Closes the packets: none may follow. `flow` and `local` count as before, and the lanes go on. So
+ * what waits on a channel that is off can still be sent. Go on until `status_of` says that no
  * packet is left, then `finish`. A second call changes nothing, and a call after `finish` does not
  * either.
  * Results: DONE, NO_TRANSMITTER. */
@@ -497,7 +508,7 @@ uint32_t interlaken_transmitter_finish(interlaken_transmitter *transmitter);
 uint32_t interlaken_transmitter_sent(interlaken_transmitter *transmitter, uint16_t channel,
                                      interlaken_counts *counts);
 
-/* Writes how a lane, counted from 0, stands, and how many packets are left. If `ended` is 1 and
+/* Writes the state of a lane, counted from 0, and how many packets are left. If `ended` is 1 and
  * `waiting` is 0, all bytes of the lane were taken. The lanes end in a call of `take`. A call takes
  * time for each channel of the plan.
  * Results: DONE, NO_LANE, NO_TRANSMITTER; all of `status` is 0 if it is not DONE. */
@@ -518,9 +529,7 @@ uint32_t interlaken_transmitter_slots(interlaken_transmitter *transmitter, uint6
  * `empty` comes one word later.
  *
  * Take all faults with `next` before you give the next word: until then `word` and `flow` return
- * WAITING. If several results apply, a call on a checker returns the first of NO_CHECKER, IN_USE,
- * FINISHED, WAITING, TOO_MANY, OUT_OF_RANGE. After `interlaken_checker_new` no call on a checker
- * allocates memory. A thread that calls `interlaken_checker_new` needs a stack of 128 KiB. */
+ * WAITING. */
 
 /* Kinds of words: the tags of a words file. */
 enum interlaken_word_kind {
@@ -529,15 +538,17 @@ enum interlaken_word_kind {
   INTERLAKEN_WORD_BAD = 3      /* a bad word; its number is ignored */
 };
 
-/* The rules of a sender's words, in their order. A burst word is a control word with bit 62. */
+/* The rules of a sender's words, in their order. A burst word is a control word with bit 62. What a
+ * bad word may hide breaks no rule. */
 enum interlaken_rule {
   INTERLAKEN_RULE_NONE = 0,      /* no fault is due */
   INTERLAKEN_RULE_BAD = 1,       /* the word is bad */
   INTERLAKEN_RULE_CONTROL = 2,   /* no receiver accepts the control word */
   INTERLAKEN_RULE_CRC = 3,       /* the CRC24 is wrong */
   INTERLAKEN_RULE_DATA = 4,      /* data after a control word that is no burst word, or before any
-                                    word */
-  INTERLAKEN_RULE_MAX = 5,       /* the burst is longer than BurstMax; its channel */
+                                    word; the first data word of a run */
+  INTERLAKEN_RULE_MAX = 5,       /* the burst is longer than BurstMax, from this data word on; its
+                                    channel */
   INTERLAKEN_RULE_EMPTY = 6,     /* a control word follows the burst word; its channel */
   INTERLAKEN_RULE_SHORT = 7,     /* the burst word is less than BurstShort after the burst word
                                     before it; its channel */
@@ -550,7 +561,8 @@ enum interlaken_rule {
                                     burst */
   INTERLAKEN_RULE_SOP = 12,      /* SOP inside a packet; its channel */
   INTERLAKEN_RULE_OPEN = 13,     /* no SOP, and no packet is open; its channel */
-  INTERLAKEN_RULE_CHANNEL = 14,  /* the plan does not list the channel of the burst word */
+  INTERLAKEN_RULE_CHANNEL = 14,  /* the plan does not list the channel of the burst word; its
+                                    channel */
   INTERLAKEN_RULE_LONG = 15,     /* the packet is longer than `max_packet`; the channel of the
                                     burst */
   INTERLAKEN_RULE_IDLE = 16,     /* an idle word with SOP, a channel or multiple use */
@@ -604,7 +616,7 @@ uint32_t interlaken_checker_next(interlaken_checker *checker, interlaken_rule_fa
 
 /* Damage of lanes on their way. The bytes of each lane pass through `apply`, in pieces of any
  * length; feed the result to a receiver, or to a device. Bits of a lane are counted from 0 over all
- * its pieces, as in the rows of a schedule file: bit n is bit 7 - n % 8 of byte n / 8. A bit is 0
+ * its pieces, as in the rows of a schedule file. Bit n is bit 7 - n % 8 of byte n / 8. A bit is 0
  * if a dark stretch covers it; otherwise it is inverted if an odd number of flips names it. So two
  * flips of one bit cancel each other. Rows may be added at any time, also between pieces. The bytes
  * of a lane after `apply`, joined, are the bytes of the lane before, joined, with all accepted
@@ -619,7 +631,7 @@ uint32_t interlaken_damage_new(interlaken_damage *damage, uint32_t lanes);
 uint32_t interlaken_damage_free(interlaken_damage *damage);
 
 /* Inverts a bit of a lane, counted from 0, once more. The result is OUT_OF_RANGE from bit 2^44 on,
- * and PASSED if the bit was in an earlier piece: nothing happens then, since its byte is gone.
+ * and PASSED if the bit was in an earlier piece. Nothing happens then, since its byte is gone.
  * Results: DONE, OUT_OF_MEMORY, NO_LANE, NO_DAMAGE, OUT_OF_RANGE, PASSED. */
 uint32_t interlaken_damage_flip(interlaken_damage *damage, uint32_t lane, uint64_t bit);
 
@@ -638,10 +650,10 @@ uint32_t interlaken_damage_apply(interlaken_damage *damage, uint32_t lane, uint8
                                  size_t count);
 
 /* An inspector of the lanes of a link. It looks at each lane alone, and shows what a receiver only
- * counts or does not look at: each wrong word with its bit, and each lock that is declared or lost.
- * The events of a lane are those of the command `inspect` over the bytes that were taken of it, in
- * its order: by bits, and of one word in the order of the kinds. They do not depend on the pieces
- * in which the bytes come, nor on the other lanes. */
+ * counts or does not look at. These are each wrong word with its bit, and each lock that is
+ * declared or lost. The events of a lane are the events of the command `inspect` over the bytes
+ * that were taken of it, in the same order. They come by bits, and of one word in the order of the
+ * kinds. They do not depend on the pieces in which the bytes come, nor on the other lanes. */
 
 /* What a lane shows at a word. A word is covered if a declared lock goes on at it. */
 enum interlaken_lane_kind {
@@ -658,8 +670,8 @@ enum interlaken_lane_kind {
   INTERLAKEN_LANE_EVENT_HEALTH = 6,         /* a covered Diagnostic word is right, and its health
                                                bits, 33 and 32, are not both 1 */
   INTERLAKEN_LANE_EVENT_BALANCE = 7,        /* from the declaring Sync word to this covered word the
-                                               codes have over 129 more ones than zeros, or zeros
-                                               than ones: once in a lock */
+                                               numbers of ones and zeros in the codes differ by
+                                               over 129; once in a lock */
   INTERLAKEN_LANE_EVENT_LOCK = 8,           /* a lock is declared, by this Sync word */
   INTERLAKEN_LANE_EVENT_LOST_HEADERS = 9,   /* a declared lock is lost at this word, for headers */
   INTERLAKEN_LANE_EVENT_LOST_SYNC = 10,     /* the same, for Sync words */
@@ -677,9 +689,8 @@ typedef struct interlaken_lane_event {
 
 /* Opens an inspector behind a handle that has none. `plan` is the text of a plan file, of any
  * length; it is not kept. All its rows are read, and refused if they are wrong, but no file that
- * they name is opened or written. The inspector has the plan's lanes, which are `lanes`,
- * `metaframe` and `skips` of it. `refusal` has the cause INTERLAKEN_NO_CAUSE if the plan is not
- * refused.
+ * they name is opened or written. It inspects as many lanes as the plan has, with its `metaframe`
+ * and `skips`. `refusal` has the cause INTERLAKEN_NO_CAUSE if the plan is not refused.
  * Results: DONE, OUT_OF_MEMORY, BAD_PLAN, IN_USE. */
 uint32_t interlaken_inspector_new(interlaken_inspector *inspector, const uint8_t *plan,
                                   size_t count, interlaken_refusal *refusal);
@@ -688,10 +699,10 @@ uint32_t interlaken_inspector_new(interlaken_inspector *inspector, const uint8_t
  * Results: DONE, NO_INSPECTOR. */
 uint32_t interlaken_inspector_free(interlaken_inspector *inspector);
 
-/* Feeds a lane, counted from 0, with the next of its bytes, first bit first, and writes to `taken`
- * how many it takes: all of them, or those up to the end of a word that shows events, and at most
- * six more. While events of the lane are due, it takes none: call `next`, and feed the other bytes
- * again. Events of other lanes hold back no byte.
+/* Feeds a lane, counted from 0, with the next of its bytes, first bit first. It takes all of them,
+ * or those up to the end of a word that shows events, and at most six more. It writes to `taken`
+ * how many it takes. While events of the lane are due, it takes none: call `next`, and feed the
+ * other bytes again. Events of other lanes hold back no byte.
  * Results: DONE, NO_LANE, FINISHED, TOO_MANY, NO_INSPECTOR; `taken` is 0 if it is not DONE. */
 uint32_t interlaken_inspector_feed(interlaken_inspector *inspector, uint32_t lane,
                                    const uint8_t *bytes, size_t count, size_t *taken);

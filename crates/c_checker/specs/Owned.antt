@@ -1,4 +1,4 @@
--- What a block of a checker owns: the same as a box of it, where there is any.
+-- What a block of a checker owns: the same as a box of it, if there is any.
 use base.Fml.{Fml, ftrue}
 use base.Stored.{Coded}
 use denote.RawPtr.{Ptr}

@@ -9,7 +9,7 @@ use std::alloc::Global;
 use std::marker::Model;
 use std::ptr;
 
-/// A pointer to a checker, which owns it: the checker lies at the pointer, and its block may be given back. Where there is none it owns
+/// A pointer to a checker, which owns it: the checker lies at the pointer, and its block may be given back. If there is none it owns
 /// nothing.
 #[repr(C)]
 #[derive(Drop)]

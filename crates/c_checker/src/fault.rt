@@ -10,11 +10,11 @@ use word_rules::Fault;
 #[repr(C)]
 #[derive(Clone, Copy)]
 pub struct CFault {
-    /// One of the rules in `codes`, `RULE_BAD` to `RULE_OFF`, or `RULE_NONE` where there is no fault.
+    /// One of the rules in `codes`, `RULE_BAD` to `RULE_OFF`, or `RULE_NONE` if there is no fault.
     pub rule: u32,
-    /// 1 where the rule is on a channel, else 0.
+    /// 1 if the rule is on a channel, otherwise 0.
     pub has_channel: u32,
-    /// The channel; 0 where there is none.
+    /// The channel; 0 if there is none.
     pub channel: u32,
     /// 0.
     pub reserved: u32,

@@ -9,7 +9,7 @@ use std::alloc::Global;
 use std::marker::Model;
 use std::ptr;
 
-/// A pointer to a transmitter, which owns it: the transmitter lies at the pointer, and its block may be given back. Where there is none
+/// A pointer to a transmitter, which owns it: the transmitter lies at the pointer, and its block may be given back. If there is none
 /// it owns nothing.
 #[repr(C)]
 #[derive(Drop)]

@@ -154,7 +154,7 @@ fn local_ended(answer: Result<(), LocalRefused>) -> u32
     }
 }
 
-/// Says whether the far end may send on a channel: it may where `on` is not 0. It is `DONE`, `FINISHED`, `NO_CHANNEL` or
+/// Says whether the far end may send on a channel: it may if `on` is not 0. It is `DONE`, `FINISHED`, `NO_CHANNEL` or
 /// `NO_TRANSMITTER`.
 pub fn local(alloc: Global, transmitter: &mut TransmitterHandle, channel: u16, on: u32) -> u32
     ensures { GivesLocal transmitter.old.at.transmitter transmitter.new.at.transmitter channel on result }
@@ -179,7 +179,7 @@ fn take_of(transmitter: &mut LiveTransmitter, lane: u32, bytes: &mut [u8], taken
     DONE
 }
 
-/// Takes the next bytes of a lane, as many as there is room for where no other lane holds them back, and writes how many that is. It is
+/// Takes the next bytes of a lane, as many as there is room for if no other lane holds them back, and writes how many that is. It is
 /// `DONE`, `NO_LANE` or `NO_TRANSMITTER`.
 pub fn take(
     alloc: Global,
@@ -282,7 +282,7 @@ fn stands(answer: Option<Status>, status: &mut CStatus) -> u32
     }
 }
 
-/// Writes how a lane stands, and what is left to send. It is `DONE`, `NO_LANE` or `NO_TRANSMITTER`.
+/// Writes the state of a lane, and what is left to send. It is `DONE`, `NO_LANE` or `NO_TRANSMITTER`.
 pub fn status_of(
     alloc: Global,
     transmitter: &mut TransmitterHandle,

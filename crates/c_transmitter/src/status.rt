@@ -1,10 +1,10 @@
-//! How a lane of a transmitter stands, as C sees it.
+//! The state of a lane of a transmitter, as C sees it.
 ghost use Rattle.std.specs.Prelude.{◌≡◌};
 ghost use Rattle.c_transmitter.specs.Held.{as_status, no_status};
 
 use live_end::Status;
 
-/// How a lane of a transmitter stands, and what is left to send.
+/// The state of a lane of a transmitter, and what is left to send.
 #[repr(C)]
 #[derive(Clone, Copy)]
 pub struct CStatus {

@@ -1,5 +1,5 @@
 -- The rows that words show as they come are their faults.
-use Rattle.std.proofs.Common.{ℕ, ◌≡◌, refl, sym, ap, ap₂, ◌∙◌, Bool, true, false, ◌&&◌, not, List, [], ◌∷◌, ◌++◌, length, Option, Some, None, append_assoc, append-nil}
+use Rattle.std.proofs.Common.{ℕ, ◌≡◌, refl, sym, subst, ap, ap₂, ◌∙◌, Bool, true, false, ◌&&◌, not, List, [], ◌∷◌, ◌++◌, length, Option, Some, None, append_assoc, append-nil}
 use Rattle.std.proofs.lemmas.List.Elements.{filter-append}
 use Rattle.lk_base.specs.declared.word.RxWord.{RxWord}
 use Rattle.lk_base.specs.declared.word.RxWord.TheVariants.{Data, Control, Bad}
@@ -13,7 +13,7 @@ use Rattle.word_rules.specs.Places.{is_burst_word}
 use Rattle.word_rules.specs.Rules.{breaks_control, breaks_crc, breaks_empty, breaks_end, breaks_short}
 use Rattle.word_rules.specs.Faults.{Plan, burst_rows, data_rows, empty_rows, faults, faults_at, faults_from, field_rows, packet_rows, row}
 use Rattle.live_checker.specs.Live.{live_faults, live_from}
-use Rattle.live_checker.specs.Laws.{AreSameRows, empties, is_empty_rule, others}
+use Rattle.live_checker.specs.Laws.{AreSameRows, LiveRowsAreInOrder, empties, empty_before, is_empty_rule, others, rows_in_order}
 
 -- none is of `empty`
 HasNone : List Fault → Type 0
@@ -199,3 +199,38 @@ same_rows p words = record {
   same_empties = empties_from p [] words ∙ ap (λ (l : List Fault). l ++ empties (faults p words)) (none_at_start p.limits (first_of words));
   same_others = others_from p [] words;
 }
+
+-- ---- their order
+
+all_others : (rows : List Fault) → HasNone rows → others rows ≡ rows
+unfolding HasNone
+all_others [] h = refl
+all_others (f ∷ rows) h = rw h.0 (ap (λ (l : List Fault). f ∷ l) (all_others rows h.1))
+
+empty_none : (p : Plan) (e : List RxWord) (x : ℕ) → HasNone (empty_row p.limits e x None)
+unfolding HasNone empty_row
+empty_none p e x = subst (λ (b : Bool). HasNone (row (length e) rules.Empty (Some (channel_number p.limits.wide x)) b)) (sym (and_false (is_burst_word x))) tt
+
+-- without the word after it a word shows no row of `empty` of its own
+own_none : (p : Plan) (e : List RxWord) (word : RxWord) → HasNone (faults_at p e word None)
+own_none p e (Data x) = data_none p e
+own_none p e (Control x) = subst HasNone (sym (in_parts p e x None)) (both_none _ _ (first_none p.limits e x) (both_none _ _ (empty_none p e x) (last_none p e x)))
+own_none p e Bad = row_none (length e) rules.Bad None true refl
+
+own_rows : (p : Plan) (e : List RxWord) (word : RxWord) (next : Option RxWord) → faults_at p e word None ≡ others (faults_at p e word next)
+own_rows p e word next = sym (all_others (faults_at p e word None) (own_none p e word)) ∙ others_at p e word next
+
+before_is : (p : Plan) (e : List RxWord) (word : RxWord) → empty_rows p.limits e word ≡ empty_before p e word
+unfolding behind
+before_is p [] word = refl
+before_is p (before ∷ e) word = sym (empties_at p e before (Some word))
+
+order_from : (p : Plan) (e words : List RxWord) → live_from p e words ≡ rows_in_order p e words
+order_from p e [] = refl
+order_from p e (w ∷ words) =
+    ap₂ (λ (l r : List Fault). l ++ r)
+    (ap₂ (λ (l r : List Fault). l ++ r) (before_is p e w) (own_rows p e w (first_of words)))
+    (order_from p (w ∷ e) words)
+
+pub rows_are_in_order : LiveRowsAreInOrder
+rows_are_in_order p words = order_from p [] words

@@ -1,12 +1,13 @@
 -- The laws on faults that are told as words come.
-use Rattle.std.specs.Prelude.{ℕ, ◌≡◌, suc, Bool, true, false, not, List, [], ◌∷◌, ◌++◌, filter}
+use Rattle.std.specs.Prelude.{ℕ, ◌≡◌, suc, Bool, true, false, not, List, [], ◌∷◌, ◌++◌, filter, Some}
 use Rattle.lk_base.specs.declared.word.RxWord.{RxWord}
+use Rattle.receive_model.specs.Lists.{first_of}
 use Rattle.stream_model.specs.declared.rows.FlowRow.{FlowRow}
 use Rattle.word_rules.specs.declared.fault.Fault.{Fault}
 use Rattle.word_rules.specs.declared.limits.WordLimits.{WordLimits}
 use Rattle.word_rules.specs.declared.rule.WordRule.{WordRule}
 use Rattle.word_rules.specs.declared.rule.WordRule.TheVariants as rules
-use Rattle.word_rules.specs.Faults.{Plan, faults}
+use Rattle.word_rules.specs.Faults.{Plan, faults, faults_at}
 use Rattle.live_checker.specs.Live.{live_faults}
 use Rattle.live_checker.specs.States.{State}
 use Rattle.live_checker.specs.Standing.{Checked, Checks, nothing_checked, with_heard, with_word}
@@ -50,6 +51,23 @@ pub record AreSameRows (one other : List Fault) : Type 0 where
 abbrev pub LiveRowsAreRows : Type 0
 LiveRowsAreRows = (p : Plan) (words : List RxWord) → AreSameRows (live_faults p words) (faults p words)
 
+-- ---- the order of the rows
+
+-- the row of `empty` of the word before a place, if the word at the place shows it
+abbrev pub empty_before : Plan → List RxWord → RxWord → List Fault
+empty_before p [] word = []
+empty_before p (before ∷ earlier) word = empties (faults_at p earlier before (Some word))
+
+-- the rows of these words in the order in which they come: for each word, the row of `empty` of the word before it, and then all its
+-- other rows
+abbrev pub rows_in_order : Plan → List RxWord → List RxWord → List Fault
+rows_in_order p earlier [] = []
+rows_in_order p earlier (word ∷ words) = (empty_before p earlier word ++ others (faults_at p earlier word (first_of words))) ++ rows_in_order p (word ∷ earlier) words
+
+-- the rows that words show as they come have this order
+abbrev pub LiveRowsAreInOrder : Type 0
+LiveRowsAreInOrder = (p : Plan) (words : List RxWord) → live_faults p words ≡ rows_in_order p [] words
+
 -- ---- words and words of flow control, in the order in which they are given
 
 pub data Call : Type 0 where
@@ -76,7 +94,7 @@ after [] x = x
 after (GiveWord word ∷ calls) x = after calls (with_word word x)
 after (GiveFlow heard ∷ calls) x = after calls (with_heard heard x)
 
--- the same, where these faults were given back, and the words were ended or not
+-- the same, if these faults were given back, and the words were ended or not
 abbrev pub told_of : Checked → List Fault → Bool → Checked
 told_of x given finished = record { plan = x.plan; words = x.words; given = given; finished = finished }
 

@@ -4,8 +4,8 @@ use Rattle.lk_base.specs.declared.word.RxWord.{RxWord}
 use Rattle.word_rules.specs.declared.fault.Fault.{Fault}
 use Rattle.word_rules.specs.Faults.{Plan, empty_rows, faults_at}
 
--- the rows that a word shows: that of `empty` of the word before it, and then its own in the order of the rules, as far as no word
--- after it is needed
+-- The rows that a word shows: first the row of `empty` of the word before it, then its own rows in the order of the rules. A row of
+-- its own that needs the word after it is not among them.
 abbrev pub shown_at : Plan → List RxWord → RxWord → List Fault
 shown_at p earlier word = empty_rows p.limits earlier word ++ faults_at p earlier word None
 

@@ -66,7 +66,7 @@ impl LiveChecker {
     ///
     /// # Errors
     ///
-    /// `OutOfMemory` where memory ran out, and nowhere else.
+    /// `OutOfMemory` if and only if memory ran out.
     pub fn new(
         alloc: Global,
         limits: WordLimits,
@@ -158,7 +158,7 @@ impl LiveChecker {
         self.finished = true;
     }
 
-    /// The next fault that is due, or `None` where none is.
+    /// The next fault that is due, or `None` if none is.
     pub fn next(&mut self) -> Option<Fault>
         ensures { IsNext self.old self.new result }
     {

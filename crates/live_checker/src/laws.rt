@@ -1,14 +1,20 @@
 //! The laws on faults that are told as words come.
-ghost use Rattle.live_checker.specs.Laws.{LawOnCalls, LiveRowsAreRows};
+ghost use Rattle.live_checker.specs.Laws.{LawOnCalls, LiveRowsAreInOrder, LiveRowsAreRows};
 
-/// The faults that are told as words come are those of the words: the rows of all rules but `empty` are the same list, and so are the
-/// rows of `empty`.
+/// The faults that words show one by one are the faults of all words together. The rows of all rules but `empty` are the same list,
+/// and so are the rows of `empty`.
 pub fn live_rows_are_rows()
     ensures { LiveRowsAreRows }
 {}
 
-/// Where each word of flow control is given before the words that it counts for, what was given and what is due are the faults of all
-/// words by the plan with these rows, in the same two lists.
+/// The faults that words show one by one come in this order. For each word: the row of `empty` of the word before it, and then all other
+/// rows of the word.
+pub fn live_rows_are_in_order()
+    ensures { LiveRowsAreInOrder }
+{}
+
+/// What was given, and then what is due, are the faults of all words, in the same two lists. Their plan has a row for each word of flow
+/// control: its slot is the number of words that were given before it.
 pub fn faults_are_those_of_check()
     ensures { LawOnCalls }
 {}

@@ -29,7 +29,7 @@ use Rattle.live_lanes.specs.Standing.{Progress, Stands, framed, progress, took, 
 use Rattle.live_lanes.proofs.Places.{lane_of, waiting_is}
 use Rattle.live_lanes.proofs.Taken.{are_whole_bytes}
 use Rattle.live_end.specs.States.{State, state}
-use Rattle.live_end.specs.Calls.{AreMore, GoesOn, IsFlow, IsLocal, IsPacket, IsStill, MakesRow, MakesWords, Rests}
+use Rattle.live_end.specs.Calls.{AreMore, GoesOn, HaveRoom, IsFlow, IsLocal, IsPacket, IsStill, MakesRow, MakesWords, Rests}
 use Rattle.live_end.specs.Sending.{IsOver, Sends, Sent, progress_of, sent, with_close, with_columns, with_flow, with_given, with_local, with_packet, with_packets_closed, with_taken}
 
 -- ---- words more
@@ -46,7 +46,7 @@ module _ (lane count : ℕ) where
   makes_none t x k = (0, [], (λ n low. absurd (omega (arith, low))), subst (Sends t) (sym (with_none x)) k)
 
   -- a word more, where these bytes want it
-  pub makes_more : (t u v : State) → MakesWords lane count t u → ((x : Sent) → Sends u x → AreMore x x.columns lane count) → MakesRow u v → MakesWords lane count t v
+  pub makes_more : (t u v : State) → MakesWords lane count t u → ((x : Sent) → Sends u x → AreMore x x.columns lane count × HaveRoom x x.columns) → MakesRow u v → MakesWords lane count t v
   makes_more t u v a wanted b x k =
       let (n, words, each, l) = a x k in
       let (more, r) = b (with_columns n words x) l in (
@@ -54,7 +54,7 @@ module _ (lane count : ℕ) where
         words ++ more,
         (λ m low. elim (cases_lt m n) [
           | inl before ↦ each m before
-          | inr here ↦ (let e : m ≡ n = omega (arith, low, here) in subst (λ i. AreMore x (x.columns + i) lane count) (sym e) (wanted (with_columns n words x) l))
+          | inr here ↦ (let e : m ≡ n = omega (arith, low, here) in subst (λ i. AreMore x (x.columns + i) lane count × HaveRoom x (x.columns + i)) (sym e) (wanted (with_columns n words x) l))
         ]),
         subst (Sends v) (with_both x n 1 words more) r,
       )
@@ -142,15 +142,21 @@ not_refused g channel bytes e = not_closed g.packets_closed g.closed _ e
 pub packet_is : (sch now : LiveScheduler) (lanes : Lanes) (row : List Word) (channel : ℕ) (bytes : List ℕ) (r : Result (Unit {0}) Refused) →
     OnOk r ((g : Given) (w : List Word) → Gives sch g w → Gives now (packet_added g w channel bytes) w) → OnErr r ((g : Given) (w : List Word) → Gives sch g w → Gives now g w) →
     ((g : Given) (w : List Word) → Gives sch g w → MatchOption (refusal_of g channel bytes) ((r ≡ Ok tt) ⊎ (r ≡ Err refused.OutOfMemory)) (λ why. r ≡ Err why)) → IsPacket (state sch lanes row) (state now lanes row) channel bytes r
-packet_is sch now lanes row channel bytes (Ok done) ok err why = λ x k.
-    let none = ok_none (refusal_of x.given channel bytes) done (why x.given x.words k.gives) in
-    (none, more_sends sch now lanes row x k (packet_added x.given x.words channel bytes) (ok x.given x.words k.gives) refl refl refl (not_refused x.given channel bytes none))
-packet_is sch now lanes row channel bytes (Err e) ok err why = λ x k.
-    (err_why (refusal_of x.given channel bytes) e (why x.given x.words k.gives), same_sends sch now lanes row x k (err x.given x.words k.gives))
+packet_is sch now lanes row channel bytes (Ok done) ok err why = (
+  refl,
+  λ x k.
+      let none = ok_none (refusal_of x.given channel bytes) done (why x.given x.words k.gives) in
+      (none, more_sends sch now lanes row x k (packet_added x.given x.words channel bytes) (ok x.given x.words k.gives) refl refl refl (not_refused x.given channel bytes none)),
+)
+packet_is sch now lanes row channel bytes (Err e) ok err why = (
+  refl,
+  λ x k.
+      (err_why (refusal_of x.given channel bytes) e (why x.given x.words k.gives), same_sends sch now lanes row x k (err x.given x.words k.gives)),
+)
 
 pub packet_keeps : (t u : State) (channel : ℕ) (bytes : List ℕ) (r : Result (Unit {0}) Refused) → IsPacket t u channel bytes r → (x : Sent) → Sends t x → (y : Sent) × Sends u y
-packet_keeps t u channel bytes (Ok done) h x k = (with_packet channel bytes x, (h x k).1)
-packet_keeps t u channel bytes (Err why) h x k = (x, (h x k).1)
+packet_keeps t u channel bytes (Ok done) h x k = (with_packet channel bytes x, (h.1 x k).1)
+packet_keeps t u channel bytes (Err why) h x k = (x, (h.1 x k).1)
 
 by_closed : (o : Option ℕ) → (o ≡ None) ⊎ ((c : ℕ) × (o ≡ Some c))
 by_closed None = inl refl
@@ -159,18 +165,24 @@ by_closed (Some c) = inr (c, refl)
 pub flow_is : (sch now : LiveScheduler) (lanes : Lanes) (row : List Word) (word : ℕ) (r : Result (Unit {0}) Closed) →
     ((g : Given) (w : List Word) → Gives sch g w → g.closed ≡ None → (r ≡ Ok tt) × Gives now (flow_added g w word) w) → ((g : Given) (w : List Word) (slot : ℕ) → Gives sch g w → g.closed ≡ Some slot → (is_err r ≡ true) × Gives now g w) →
     IsFlow (state sch lanes row) (state now lanes row) word r
-flow_is sch now lanes row word (Ok done) going past = λ x k. elim (by_closed x.given.closed) [
-  | inl none ↦ (none, more_sends sch now lanes row x k (flow_added x.given x.words word) (going x.given x.words k.gives none).1 refl refl refl none)
-  | inr some ↦ absurd (false≢true (past x.given x.words some.0 k.gives some.1).0)
-]
-flow_is sch now lanes row word (Err why) going past = λ x k. elim (by_closed x.given.closed) [
-  | inl none ↦ (let e = (going x.given x.words k.gives none).0 in absurd (cc))
-  | inr some ↦ (ap (λ (o : Option ℕ). is_some o) some.1, same_sends sch now lanes row x k (past x.given x.words some.0 k.gives some.1).1)
-]
+flow_is sch now lanes row word (Ok done) going past = (
+  refl,
+  λ x k. elim (by_closed x.given.closed) [
+    | inl none ↦ (none, more_sends sch now lanes row x k (flow_added x.given x.words word) (going x.given x.words k.gives none).1 refl refl refl none)
+    | inr some ↦ absurd (false≢true (past x.given x.words some.0 k.gives some.1).0)
+  ],
+)
+flow_is sch now lanes row word (Err why) going past = (
+  refl,
+  λ x k. elim (by_closed x.given.closed) [
+    | inl none ↦ (let e = (going x.given x.words k.gives none).0 in absurd (cc))
+    | inr some ↦ (ap (λ (o : Option ℕ). is_some o) some.1, same_sends sch now lanes row x k (past x.given x.words some.0 k.gives some.1).1)
+  ],
+)
 
 pub flow_keeps : (t u : State) (word : ℕ) (r : Result (Unit {0}) Closed) → IsFlow t u word r → (x : Sent) → Sends t x → (y : Sent) × Sends u y
-flow_keeps t u word (Ok done) h x k = (with_flow word x, (h x k).1)
-flow_keeps t u word (Err why) h x k = (x, (h x k).1)
+flow_keeps t u word (Ok done) h x k = (with_flow word x, (h.1 x k).1)
+flow_keeps t u word (Err why) h x k = (x, (h.1 x k).1)
 
 -- ---- a state of this end's own
 
@@ -193,15 +205,21 @@ local_open g channel e = local_not_closed g.closed _ e
 pub local_is : (sch now : LiveScheduler) (lanes : Lanes) (row : List Word) (channel : ℕ) (on : Bool) (r : Result (Unit {0}) LocalRefused) →
     OnOk r ((g : Given) (w : List Word) → Gives sch g w → Gives now (local_added g w channel on) w) → OnErr r ((g : Given) (w : List Word) → Gives sch g w → Gives now g w) →
     ((g : Given) (w : List Word) → Gives sch g w → MatchOption (local_refusal_of g channel) (r ≡ Ok tt) (λ why. r ≡ Err why)) → IsLocal (state sch lanes row) (state now lanes row) channel on r
-local_is sch now lanes row channel on (Ok done) ok err why = λ x k.
-    let none = local_none (local_refusal_of x.given channel) done (why x.given x.words k.gives) in
-    (none, more_sends sch now lanes row x k (local_added x.given x.words channel on) (ok x.given x.words k.gives) refl refl refl (local_open x.given channel none))
-local_is sch now lanes row channel on (Err e) ok err why = λ x k.
-    (local_why (local_refusal_of x.given channel) e (why x.given x.words k.gives), same_sends sch now lanes row x k (err x.given x.words k.gives))
+local_is sch now lanes row channel on (Ok done) ok err why = (
+  refl,
+  λ x k.
+      let none = local_none (local_refusal_of x.given channel) done (why x.given x.words k.gives) in
+      (none, more_sends sch now lanes row x k (local_added x.given x.words channel on) (ok x.given x.words k.gives) refl refl refl (local_open x.given channel none)),
+)
+local_is sch now lanes row channel on (Err e) ok err why = (
+  refl,
+  λ x k.
+      (local_why (local_refusal_of x.given channel) e (why x.given x.words k.gives), same_sends sch now lanes row x k (err x.given x.words k.gives)),
+)
 
 pub local_keeps : (t u : State) (channel : ℕ) (on : Bool) (r : Result (Unit {0}) LocalRefused) → IsLocal t u channel on r → (x : Sent) → Sends t x → (y : Sent) × Sends u y
-local_keeps t u channel on (Ok done) h x k = (with_local channel on x, (h x k).1)
-local_keeps t u channel on (Err why) h x k = (x, (h x k).1)
+local_keeps t u channel on (Ok done) h x k = (with_local channel on x, (h.1 x k).1)
+local_keeps t u channel on (Err why) h x k = (x, (h.1 x k).1)
 
 -- ---- words more of each lane
 
@@ -354,6 +372,19 @@ pub wanted_more : (lanes : Lanes) (x : Sent) (lane count : ℕ) → Stands lanes
 wanted_more lanes x lane count k going there low =
     let whole = are_whole_bytes lanes (progress_of x) lane k going (omega (arith, there, k.count)) in
     omega (arith, whole, low)
+
+room_left : (n : ℕ) → nat_le (n + 9) 4096 ≡ true → n + 9 ≤ 4096
+room_left n e = grind (arith, nat_tests)
+
+-- of each lane so many bytes wait that there is room for a word more
+pub with_room : (lanes : Lanes) (x : Sent) → Stands lanes (progress_of x) → lanes.ended ≡ false → has_room lanes ≡ true → HaveRoom x x.columns
+with_room lanes x k going room i h =
+    let d : Lane = lane_of lanes (progress_of x) k in
+    let there : i < length lanes.lanes = omega (arith, h, k.count) in
+    let low = room_left (length (get_or lanes.lanes i d).waiting) (AllPass-from_list_all lane_has_room lanes.lanes room i d there) in
+    let same = ap (λ (b : List ℕ). length b) (waiting_is lanes i d there) in
+    let whole = are_whole_bytes lanes (progress_of x) i k going h in
+    omega (arith, whole, low, same)
 
 -- a lane on which bytes wait is there
 some_there : (lanes : List Lane) (lane n : ℕ) → n < length (get_or (map (λ (l : Lane). l.waiting) lanes) lane []) → lane < length lanes

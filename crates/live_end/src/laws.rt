@@ -17,7 +17,7 @@ pub fn taken_are_first()
     live_lanes::laws::taken_are_first();
 }
 
-/// Once the lanes have ended the stream is whole, and what was taken of a lane is its file where nothing waits.
+/// Once the lanes have ended the stream is whole, and what was taken of a lane is its file if nothing waits.
 pub fn all_taken_are_the_file()
     ensures { AllTakenAreTheFile }
 {

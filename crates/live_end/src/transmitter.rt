@@ -43,7 +43,7 @@ impl LiveTransmitter {
     ///
     /// # Errors
     ///
-    /// `OutOfMemory` where memory ran out, and nowhere else.
+    /// `OutOfMemory` if and only if memory ran out.
     pub fn new(
         alloc: Global,
         link: &Link,
@@ -67,7 +67,7 @@ impl LiveTransmitter {
         })
     }
 
-    /// How many lanes there are: 1 to 64.
+    /// How many lanes the link has.
     pub fn lane_count(&self) -> usize
         ensures { result ≡ length self.now.lanes.lanes }
     {
@@ -78,8 +78,8 @@ impl LiveTransmitter {
     ///
     /// # Errors
     ///
-    /// In this order: it was closed, or its packets, the channel is not listed, the packet has no bytes or more than the link's
-    /// `max_packet`, the channel would be given more than `MOST_BYTES`, memory ran out. Nothing has changed then.
+    /// In this order: it was closed, or its packets were; the channel is not listed; the packet has no bytes, or more than the link's
+    /// `max_packet`. Then: the channel would be given more than `MOST_BYTES`; memory ran out. Nothing has changed then.
     pub fn packet(&mut self, channel: u16, bytes: &[u8]) -> Result<(), Refused>
         ensures { IsPacket self.old self.new channel bytes.now result }
     {
@@ -125,7 +125,7 @@ impl LiveTransmitter {
         self.scheduler.finish();
     }
 
-    /// What was given to a channel and what was sent of it, or `None` where the channel is not listed. A burst is sent once its burst
+    /// What was given to a channel and what was sent of it, or `None` if the channel is not listed. A burst is sent once its burst
     /// word was made.
     pub fn counts(&self, channel: u16) -> Option<Counts>
         ensures { AreCounted self.now channel result }
@@ -140,7 +140,7 @@ impl LiveTransmitter {
         self.scheduler.slot()
     }
 
-    /// How a lane stands, and what is left to send, or `None` where the lane is not there. It takes time for each channel.
+    /// The state of a lane and what is left to send, or `None` if the link has no such lane. It takes time for each channel.
     pub fn status(&self, lane: u32) -> Option<Status>
         ensures { IsStatusOf self.now lane result }
     {
@@ -180,7 +180,7 @@ impl LiveTransmitter {
         self.lanes.frame();
     }
 
-    // Whether the stream is whole, where it has fewer than the most words.
+    // Whether the stream is whole, if it has fewer than the most words.
     fn is_whole(&self) -> bool
         ensures whole { (x : Sent) → Sends self.now x → length x.words < most_words → (result ≡ true) ↔ IsWholeLiveStream x.given x.words }
         ensures few { (x : Sent) → Sends self.now x → result ≡ true → IsWholeLiveStream x.given x.words }
@@ -223,6 +223,7 @@ impl LiveTransmitter {
         requires there { lane < length self.old.lanes.lanes }
         ensures makes { MakesWords lane count self.old self.new }
         ensures rests { length (waiting_on lane self.new.lanes) < count → Rests self.new }
+        ensures stays { self.old.lanes.ended ≡ true → self.new.lanes.ended ≡ true }
     {
         while self.lanes.waiting(lane) < count {
             if self.rests() {
@@ -232,11 +233,12 @@ impl LiveTransmitter {
         }
     }
 
-    // Ends the lanes where the stream is whole at the end of a metaframe, and each ring has room.
+    // Ends the lanes if the stream is whole at the end of a metaframe, and each ring has room.
     fn close(&mut self)
         ensures sends { (x : Sent) → Sends self.old x → Sends self.new x }
         ensures still { Rests self.old → IsStill self.new }
         ensures kept { (lane : ℕ) → length (waiting_on lane self.old.lanes) ≤ length (waiting_on lane self.new.lanes) }
+        ensures stays { self.old.lanes.ended ≡ true → self.new.lanes.ended ≡ true }
     {
         let whole = self.is_whole();
         let room = self.lanes.has_room();
@@ -255,8 +257,9 @@ impl LiveTransmitter {
         self.lanes.take(lane, out)
     }
 
-    /// Takes the next bytes of a lane, and returns how many: words are made until as many wait as there is room for, and no word more,
-    /// or a ring has no room, or the lanes have ended. A lane that is not there gives none, and no word is made.
+    /// Takes the next bytes of a lane, and returns how many. Words are made until as many bytes wait as there is room for, and no word
+    /// more. They stop before if a ring has no room, or if the lanes have ended. Of a lane that the link does not have no byte is taken,
+    /// and no word is made.
     pub fn take(&mut self, lane: u32, out: &mut [u8]) -> usize
         ensures there { lane < length self.old.lanes.lanes → IsTake self.old self.new lane out.old out.new result }
         ensures absent { length self.old.lanes.lanes ≤ lane → (result ≡ 0) × (out.new ≡ out.old) × (self.new ≡ self.old) }

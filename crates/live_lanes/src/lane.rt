@@ -76,9 +76,10 @@ impl LiveLane {
         self.ring.len() + WORD_BYTES <= ROOM
     }
 
-    /// How many bytes wait.
+    /// How many bytes wait: 4,096 at most.
     pub fn waiting(&self) -> usize
-        ensures { result ≡ length self.now.waiting }
+        ensures bytes { result ≡ length self.now.waiting }
+        ensures few { result ≤ 4096 }
     {
         self.ring.len()
     }

@@ -1,4 +1,4 @@
-ghost use Rattle.std.specs.Prelude.{◌≡◌, ◌++◌, ◌==◌, ℕ, true, false, length, take, drop, min, IfOk};
+ghost use Rattle.std.specs.Prelude.{◌≡◌, ◌≤◌, ◌++◌, ◌==◌, ℕ, true, false, length, take, drop, min, IfOk};
 ghost use Rattle.live_lanes.specs.Lanes.{AreGone, AreKept, AreLonger, has_room, waiting_on, wants_payload};
 ghost use Rattle.live_lanes.specs.Standing.{Progress, Stands, begun, framed, took, with_row};
 
@@ -86,9 +86,10 @@ impl LiveLanes {
         self.ended
     }
 
-    /// How many bytes of a lane wait: none where there is no such lane.
+    /// How many bytes of a lane wait: 4,096 at most, and none if there is no such lane.
     pub fn waiting(&self, lane: u32) -> usize
-        ensures { result ≡ length (waiting_on lane self.now) }
+        ensures bytes { result ≡ length (waiting_on lane self.now) }
+        ensures few { result ≤ 4096 }
     {
         let at = lane as usize;
         if at >= self.lanes.len() {
