@@ -45,18 +45,8 @@ def fault_of(edit, crate, row, now):
     return fault_of_row(row, {**now, "edit_sum": sum_of_file(edit)})
 
 
-def untried_in(top):
-    """The crates whose edits have no row yet, by checks/edits/untried.txt. A release waits for them."""
-    path = os.path.join(top, "checks", "edits", "untried.txt")
-    if not os.path.exists(path):
-        return set()
-    with open(path, encoding="utf-8") as file:
-        return {line.strip() for line in file if line[0].isalpha()}
-
-
 def check(top, whole):
     tally, rows, logic = Tally("edits"), rows_in(os.path.join(top, "checks", "edits", "tried.csv")), logic_here(top)
-    untried = set() if whole else untried_in(top)
     crates, uses = os.path.join(top, "crates"), uses_of(os.path.join(top, "crates.txt"))
     for name in crates_with_edits(top):
         now = {"crate_sum": sum_of_crate(os.path.join(crates, name)), "logic": logic}
@@ -64,9 +54,6 @@ def check(top, whole):
             now["below_sum"] = sum_below(crates, below(uses, name))
         for edit in edits_in(os.path.join(top, "checks", "edits", name)):
             row = rows.pop((name, name_of(edit)), None)
-            if row is None and name in untried:
-                print("edits: not tried yet: %s/%s" % (name, name_of(edit)))
-                continue
             tally.count("%s/%s" % (name, name_of(edit)), fault_of(edit, os.path.join(crates, name), row, now))
     for name, edit in rows:
         tally.count("%s/%s" % (name, edit), "tried.csv has a row of it, and there is no such edit")
