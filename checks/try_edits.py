@@ -146,14 +146,20 @@ class Trial:
         return self.check(texts, kept)
 
     def round(self, edits, kept):
-        texts = {}
-        for edit, _ in edits:
-            replaced(texts, self.source, edit)
-        status, lines = self.check_only([it for _, them in edits for it in them], texts, kept)
+        texts, made = {}, []
+        for edit, functions in edits:
+            before = dict(texts)
+            try:
+                replaced(texts, self.source, edit)
+                made.append((edit, functions))
+            except BadEdit:
+                # Another one of the round writes a text that this one looks for: it is tried alone.
+                texts = before
+        status, lines = self.check_only([it for _, them in made for it in them], texts, kept)
         if status != 1:
             return
         refusals = refusals_in(lines)
-        for edit, functions in edits:
+        for edit, functions in made:
             said = refused_by(functions, refusals)
             if said:
                 self.refused[edit] = said[:SHOWN]
