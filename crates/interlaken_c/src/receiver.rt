@@ -54,7 +54,7 @@ pub extern "C" fn interlaken_receiver_finish(
     c_receiver::finish(alloc, receiver, lane)
 }
 
-/// Writes the next event, or none where a lane that is not finished lacks bytes, or after the end. It is `DONE` or `NO_RECEIVER`.
+/// Writes the next event, or none if a lane that is not finished lacks bytes, or after the end. It is `DONE` or `NO_RECEIVER`.
 #[unsafe(no_mangle)]
 pub extern "C" fn interlaken_receiver_next(
     alloc: Global,

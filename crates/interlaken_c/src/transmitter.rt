@@ -57,7 +57,7 @@ pub extern "C" fn interlaken_transmitter_flow(
     c_transmitter::flow(alloc, transmitter, word)
 }
 
-/// Says whether the far end may send on a channel: it may where `on` is not 0. It is `DONE`, `FINISHED`, `NO_CHANNEL` or
+/// Says whether the far end may send on a channel: it may if `on` is not 0. It is `DONE`, `FINISHED`, `NO_CHANNEL` or
 /// `NO_TRANSMITTER`.
 #[unsafe(no_mangle)]
 pub extern "C" fn interlaken_transmitter_local(
@@ -71,7 +71,7 @@ pub extern "C" fn interlaken_transmitter_local(
     c_transmitter::local(alloc, transmitter, channel, on)
 }
 
-/// Takes the next bytes of a lane, as many as there is room for where no other lane holds them back, and writes how many that is. It is
+/// Takes the next bytes of a lane, as many as there is room for if no other lane holds them back, and writes how many that is. It is
 /// `DONE`, `NO_LANE` or `NO_TRANSMITTER`.
 #[unsafe(no_mangle)]
 pub extern "C" fn interlaken_transmitter_take(
@@ -133,7 +133,7 @@ pub extern "C" fn interlaken_transmitter_slots(
     c_transmitter::slots(alloc, transmitter, slots)
 }
 
-/// Writes how a lane stands, and what is left to send. It is `DONE`, `NO_LANE` or `NO_TRANSMITTER`.
+/// Writes the state of a lane, and what is left to send. It is `DONE`, `NO_LANE` or `NO_TRANSMITTER`.
 #[unsafe(no_mangle)]
 pub extern "C" fn interlaken_transmitter_status_of(
     alloc: Global,
