@@ -1,0 +1,8 @@
+-- each is cited by public clauses
+pub mod Numbers
+pub mod Taking
+pub mod Misuses
+pub mod Runs
+pub mod Standing
+pub mod Calls
+pub mod Laws
