@@ -1,6 +1,7 @@
 -- What this crate alone cites.
 mod Numberings
 mod Firsts
+mod Bits
 mod Takings
 mod Feeding
 mod Standings

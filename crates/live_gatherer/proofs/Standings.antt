@@ -46,8 +46,8 @@ next_over g e = record {
 }
 
 one_given : (answer : Gathered) (h : LiveGatherer) (s : Settings) (fed : List Fed) (given : List Numbered) → h.over ≡ false → takings.GivesNext (Some answer) h.taker s fed given → GivesOne answer h s fed given
-one_given (gathereds.Word w) h s fed given e k = record { next = k.next; told = k.told; stands = record { takes = k.takes; over = λ f. absurd (clash f e) } }
-one_given (gathereds.Break b) h s fed given e k = record { next = k.next; told = k.told; stands = record { takes = k.takes; over = λ f. absurd (clash f e) } }
+one_given (gathereds.Word w) h s fed given e k = record { next = k.next; told = k.told; shown = k.shown; stands = record { takes = k.takes; over = λ f. absurd (clash f e) } }
+one_given (gathereds.Break b) h s fed given e k = record { next = k.next; told = k.told; shown = k.shown; stands = record { takes = k.takes; over = λ f. absurd (clash f e) } }
 one_given gathereds.Ended h s fed given e k = absurd k.told
 
 pub next_given : (g h : LiveGatherer) (answer : Gathered) → g.over ≡ false → h.over ≡ g.over → TakerGives g.taker (Some answer) h.taker → IsNext g h (Some answer)

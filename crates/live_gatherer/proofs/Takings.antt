@@ -1,5 +1,6 @@
 -- What is taken of a front, and given.
-use Rattle.std.proofs.Common.{ℕ, suc, ◌≡◌, refl, sym, ap, ◌∙◌, subst, Bool, true, false, List, [], ◌∷◌, ◌++◌, length, append-nil, arith, inl, inr, ◌⊎◌}
+use Rattle.std.proofs.Common.{ℕ, suc, ◌≡◌, ◌%◌, ◌<◌, refl, sym, ap, ◌∙◌, subst, Bool, true, false, List, [], ◌∷◌, ◌++◌, length, append-nil, arith, inl, inr, ◌⊎◌}
+use Rattle.std.proofs.Math.Nat.{mod-lt}
 use Rattle.lk_base.specs.declared.word.Aligned.{Aligned}
 use Rattle.lk_base.specs.declared.word.Aligned.TheVariants.{Group, Word, Break}
 use Rattle.lk_base.specs.Link.{Settings}
@@ -16,8 +17,10 @@ use Rattle.live_gatherer.specs.declared.numbering.Numbering.{Numbering}
 use Rattle.live_gatherer.specs.declared.taker.Taker.{Taker}
 use Rattle.live_gatherer.specs.declared.types.Gathered.{Gathered}
 use Rattle.live_gatherer.specs.declared.types.Gathered.TheVariants as gathereds
+use Rattle.live_gatherer.specs.Bits.{AreWords, IsShown, Shows}
 use Rattle.live_gatherer.specs.Numbers.{Counts, Numbered, as_number, next_number, numbered, own_numbered}
 use Rattle.live_gatherer.specs.Taking.{AreAll, Drained, Gives, IsTold, Takes, is_group}
+use Rattle.live_gatherer.proofs.Bits.{shows}
 use Rattle.live_gatherer.proofs.Numberings.{numbered_more}
 
 -- ---- there are as many lanes as the link has
@@ -51,6 +54,18 @@ own_of_told s f n m item (gathereds.Word w) h = rw h.is refl
 own_of_told s f n m item (gathereds.Break b) h = rw h.is refl
 own_of_told s f n m item gathereds.Ended h = absurd h
 
+-- a word is at its bit
+shown_answer : (f : State) (s : Settings) (fed : List Fed) (items : List Aligned) (item : Aligned) (t : Progress) (n : ℕ) (answer : Gathered) → front.Stands f s fed (items ++ item ∷ []) t → AreWords f.waiting → IsTold s f item n answer →
+    IsShown s fed answer
+shown_answer f s fed items item t n (gathereds.Word w) st words h =
+    let low = st.link.lanes.0 in
+    let lane = h.lane in
+    let lt : w.at.index % s.lanes < s.lanes = mod-lt w.at.index (omega (arith, low)) in
+    subst (λ (bit : ℕ). Shows s fed w.lane bit w.word) (sym h.bit)
+    (shows f s fed items w.at w.word t w.lane (subst (λ (a : Aligned). front.Stands f s fed (items ++ a ∷ []) t) h.is st) words lane (omega (arith, lane, lt)))
+shown_answer f s fed items item t n (gathereds.Break b) st words h = tt
+shown_answer f s fed items item t n gathereds.Ended st words h = tt
+
 module _ (v w : Taker) (s : Settings) (fed : List Fed) (given : List Numbered) (k : Takes v s fed given) (item : Aligned)
     (link : w.link ≡ v.link) (stands : front.Stands w.front s fed (k.items ++ item ∷ []) k.progress) (counts : Counts w.numbering (k.items ++ item ∷ [])) where
   pub group_taken : is_group item ≡ true → Takes w s fed given
@@ -63,13 +78,14 @@ module _ (v w : Taker) (s : Settings) (fed : List Fed) (given : List Numbered) (
     gave = k.gave ∙ sym (append-nil (numbered k.items)) ∙ ap (λ (xs : List Numbered). numbered k.items ++ xs) (sym (own_of_group (next_number k.items) item group)) ∙ sym (numbered_more k.items item);
   }
 
-  pub item_told : (number : ℕ) (answer : Gathered) → number ≡ as_number (next_number k.items) → IsTold w.link w.front item number answer → Gives answer w s fed given
-  item_told number answer is told =
+  pub item_told : AreWords w.front.waiting → (number : ℕ) (answer : Gathered) → number ≡ as_number (next_number k.items) → IsTold w.link w.front item number answer → Gives answer w s fed given
+  item_told words number answer is told =
       let here : IsTold s w.front item (as_number (next_number k.items)) answer =
       subst (λ (n : ℕ). IsTold s w.front item n answer) is (subst (λ (l : Settings). IsTold l w.front item number answer) (link ∙ k.link) told) in
       record {
         next = record { item = item; number = next_number k.items };
         told = here;
+        shown = shown_answer w.front s fed k.items item k.progress (as_number (next_number k.items)) answer stands words here;
         takes = record {
           items = k.items ++ item ∷ [];
           progress = k.progress;

@@ -10,6 +10,7 @@ use Rattle.live_gatherer.specs.declared.misuse.Misuse.{Misuse}
 use Rattle.live_gatherer.specs.declared.misuse.Misuse.TheVariants as misuses
 use Rattle.live_gatherer.specs.declared.types.Gathered.{Gathered}
 use Rattle.live_gatherer.specs.declared.types.Gathered.TheVariants as gathereds
+use Rattle.live_gatherer.specs.Bits.{IsShown}
 use Rattle.live_gatherer.specs.Misuses.{feed_misuse, lane_misuse}
 use Rattle.live_gatherer.specs.Numbers.{Numbered, as_number}
 use Rattle.live_gatherer.specs.Standing.{IsEnd, Stands}
@@ -42,6 +43,8 @@ IsReport g lane (Err why) = (why ≡ misuses.NoLane) × (length g.taker.front.la
 pub record Tells (answer : Gathered) (h : LiveGatherer) (s : Settings) (fed : List Fed) (given : List Numbered) : Type 0 where
   pub next : Numbered
   pub told : IsTold s h.taker.front next.item (as_number next.number) answer
+  -- a lock of the lane shows a word at its bit
+  pub shown : IsShown s fed answer
   pub stands : Stands h s fed (given ++ next ∷ [])
 
 -- or the end, if all lanes are finished and all of theirs was given

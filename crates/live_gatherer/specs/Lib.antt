@@ -1,5 +1,6 @@
 -- each is cited by public clauses
 pub mod Numbers
+pub mod Bits
 pub mod Taking
 pub mod Misuses
 pub mod Runs

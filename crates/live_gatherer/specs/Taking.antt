@@ -14,6 +14,7 @@ use Rattle.live_gatherer.specs.declared.types.Gathered.{Gathered}
 use Rattle.live_gatherer.specs.declared.types.Gathered.TheVariants as gathereds
 use Rattle.live_gatherer.specs.declared.types.GatheredBreak.{GatheredBreak}
 use Rattle.live_gatherer.specs.declared.types.GatheredWord.{GatheredWord}
+use Rattle.live_gatherer.specs.Bits.{IsShown}
 use Rattle.live_gatherer.specs.Numbers.{Counts, Numbered, as_number, numbered}
 
 -- ---- what was taken
@@ -81,6 +82,8 @@ IsTold s f item number gathereds.Ended = ⊥
 pub record Gives (answer : Gathered) (v : Taker) (s : Settings) (fed : List Fed) (given : List Numbered) : Type 0 where
   pub next : Numbered
   pub told : IsTold s v.front next.item (as_number next.number) answer
+  -- a lock of the lane shows a word at its bit
+  pub shown : IsShown s fed answer
   pub takes : Takes v s fed (given ++ next ∷ [])
 
 -- or none, if nothing is left to be given of what the clock has shown

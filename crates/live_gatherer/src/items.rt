@@ -4,6 +4,7 @@ ghost use Rattle.lk_base.specs.Link.{Settings};
 ghost use Rattle.lk_base.specs.declared.word.Aligned.{Aligned as Item};
 ghost use Rattle.event_model.specs.Fed.{Fed};
 ghost use Rattle.rx_front.specs.Standing.{GivesItem, Progress, Stands, items_left, weight};
+ghost use Rattle.live_gatherer.specs.Bits.{AreWords};
 
 use lk_base::Aligned;
 use rx_front::Front;
@@ -15,6 +16,7 @@ fn next_word(front: &mut Front) -> Aligned
         Stands front.old s fed items t → GivesItem (Some result) front.new s fed items t }
     ensures fewer { items_left front.new < items_left front.old }
     ensures weight { weight front.new ≡ weight front.old }
+    ensures words { AreWords front.new.waiting }
 {
     let at = front.at();
     let word = front.words()[0];
@@ -29,6 +31,7 @@ pub fn next_item(front: &mut Front) -> Option<Aligned>
     ensures settled { IfNone result (front.new.deskew.settled ≡ true) }
     ensures fewer { OnSome result (items_left front.new < items_left front.old) }
     ensures weight { weight front.new ≡ weight front.old }
+    ensures words { AreWords front.new.waiting }
 {
     front.fill();
     if front.is_empty() {

@@ -21,7 +21,7 @@ pub returns-in-Some-told-clause-gives : goal.returns-in-Some-told-clause-gives
 returns-in-Some-told-clause-gives c = λ s fed given at.
     let k = c.items.invariant.takes s fed given at in
     item_told c.items.self _ s fed given k c.in-Some.item refl (c.in-Some.ensures.gives s fed k.items k.progress k.front) (c.number-number.ensures.counts k.items k.counts)
-    c.number-number.result c.in-Some-told.given (c.number-number.ensures.number k.items k.counts) c.in-Some-told.ensures.some
+    c.next_item.ensures.words c.number-number.result c.in-Some-told.given (c.number-number.ensures.number k.items k.counts) c.in-Some-told.ensures.some
 
 pub items-preserved : goal.items-preserved
 items-preserved c = record {
