@@ -20,9 +20,9 @@ include=$folder/library/include
 strict=(-Wall -Wextra -Werror -pedantic -O1 "-I$include")
 
 holds 'calls of the header and of the archive' "$(grep -o '^uint32_t interlaken_[a-z_]*' "$include/interlaken.h" | cut -d ' ' -f 2 | sort)" \
-  "$(nm -g --defined-only "$archive" 2>/dev/null | grep -oE '\binterlaken_((receiver|transmitter|damage|inspector|checker|plan)_[a-z_]*|version)$' | sort -u)"
+  "$(nm -g --defined-only "$archive" 2>/dev/null | grep -oE '\binterlaken_((receiver|transmitter|damage|inspector|checker|gatherer|plan)_[a-z_]*|version)$' | sort -u)"
 holds 'calls of the shared library' "$(nm -D --defined-only library/lib/libinterlaken.so | awk '$2 == "T" { sub(/@.*/, "", $3); print $3 }' | sort -u)" \
-  "$(nm -g --defined-only "$archive" 2>/dev/null | grep -oE '\binterlaken_((receiver|transmitter|damage|inspector|checker|plan)_[a-z_]*|version)$' | sort -u)"
+  "$(nm -g --defined-only "$archive" 2>/dev/null | grep -oE '\binterlaken_((receiver|transmitter|damage|inspector|checker|gatherer|plan)_[a-z_]*|version)$' | sort -u)"
 
 # One number counts for the program, the library and the formats.
 holds 'the version of the header and of the release' "$(sed -n 's/^#define INTERLAKEN_VERSION "\(.*\)"$/\1/p' "$include/interlaken.h")" \
@@ -93,6 +93,16 @@ same_as_inspect() { # PLAN SEED
   lines=$("$program" inspect "$1" 2>&1)
   holds "what the lanes of $1 show, seed $2" "$(python3 -B "$top/checks/clib/inspected.py" "$top/examples/python" library/lib/libinterlaken.so "$1" "$2" 2>&1)" \
     "$(printf '%s\n' "$lines" && cat "$out.events.csv")"
+}
+
+# Passes if a gatherer in Python tells of these lanes what `gather` prints and writes, and each word where the model has it.
+same_as_gather() { # PLAN SEED
+  local lines out
+  out=$(awk -F, '$1 == "out" { print $2 }' "$1")
+  lines=$("$program" gather "$1" 2>&1)
+  holds "the words of the lanes of $1, seed $2" \
+    "$(python3 -B "$top/checks/clib/gathered.py" "$top/examples/python" library/lib/libinterlaken.so "$top/model" "$1" "$2" 2>&1)" \
+    "$(printf '%s\n' "$lines" && sed '1d; /,-$/d' "$out.places.csv" && sha256sum <"$out.words" | cut -d ' ' -f 1)"
 }
 
 # The example in the header's first comment, as the body of a function that main calls with a plan and a lane of one lane.
@@ -302,6 +312,7 @@ with i.Damage(2, "library/lib/libinterlaken.so") as damage:
   for plan in damaged.plan drawn.plan seen.plan; do
     for seed in 1 2 3; do
       same_as_inspect "$plan" "$seed"
+      same_as_gather "$plan" "$seed"
     done
   done
   for case in $(seq 1 "${CASES:-12}"); do
@@ -309,6 +320,7 @@ with i.Damage(2, "library/lib/libinterlaken.so") as damage:
     "$program" generate "$case" g >/dev/null 2>&1
     [ $? -le 3 ] && [ -f g.plan ] || continue
     same_as_inspect g.plan "$case"
+    same_as_gather g.plan "$case"
   done
   rm -f g*
   holds 'an inspector in Python, misused' "$(python3 -B -c '
@@ -333,6 +345,27 @@ with i.Inspector(open("damaged.plan", "rb").read(), library) as inspector:
 0 LOCK True
 $(printf '%s\n' FINISHED FINISHED NO_LANE NO_LANE NO_INSPECTOR NO_INSPECTOR)
 row 1: RANGE"
+  holds 'a gatherer in Python, misused' "$(python3 -B -c '
+import sys
+sys.path.insert(0, sys.argv[1])
+import interlaken as i
+library = "library/lib/libinterlaken.so"
+lanes = [open("drawn.damaged.lane.%d" % lane, "rb").read() for lane in (0, 1)]
+with i.Gatherer(open("damaged.plan", "rb").read(), library) as gatherer:
+    print(gatherer.feed(0, lanes[0]), gatherer.feed(0, lanes[0]), gatherer.next(), gatherer.feed(1, b""))
+    gatherer.finish(0)
+    for wrong in (lambda: gatherer.feed(0, b"a"), lambda: gatherer.finish(0), lambda: gatherer.feed(2, b"a"), lambda: gatherer.report(-1),
+                  gatherer.close, lambda: gatherer.next(), lambda: gatherer.feed(0, b"a"), lambda: i.Gatherer(b"lanes,0", library)):
+        try:
+            wrong()
+        except (i.Misuse, i.BadPlan) as error:
+            print(error)
+with i.Gatherer(open("damaged.plan", "rb").read(), library) as gatherer:
+    print(*{type(one).__name__: None for one in gatherer.feed_all(lanes)}, gatherer.next())
+' "$top/examples/python" 2>&1)" "4096 0 None 0
+$(printf '%s\n' FINISHED FINISHED NO_LANE NO_LANE NO_GATHERER NO_GATHERER)
+row 1: RANGE
+GatheredWord GatheredBreak Ended None"
   # Two ends, each with a transmitter and a receiver: the far end turns channel 1 off, and on again.
   holds 'flow control between two ends in Python' "$(python3 -B -c '
 import sys

@@ -8,6 +8,8 @@
  * - The numbers of a plan, and the place of a word on the lanes: calls without a handle.
  * - An inspector: feed it bytes of lanes; it returns what each lane shows and at which bit: wrong
  *   words, and locks declared and lost.
+ * - A gatherer: feed it bytes of lanes; it returns their words in one order, each with its lane and
+ *   bit.
  *
  * This receives the packets of one lane. `plan` is the text of a plan file of `plan_size` bytes,
  * and `lane` has `size` bytes of the lane:
@@ -35,6 +37,8 @@
  * - An inspector: INTERLAKEN_NO_LANE_EVENT means that no event is due on any lane. All events of
  *   the bytes that were taken were returned: feed more bytes.
  * - A checker: INTERLAKEN_RULE_NONE means that no fault is due. Give it the next word.
+ * - A gatherer: INTERLAKEN_GATHERED_ENDED, once, after all lanes are finished.
+ *   INTERLAKEN_GATHERED_NONE before that means that at least one unfinished lane has an empty ring.
  *
  * Threads
  *
@@ -80,7 +84,8 @@
  *
  * Any other misuse returns an error code and changes nothing. If several results apply, the call
  * returns the first of
- * - NO_RECEIVER, NO_DAMAGE, NO_TRANSMITTER, NO_INSPECTOR or NO_CHECKER: the handle has none,
+ * - NO_RECEIVER, NO_DAMAGE, NO_TRANSMITTER, NO_INSPECTOR, NO_CHECKER or NO_GATHERER: the handle has
+ *   none,
  * - IN_USE, NO_LANE, FINISHED, WAITING, NO_CHANNEL, BAD_LENGTH, TOO_MANY, OUT_OF_RANGE, PASSED,
  * - OUT_OF_MEMORY.
  *
@@ -93,9 +98,9 @@
  * numbers in words are in interlaken_text.h.
  *
  * Memory comes from the three functions of interlaken_alloc.h. The libraries that tools/library
- * makes have them over malloc, realloc and free. Of the calls on a receiver, an inspector or a
- * checker, `new` alone allocates memory. Of the calls on damage `new`, `flip` and `dark` do; of the
- * calls on a transmitter `new` and `packet` do. `interlaken_plan_read` and
+ * makes have them over malloc, realloc and free. Of the calls on a receiver, an inspector, a
+ * checker or a gatherer, `new` alone allocates memory. Of the calls on damage `new`, `flip` and
+ * `dark` do; of the calls on a transmitter `new` and `packet` do. `interlaken_plan_read` and
  * `interlaken_plan_channels` allocate memory, and free it before they return. A receiver keeps room
  * for the longest packet of the plan (`max_packet`) on each channel, so a smaller `max_packet`
  * saves memory. Give a thread that calls a `new` with a plan, or one of these two calls, a stack of
@@ -142,7 +147,8 @@ enum interlaken_result {
                                      `max_packet` */
   INTERLAKEN_NO_INSPECTOR = 15,   /* the handle has no inspector: it is all zeros, or was freed */
   INTERLAKEN_NO_CHECKER = 16,     /* the handle has no checker: it is all zeros, or was freed */
-  INTERLAKEN_WAITING = 17         /* faults wait that `next` has not returned: nothing was taken */
+  INTERLAKEN_WAITING = 17,        /* faults wait that `next` has not returned: nothing was taken */
+  INTERLAKEN_NO_GATHERER = 18     /* the handle has no gatherer: it is all zeros, or was freed */
 };
 
 /* A handle of a receiver, or of none. All zeros is a handle of none, as in
@@ -199,6 +205,13 @@ typedef struct interlaken_inspector {
   void *at;
   uint8_t live;
 } interlaken_inspector;
+
+/* A handle of a gatherer, or of none. All zeros is a handle of none. Both members belong to the
+ * library. */
+typedef struct interlaken_gatherer {
+  void *at;
+  uint8_t live;
+} interlaken_gatherer;
 
 /* Causes of a refusal. Rows are counted from 1; empty lines do not count. */
 enum interlaken_cause {
@@ -721,6 +734,70 @@ uint32_t interlaken_inspector_next(interlaken_inspector *inspector, interlaken_l
  * Results: DONE, NO_LANE, NO_INSPECTOR; the report is all 0 if it is not DONE. */
 uint32_t interlaken_inspector_report(interlaken_inspector *inspector, uint32_t lane,
                                      interlaken_report *report);
+
+/* A gatherer of the words of the lanes of a link. It aligns the lanes as a receiver does, and
+ * returns the words of each group in the order in which they were sent. An epoch is a row of
+ * groups, each a metaframe after the one before. It ends with a break when a lane loses its lock,
+ * or has no more bits. The words and breaks are those that the command `gather` writes to
+ * `OUT.words` and `OUT.places.csv`. They do not depend on the pieces in which the bytes come, nor
+ * on the order in which the lanes are fed. */
+
+/* What a gatherer returns. */
+enum interlaken_gathered_kind {
+  INTERLAKEN_GATHERED_NONE = 0,  /* nothing: a lane that is not finished lacks bytes, or the end was
+                                    returned before */
+  INTERLAKEN_GATHERED_WORD = 1,  /* a word */
+  INTERLAKEN_GATHERED_BREAK = 2, /* an epoch ends */
+  INTERLAKEN_GATHERED_ENDED = 3  /* all lanes are finished, and all was returned */
+};
+
+/* A word, a break, the end, or nothing. A field that its kind lacks is 0. */
+typedef struct interlaken_gathered {
+  uint32_t kind;       /* an enum interlaken_gathered_kind */
+  uint32_t word_kind;  /* of a word: an enum interlaken_word_kind */
+  uint32_t lane;       /* of a word: the lane on which it came, from 0 */
+  uint32_t why;        /* of a break: INTERLAKEN_FAULT_LOST or INTERLAKEN_FAULT_END */
+  interlaken_place at; /* the place of the word, or that at which the epoch ends */
+  uint64_t bit;        /* of a word: the first bit of its code, counted from 0 in the bytes of the
+                          lane */
+  uint64_t number;     /* of a word: its number in `OUT.words`, from 0; of a break: that of the bad
+                          word which stands for it there if an epoch follows */
+  uint64_t word;       /* of a word: its 64 bits; 0 if it is bad */
+} interlaken_gathered;
+
+/* Opens a gatherer behind a handle that has none. `plan` is the text of a plan file, of any length;
+ * it is not kept. All its rows are read, and refused if they are wrong, but no file that they name
+ * is opened or written. The gatherer has the plan's lanes, which are `lanes`, `metaframe`, `skips`
+ * and `deskew` of it. `refusal` has the cause INTERLAKEN_NO_CAUSE if the plan is not refused.
+ * Results: DONE, OUT_OF_MEMORY, BAD_PLAN, IN_USE. */
+uint32_t interlaken_gatherer_new(interlaken_gatherer *gatherer, const uint8_t *plan, size_t count,
+                                 interlaken_refusal *refusal);
+
+/* Frees a gatherer with all its memory. Its handle has none afterwards.
+ * Results: DONE, NO_GATHERER. */
+uint32_t interlaken_gatherer_free(interlaken_gatherer *gatherer);
+
+/* Feeds a lane, counted from 0, with the next of its bytes, first bit first, and writes to `taken`
+ * how many its ring of 4,096 bytes takes: all of them, or as many as it has room for. If it takes
+ * fewer, call `next` until it writes INTERLAKEN_GATHERED_NONE, and feed the lanes that lack bytes.
+ * Results: DONE, NO_LANE, FINISHED, TOO_MANY, NO_GATHERER; `taken` is 0 if it is not DONE. */
+uint32_t interlaken_gatherer_feed(interlaken_gatherer *gatherer, uint32_t lane,
+                                  const uint8_t *bytes, size_t count, size_t *taken);
+
+/* Ends a lane: no further byte of it follows.
+ * Results: DONE, NO_LANE, FINISHED, NO_GATHERER. */
+uint32_t interlaken_gatherer_finish(interlaken_gatherer *gatherer, uint32_t lane);
+
+/* Writes the next word or break, or INTERLAKEN_GATHERED_ENDED once after all others, if all lanes
+ * are finished. It writes INTERLAKEN_GATHERED_NONE after the end; before it, if and only if an
+ * unfinished lane has an empty ring and all that is known so far was returned.
+ * Results: DONE, NO_GATHERER; it is INTERLAKEN_GATHERED_NONE if it is not DONE. */
+uint32_t interlaken_gatherer_next(interlaken_gatherer *gatherer, interlaken_gathered *gathered);
+
+/* Writes the report of a lane, counted from 0, over the bytes that were taken of its ring.
+ * Results: DONE, NO_LANE, NO_GATHERER; the report is all 0 if it is not DONE. */
+uint32_t interlaken_gatherer_report(interlaken_gatherer *gatherer, uint32_t lane,
+                                    interlaken_report *report);
 
 #ifdef __cplusplus
 }

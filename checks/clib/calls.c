@@ -1213,6 +1213,206 @@ static void inspector_sequence(void) {
   want("nothing of an inspector leaks", live == 0);
 }
 
+/* ---- a gatherer */
+
+#define GATHERED 4000
+
+/* All that a gatherer returns of the two struck lanes. */
+static interlaken_gathered gathered_of[GATHERED];
+static uint32_t gathered_count;
+
+/* A handle of a gatherer, and what is known of it. It is cut if a lane was finished before its end. */
+struct gathering {
+  interlaken_gatherer gatherer;
+  int has, over[2], cut, ended;
+  size_t fed[2];
+  uint32_t given;
+};
+
+static int same_gathered(const interlaken_gathered *one, const interlaken_gathered *other) {
+  return one->kind == other->kind && one->word_kind == other->word_kind && one->lane == other->lane && one->why == other->why &&
+         one->at.known == other->at.known && one->at.index == other->at.index && one->at.group == other->at.group && one->bit == other->bit &&
+         one->number == other->number && one->word == other->word;
+}
+
+/* A word's lane is that of its index, and the bytes of the lane have the header of its kind where its code begins. */
+static void look_at_word(const interlaken_gathered *word) {
+  const uint8_t *bytes = struck[word->lane < 2 ? word->lane : 0];
+  uint64_t bit = word->bit + 1;
+  uint32_t header;
+  want("the lane of a word", word->lane < 2 && word->lane == word->at.index % 2);
+  want("a code in the lane", word->lane < 2 && word->bit + 67 <= 8 * (uint64_t)struck_count[word->lane < 2 ? word->lane : 0]);
+  if (word->lane >= 2 || word->bit + 67 > 8 * (uint64_t)struck_count[word->lane]) return;
+  header = (uint32_t)(bytes[bit / 8] >> (7 - bit % 8) & 1) << 1;
+  bit++;
+  header |= (uint32_t)(bytes[bit / 8] >> (7 - bit % 8) & 1);
+  want("the header of a word", word->word_kind == (uint32_t)(header == 1 ? INTERLAKEN_WORD_DATA : header == 2 ? INTERLAKEN_WORD_CONTROL : INTERLAKEN_WORD_BAD));
+}
+
+static void feed_rest(interlaken_gatherer *gatherer, const uint8_t *bytes, uint32_t lane, size_t count, size_t *fed, int *over) {
+  size_t taken;
+  if (*over) return;
+  want("a gatherer is fed", interlaken_gatherer_feed(gatherer, lane, bytes + *fed, count - *fed, &taken) == INTERLAKEN_DONE);
+  *fed += taken;
+  if (*fed < count) return;
+  want("a gatherer's lane is finished", interlaken_gatherer_finish(gatherer, lane) == INTERLAKEN_DONE);
+  *over = 1;
+}
+
+/* What is returned if both lanes are fed as fast as they are taken. */
+static void learn_gathered(void) {
+  interlaken_gatherer one = {0, 0};
+  interlaken_refusal refusal;
+  interlaken_gathered next;
+  size_t fed[2] = {0, 0};
+  int over[2] = {0, 0};
+  uint64_t numbers = 0, broken = 0;
+  want("a gatherer of lanes", interlaken_gatherer_new(&one, plan.at, plan.count, &refusal) == INTERLAKEN_DONE);
+  for (gathered_count = 0, next.kind = INTERLAKEN_GATHERED_NONE; next.kind != INTERLAKEN_GATHERED_ENDED && gathered_count < GATHERED;) {
+    feed_rest(&one, struck[0], 0, struck_count[0], &fed[0], &over[0]);
+    feed_rest(&one, struck[1], 1, struck_count[1], &fed[1], &over[1]);
+    while (interlaken_gatherer_next(&one, &next) == INTERLAKEN_DONE && next.kind != INTERLAKEN_GATHERED_NONE && gathered_count < GATHERED) {
+      gathered_of[gathered_count++] = next;
+      if (next.kind == INTERLAKEN_GATHERED_ENDED) break;
+      want("the numbers of words rise by one, and one for each break", next.number == numbers + broken);
+      numbers = next.number + (next.kind == INTERLAKEN_GATHERED_WORD), broken = next.kind == INTERLAKEN_GATHERED_BREAK;
+      if (next.kind == INTERLAKEN_GATHERED_WORD) look_at_word(&next);
+    }
+  }
+  want("a gatherer ends", next.kind == INTERLAKEN_GATHERED_ENDED);
+  interlaken_gatherer_free(&one);
+}
+
+static uint32_t gatherer_lane_result(const struct gathering *k, uint32_t lane) {
+  if (!k->has) return INTERLAKEN_NO_GATHERER;
+  if (lane >= 2) return INTERLAKEN_NO_LANE;
+  return k->over[lane] ? INTERLAKEN_FINISHED : INTERLAKEN_DONE;
+}
+
+static void try_gatherer_new(struct gathering *k) {
+  interlaken_refusal refusal;
+  int bad = below(4) == 0, fails = may_fail();
+  uint32_t wanted = k->has ? INTERLAKEN_IN_USE : bad ? INTERLAKEN_BAD_PLAN : INTERLAKEN_DONE, result;
+  result = interlaken_gatherer_new(&k->gatherer, bad ? (const uint8_t *)"lanes,x\n" : plan.at, bad ? 8 : plan.count, &refusal);
+  failing = -1;
+  want("gatherer new", result == wanted || (fails && !k->has && result == INTERLAKEN_OUT_OF_MEMORY));
+  want("gatherer refusal", (refusal.cause != 0) == (result == INTERLAKEN_BAD_PLAN));
+  if (result == INTERLAKEN_DONE) k->has = 1;
+  want("gatherer is live", (k->gatherer.live != 0) == (k->has != 0));
+}
+
+static void try_gatherer_free(struct gathering *k) {
+  static struct gathering none_of_it;
+  want("gatherer free", interlaken_gatherer_free(&k->gatherer) == (uint32_t)(k->has ? INTERLAKEN_DONE : INTERLAKEN_NO_GATHERER));
+  want("gatherer freed", k->gatherer.live == 0);
+  *k = none_of_it;
+}
+
+static void try_gatherer_feed(struct gathering *k) {
+  uint32_t lane = some_lane(), wanted = gatherer_lane_result(k, lane), from = lane < 2 ? lane : 0, result;
+  size_t left = struck_count[from] - k->fed[from], count = below(3) == 0 ? below(6000) : below(400), taken = 99;
+  int is_long = below(50) == 0 && long_piece != NULL;
+  if (count > left) count = left;
+  if (wanted == INTERLAKEN_DONE && is_long) wanted = INTERLAKEN_TOO_MANY;
+  result = interlaken_gatherer_feed(&k->gatherer, lane, is_long ? long_piece : struck[from] + k->fed[from], is_long ? LONG_PIECE : count, &taken);
+  want("gatherer feed", result == wanted);
+  if (result != INTERLAKEN_DONE) {
+    want("no byte is gathered", taken == 0);
+    return;
+  }
+  want("as many bytes as there is room for", taken <= count && (taken == count || k->fed[from] + taken >= 4096));
+  if (taken <= count) k->fed[from] += taken;
+}
+
+static void try_gatherer_finish(struct gathering *k) {
+  uint32_t lane = some_lane(), wanted = gatherer_lane_result(k, lane);
+  want("gatherer finish", interlaken_gatherer_finish(&k->gatherer, lane) == wanted);
+  if (wanted != INTERLAKEN_DONE) return;
+  k->over[lane] = 1;
+  if (k->fed[lane] < struck_count[lane]) k->cut = 1;
+}
+
+/* Returns whether something was returned. */
+static int try_gatherer_next(struct gathering *k) {
+  static interlaken_gathered nothing;
+  interlaken_gathered next;
+  memset(&next, 0xa5, sizeof next);
+  want("gatherer next", interlaken_gatherer_next(&k->gatherer, &next) == (uint32_t)(k->has ? INTERLAKEN_DONE : INTERLAKEN_NO_GATHERER));
+  if (next.kind == INTERLAKEN_GATHERED_NONE) {
+    want("nothing is all 0", same_gathered(&next, &nothing));
+    want("nothing while a lane lacks bytes", !k->has || k->ended || !k->over[0] || !k->over[1]);
+    return 0;
+  }
+  want("something of a gatherer", k->has && !k->ended && next.kind <= INTERLAKEN_GATHERED_ENDED);
+  if (next.kind == INTERLAKEN_GATHERED_ENDED) want("the end of lanes that are finished", k->over[0] && k->over[1]), k->ended = 1;
+  if (next.kind == INTERLAKEN_GATHERED_WORD) look_at_word(&next);
+  if (!k->cut) want("the next word or break", k->given < gathered_count && same_gathered(&next, &gathered_of[k->given]));
+  k->given++;
+  return 1;
+}
+
+static void try_gatherer_report(struct gathering *k) {
+  static interlaken_report nothing;
+  interlaken_report report;
+  uint32_t lane = some_lane(), result;
+  memset(&report, 0xa5, sizeof report);
+  result = interlaken_gatherer_report(&k->gatherer, lane, &report);
+  want("gatherer report", result == (uint32_t)(!k->has ? INTERLAKEN_NO_GATHERER : lane < 2 ? INTERLAKEN_DONE : INTERLAKEN_NO_LANE));
+  if (result != INTERLAKEN_DONE) want("no report", report.locks == nothing.locks && report.first == nothing.first && report.bad == nothing.bad);
+}
+
+/* Once all is fed and finished, all comes that was not returned. */
+static void gather_rest(struct gathering *k) {
+  if (!k->has || k->cut) return;
+  while (!k->ended) {
+    feed_rest(&k->gatherer, struck[0], 0, struck_count[0], &k->fed[0], &k->over[0]);
+    feed_rest(&k->gatherer, struck[1], 1, struck_count[1], &k->fed[1], &k->over[1]);
+    while (try_gatherer_next(k)) continue;
+  }
+  want("all words and breaks", k->given == gathered_count);
+}
+
+/* If an allocation fails, `new` has no memory, or does without it. */
+static void each_gatherer_allocation(void) {
+  long fails, refused = 0, taken = 1;
+  for (fails = 0; fails < taken; fails++) {
+    interlaken_gatherer one = {0, 0};
+    interlaken_refusal refusal;
+    uint32_t result;
+    failing = fails, allocations = 0;
+    result = interlaken_gatherer_new(&one, plan.at, plan.count, &refusal);
+    failing = -1, taken = allocations > fails ? fails + 2 : fails;
+    want("no cause of a gatherer", refusal.cause == 0);
+    want("memory of a gatherer", (result == INTERLAKEN_DONE) == (one.live != 0) && (result == INTERLAKEN_DONE || result == INTERLAKEN_OUT_OF_MEMORY));
+    refused += result == INTERLAKEN_OUT_OF_MEMORY;
+    interlaken_gatherer_free(&one);
+    want("nothing of a gatherer leaks", live == 0);
+  }
+  want("a gatherer needs memory", refused > 5);
+}
+
+static void gatherer_sequence(void) {
+  static struct gathering one;
+  static uint32_t turn;
+  uint32_t calls = 20 + below(400);
+  if (turn++ % 8 == 0) strike(), learn_gathered();
+  while (calls-- > 0) {
+    long before = allocations;
+    switch (below(40)) {
+      case 0: case 1: try_gatherer_new(&one), before = allocations; break;
+      case 2: if (below(8) == 0) try_gatherer_free(&one); break;
+      case 3: if (below(30) == 0) try_gatherer_finish(&one); break;
+      case 4: case 5: try_gatherer_report(&one); break;
+      case 6: case 7: while (try_gatherer_next(&one)) continue; break;
+      default: if (below(2)) try_gatherer_feed(&one); else try_gatherer_next(&one); break;
+    }
+    want("no allocation but of gatherer new", allocations == before);
+  }
+  gather_rest(&one);
+  try_gatherer_free(&one);
+  want("nothing of a gatherer leaks", live == 0);
+}
+
 int main(int argc, char **argv) {
   long left;
   void *many = mmap(NULL, LONG_PIECE, PROT_READ, MAP_PRIVATE | MAP_ANONYMOUS | MAP_NORESERVE, -1, 0);
@@ -1224,6 +1424,7 @@ int main(int argc, char **argv) {
   each_allocation();
   one_lane();
   each_inspector_allocation();
+  each_gatherer_allocation();
   each_plan_allocation();
   for (left = atol(argv[4]); left > 0; left--) {
     state = (uint64_t)left * 2654435761u + 88172645463325252u;
@@ -1233,6 +1434,7 @@ int main(int argc, char **argv) {
     sender_sequence();
     plan_sequence();
     inspector_sequence();
+    gatherer_sequence();
   }
   printf("%ld tried, %ld wrong\n", tries, wrong);
   free(plan.at), free(sender_plan.at), free(lanes[0].at), free(lanes[1].at);

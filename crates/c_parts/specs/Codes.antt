@@ -49,6 +49,9 @@ no_checker = 16
 abbrev pub waiting : ℕ
 waiting = 17
 
+abbrev pub no_gatherer : ℕ
+no_gatherer = 18
+
 -- ---- the states of a lane
 
 abbrev pub state_code : LaneState → ℕ

@@ -1,5 +1,5 @@
 //! The numbers that C sees, by the names of the header without its prefix: results, kinds of events, causes and keys of refusals, drops,
-//! faults and states of lanes, kinds of words and rules of words.
+//! faults and states of lanes, what a gatherer gives, kinds of words and rules of words.
 ghost use Rattle.std.specs.Prelude.{◌≡◌};
 ghost use Rattle.c_parts.specs.Codes.{code_of, plan_code, state_code};
 
@@ -62,6 +62,9 @@ pub const NO_CHECKER: u32 = 16;
 
 /// Faults wait that were not given yet: nothing was taken.
 pub const WAITING: u32 = 17;
+
+/// There is no gatherer behind the handle.
+pub const NO_GATHERER: u32 = 18;
 
 // ---- kinds of events
 
@@ -244,6 +247,20 @@ pub const LANE_EVENT_LOST_STATE: u32 = 11;
 
 /// A search is lost before a declaration, or given up.
 pub const LANE_EVENT_UNFRAMED: u32 = 12;
+
+// ---- kinds of what a gatherer gives
+
+/// Nothing.
+pub const GATHERED_NONE: u32 = 0;
+
+/// A word.
+pub const GATHERED_WORD: u32 = 1;
+
+/// The end of an epoch.
+pub const GATHERED_BREAK: u32 = 2;
+
+/// The end.
+pub const GATHERED_ENDED: u32 = 3;
 
 // ---- kinds of words, the tags of a words file
 

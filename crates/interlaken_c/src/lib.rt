@@ -1,10 +1,11 @@
 //! Calls for C. Behind a handle each: a receiver and a transmitter of the lanes of a link, damage of lanes on their way, an inspector of
-//! lanes, a checker of words. Without a handle: the numbers of a plan. Each export is the call of its name in the crate of its handle,
-//! or of plans.
+//! lanes, a checker of words, a gatherer of the words of lanes. Without a handle: the numbers of a plan. Each export is the call of its
+//! name in the crate of its handle, or of plans.
 #![tactic(auto)]
 
 mod checker;
 mod damage;
+mod gatherer;
 mod inspector;
 mod plan;
 mod receiver;

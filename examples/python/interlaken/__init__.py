@@ -36,6 +36,12 @@ The numbers of a plan, and the lane and bit of a word: of one that came, and of 
 
 Where lanes come live, call `feed` for each, and take `events()` after each: it takes no byte of a lane whose events are due.
 
+    with Gatherer(plan, library="lib/libinterlaken.so") as gatherer:
+        for word in gatherer.feed_all(lanes):
+            ...
+
+Where lanes come live, call `feed` and `finish` for each, and take `gathered()` after each.
+
 It calls the C library that tools/library makes; `library` is its path, or its name if the system finds it by that. A call that is misused
 raises Misuse, and changes nothing; a plan that is refused raises BadPlan, with the row and the cause. Each of them takes one call at a
 time. Numbers of a later version of the library have the name UNKNOWN. It needs Python 3.10.
@@ -83,6 +89,7 @@ class Result(_Number):
     NO_INSPECTOR = 15
     NO_CHECKER = 16
     WAITING = 17
+    NO_GATHERER = 18
 
 
 class Cause(_Number):
@@ -203,6 +210,15 @@ class LaneEventKind(_Number):
     UNFRAMED = 12
 
 
+class GatheredKind(_Number):
+    """What a gatherer tells."""
+
+    NONE = 0
+    WORD = 1
+    BREAK = 2
+    ENDED = 3
+
+
 class Misuse(Exception):
     """A call was asked what it does not do; `result` says what."""
 
@@ -315,6 +331,31 @@ class LaneEvent:
 
 
 @dataclass(frozen=True)
+class GatheredWord:
+    """A word of the aligned lanes: its kind and 64 bits, its place, its number in `OUT.words`, and the lane and bit at which its code
+    begins."""
+
+    kind: WordKind
+    word: int
+    at: Place
+    number: int
+    lane: int
+    bit: int
+
+
+@dataclass(frozen=True)
+class GatheredBreak:
+    """An epoch ends: the place, the cause, and the number in `OUT.words` of the bad word that stands for it where an epoch follows."""
+
+    at: Place
+    why: Fault
+    number: int
+
+
+Gathered = GatheredWord | GatheredBreak | Ended
+
+
+@dataclass(frozen=True)
 class Status:
     """How a lane of a transmitter stands: how many of its bytes wait until they are taken, whether the lanes have ended, so that no byte more
     is made, and whether 4,088 bytes or more of some lane wait, so that no word is made before some of them are taken. And how many packets
@@ -406,6 +447,27 @@ class _LaneEvent(ctypes.Structure):
     _fields_ = [("kind", ctypes.c_uint32), ("lane", ctypes.c_uint32), ("bit", ctypes.c_uint64)]
 
 
+class _Gathered(ctypes.Structure):
+    _fields_ = [
+        ("kind", ctypes.c_uint32),
+        ("word_kind", ctypes.c_uint32),
+        ("lane", ctypes.c_uint32),
+        ("why", ctypes.c_uint32),
+        ("at", _Place),
+        ("bit", ctypes.c_uint64),
+        ("number", ctypes.c_uint64),
+        ("word", ctypes.c_uint64),
+    ]
+
+    def value(self) -> Optional[Gathered]:
+        kind = GatheredKind(self.kind)
+        if kind is GatheredKind.WORD:
+            return GatheredWord(WordKind(self.word_kind), self.word, self.at.place(), self.number, self.lane, self.bit)
+        if kind is GatheredKind.BREAK:
+            return GatheredBreak(self.at.place(), Fault(self.why), self.number)
+        return Ended() if kind is GatheredKind.ENDED else None
+
+
 _size = ctypes.c_size_t
 _u32 = ctypes.c_uint32
 _u64 = ctypes.c_uint64
@@ -450,6 +512,15 @@ _DAMAGE_CALLS = {
     "flip": (_handle, _u32, _u64),
     "dark": (_handle, _u32, _u64, _u64),
     "apply": (_handle, _u32, ctypes.c_char_p, _size),
+}
+
+_GATHERER_CALLS = {
+    "new": (_handle, ctypes.c_char_p, _size, ctypes.POINTER(_Refusal)),
+    "free": (_handle,),
+    "feed": (_handle, _u32, ctypes.c_char_p, _size, ctypes.POINTER(_size)),
+    "finish": (_handle, _u32),
+    "next": (_handle, ctypes.POINTER(_Gathered)),
+    "report": (_handle, _u32, ctypes.POINTER(_Report)),
 }
 
 _INSPECTOR_CALLS = {
@@ -946,6 +1017,53 @@ class Inspector(_OfPlan):
 
     def report(self, lane: int) -> Report:
         """The report of a lane over the bytes that were taken of it so far."""
+        report = _Report()
+        self._call("report", _lane(lane), report)
+        return report.value()
+
+
+class Gatherer(_OfPlan):
+    """A gatherer of the words of the lanes of a plan, as the command `gather` has them. As a context manager it is closed at the end."""
+
+    def __init__(self, plan: bytes, library: str = "libinterlaken.so"):
+        """`plan` is the text of a plan file, and `library` the path of the shared library."""
+        super().__init__(plan, library, "interlaken_gatherer_", _GATHERER_CALLS)
+
+    def feed(self, lane: int, data: bytes) -> int:
+        """Feeds a lane with the next of its bytes, as many as its ring of 4,096 bytes has room for, and returns how many."""
+        taken = _size()
+        self._call("feed", _lane(lane), data, len(data), taken)
+        return taken.value
+
+    def finish(self, lane: int) -> None:
+        """No further byte of this lane comes."""
+        self._call("finish", _lane(lane))
+
+    def next(self) -> Optional[Gathered]:
+        """The next word or break, or the end; None if a lane that is not finished lacks bytes, and after the end."""
+        gathered = _Gathered()
+        self._call("next", gathered)
+        return gathered.value()
+
+    def gathered(self) -> Iterator[Gathered]:
+        """All words and breaks that are known of what was fed, and the end, if it was not told before."""
+        while (gathered := self.next()) is not None:
+            yield gathered
+
+    def feed_all(self, lanes: Sequence[bytes]) -> Iterator[Gathered]:
+        """Feeds these lanes, of which nothing was fed, side by side to their ends, and yields all words and breaks, and then the end."""
+        fed = [0] * len(lanes)
+        going = set(range(len(lanes)))
+        while going:
+            for lane in sorted(going):
+                fed[lane] += self.feed(lane, lanes[lane][fed[lane] : fed[lane] + 4096])
+                if fed[lane] == len(lanes[lane]):
+                    self.finish(lane)
+                    going.discard(lane)
+            yield from self.gathered()
+
+    def report(self, lane: int) -> Report:
+        """The report of a lane over the bytes that were taken from its ring so far."""
         report = _Report()
         self._call("report", _lane(lane), report)
         return report.value()

@@ -1,0 +1,53 @@
+//! The pointer that C holds to a gatherer, or to none.
+ghost use Rattle.std.specs.Prelude.{◌≡◌, true, is_some, Option, Some, None};
+ghost use Rattle.live_gatherer.specs.declared.gatherer.LiveGatherer.{LiveGatherer};
+ghost use Rattle.c_gatherer.specs.Owned.{block_owns, gatherer_coded};
+
+use c_parts::Parts;
+use live_gatherer::LiveGatherer;
+use std::alloc::Global;
+use std::marker::Model;
+use std::ptr;
+
+/// A pointer to a gatherer, which owns it: the gatherer is at the pointer, and its block may be given back. If there is none, it owns
+/// nothing.
+#[repr(C)]
+#[derive(Drop)]
+pub struct GathererBlock {
+    ptr: *mut u8,
+    alloc: Global,
+    pub ghost gatherer: { Option LiveGatherer } by { gatherer_coded },
+}
+
+impl Model for GathererBlock {
+    ghost also_owns = { λ b. block_owns b.alloc b.ptr b.gatherer };
+}
+
+impl GathererBlock {
+    /// No gatherer.
+    pub fn absent(alloc: Global) -> GathererBlock
+        ensures { result.gatherer ≡ None }
+    {
+        let ptr = ptr::null_mut();
+        GathererBlock { ptr, alloc }
+    }
+
+    /// The block of the gatherer of these parts.
+    pub fn of(parts: Parts<LiveGatherer, Global>) -> GathererBlock
+        ensures { result.gatherer ≡ Some parts.value }
+    {
+        let Parts { ptr, alloc } = parts;
+        let ptr = ptr as *mut u8;
+        GathererBlock { ptr, alloc }
+    }
+
+    /// The parts of the gatherer's box.
+    pub fn into_parts(self) -> Parts<LiveGatherer, Global>
+        requires { is_some self.gatherer ≡ true }
+        ensures { self.gatherer ≡ Some result.value }
+    {
+        let GathererBlock { ptr, alloc } = self;
+        let ptr = ptr as *mut LiveGatherer;
+        Parts { ptr, alloc }
+    }
+}

@@ -1,0 +1,81 @@
+//! The calls on a gatherer.
+ghost use Rattle.c_gatherer.specs.Held.{Feeds, Finishes, Frees, GivesNext, Makes, Reports};
+
+use c_gatherer::{CGathered, GathererHandle};
+use c_parts::{Refusal, Report};
+use std::alloc::Global;
+
+/// Opens a gatherer of the lanes of the plan of these bytes behind a handle that has none, and writes why a plan is refused. It is
+/// `DONE`, `OUT_OF_MEMORY`, `BAD_PLAN` or `IN_USE`.
+#[unsafe(no_mangle)]
+pub extern "C" fn interlaken_gatherer_new(
+    alloc: Global,
+    gatherer: &mut GathererHandle,
+    plan: &[u8],
+    refusal: &mut Refusal,
+) -> u32
+    ensures { Makes gatherer.old.at.gatherer gatherer.new.at.gatherer plan.now result refusal.new }
+{
+    c_gatherer::new(alloc, gatherer, plan, refusal)
+}
+
+/// Frees a gatherer. Its handle has none afterwards. It is `DONE` or `NO_GATHERER`.
+#[unsafe(no_mangle)]
+pub extern "C" fn interlaken_gatherer_free(alloc: Global, gatherer: &mut GathererHandle) -> u32
+    ensures { Frees gatherer.old.at.gatherer gatherer.new.at.gatherer result }
+{
+    c_gatherer::free(alloc, gatherer)
+}
+
+/// Feeds a lane with the longest prefix of these bytes that its ring has room for, and writes how many that is. It is
+/// `DONE`, `NO_LANE`, `FINISHED`, `TOO_MANY` or `NO_GATHERER`.
+#[unsafe(no_mangle)]
+pub extern "C" fn interlaken_gatherer_feed(
+    alloc: Global,
+    gatherer: &mut GathererHandle,
+    lane: u32,
+    bytes: &[u8],
+    taken: &mut usize,
+) -> u32
+    ensures { Feeds gatherer.old.at.gatherer gatherer.new.at.gatherer lane bytes.now result taken.new }
+{
+    c_gatherer::feed(alloc, gatherer, lane, bytes, taken)
+}
+
+/// No further byte of this lane comes. It is `DONE`, `NO_LANE`, `FINISHED` or `NO_GATHERER`.
+#[unsafe(no_mangle)]
+pub extern "C" fn interlaken_gatherer_finish(
+    alloc: Global,
+    gatherer: &mut GathererHandle,
+    lane: u32,
+) -> u32
+    ensures { Finishes gatherer.old.at.gatherer gatherer.new.at.gatherer lane result }
+{
+    c_gatherer::finish(alloc, gatherer, lane)
+}
+
+/// Writes the next word or break, the end, or none if a lane that is not finished lacks bytes, or after the end. It is `DONE` or
+/// `NO_GATHERER`.
+#[unsafe(no_mangle)]
+pub extern "C" fn interlaken_gatherer_next(
+    alloc: Global,
+    gatherer: &mut GathererHandle,
+    given: &mut CGathered,
+) -> u32
+    ensures { GivesNext gatherer.old.at.gatherer gatherer.new.at.gatherer result given.new }
+{
+    c_gatherer::next(alloc, gatherer, given)
+}
+
+/// Writes the report of a lane over the bytes that were taken from its ring. It is `DONE`, `NO_LANE` or `NO_GATHERER`.
+#[unsafe(no_mangle)]
+pub extern "C" fn interlaken_gatherer_report(
+    alloc: Global,
+    gatherer: &mut GathererHandle,
+    lane: u32,
+    report: &mut Report,
+) -> u32
+    ensures { Reports gatherer.old.at.gatherer gatherer.new.at.gatherer lane result report.new }
+{
+    c_gatherer::report(alloc, gatherer, lane, report)
+}

@@ -1,0 +1,22 @@
+-- The report of a lane that is there.
+use Rattle.std.proofs.Common.{rules, refl}
+use Rattle.live_gatherer.proofs.Feeding.{lane_is_absent, lane_is_there}
+use Rattle.live_gatherer.proofs.gatherer.LiveGatherer.report.Goals as goal
+
+pub returns-then-lane-len : goal.returns-then-lane-len
+returns-then-lane-len c =
+    let absent = c.if-lane-len.true in
+    let count = c.len.ensures in
+    (refl, lane_is_absent c.args.self.now.taker c.args.self.now.finished.items c.args.self.now.fed.items c.args.lane c.args.self.now.runs (search rules))
+
+pub lane_report-requires : goal.lane_report-requires
+lane_report-requires c =
+    let there = c.if-lane-len.false in
+    lane_is_there c.args.self.now.taker c.args.self.now.finished.items c.args.self.now.fed.items c.args.lane c.args.self.now.runs (search rules)
+
+pub returns : goal.returns
+returns c =
+    let there = c.if-lane-len.false in (
+      lane_is_there c.args.self.now.taker c.args.self.now.finished.items c.args.self.now.fed.items c.args.lane c.args.self.now.runs (search rules),
+      λ s fed given st. c.lane_report.ensures s fed st.takes.items st.takes.progress st.takes.front,
+    )

@@ -1,0 +1,41 @@
+//! What a call is asked that it does not do.
+ghost use Rattle.std.specs.Prelude.{◌≡◌};
+ghost use Rattle.live_gatherer.specs.Misuses.{lane_misuse_by, misuse_by};
+
+/// No lane takes more bytes once it has this many, and no piece of one is as long.
+pub const LANE_BYTES_LIMIT: usize = 1 << 40;
+
+/// What a call is asked that it does not do.
+#[derive(Clone, Copy, Debug, PartialEq, Eq)]
+pub enum Misuse {
+    /// There is no such lane.
+    NoLane,
+    /// The lane was finished before.
+    Finished,
+    /// The lane has 2^40 bytes or more, or the piece has.
+    TooMany,
+}
+
+/// Why a lane takes no byte and no end, if these lanes are finished.
+pub fn lane_misuse(finished: &[bool], lane: u32) -> Option<Misuse>
+    ensures { result ≡ lane_misuse_by finished.now lane }
+{
+    let i = lane as usize;
+    if i >= finished.len() {
+        return Some(Misuse::NoLane);
+    }
+    if finished[i] {
+        return Some(Misuse::Finished);
+    }
+    None
+}
+
+/// Why a lane that was fed this many bytes does not take a piece of this many.
+pub fn piece_misuse(fed: usize, count: usize) -> Option<Misuse>
+    ensures { result ≡ misuse_by fed count }
+{
+    if fed >= LANE_BYTES_LIMIT || count >= LANE_BYTES_LIMIT {
+        return Some(Misuse::TooMany);
+    }
+    None
+}
