@@ -17,28 +17,12 @@ SHAPES = {(2, 32, 1, 1): "obj_monitor", (3, 40, 2, 67): "obj_monitor_other"}
 SAYS = re.compile(r"^bug \d+: the first wrong word is on lane (\d+), sent from bit (\d+) on$", re.M)
 FINDS = re.compile(r"^(.*), after (\d+) bits$", re.M)
 WORD = re.compile(r"lane (\d+) bit (\d+)")
+PREFIX = re.compile(r"INTERLAKEN_(LANE_EVENT|DROP|FAULT)_")
 
 
 def skew_of(lane):
     """How late the wire of tb_monitor.sv has a lane arrive."""
     return 11 + 189 * lane % 400
-
-
-def text_of(finding):
-    """A finding of Python as the bench prints it."""
-    from interlaken import Dropped, LaneEvent, Span
-
-    def word(one):
-        return "lane %d bit %d" % (one.lane, one.bit)
-
-    what, start = finding.what, "from %s on" % (word(finding.first) if finding.first else "the first word")
-    if isinstance(what, LaneEvent):
-        return "%s: INTERLAKEN_LANE_EVENT_%s" % (word(finding.first), what.kind.name)
-    if isinstance(what, Dropped):
-        return "%s: INTERLAKEN_DROP_%s on channel %d" % (start, what.why.name, what.channel)
-    if isinstance(what, Span):
-        return "between %s and %s: INTERLAKEN_FAULT_%s" % (word(finding.first), word(finding.last), what.why.name)
-    return "lane %d: no lock" % finding.first.lane if finding.first and finding.first.bit == 0 else start + ": no verified control word"
 
 
 def found_in_python(library, plan, lanes):
@@ -51,7 +35,7 @@ def found_in_python(library, plan, lanes):
                 monitor.feed(lane, data[at:at + 1])
             for event in monitor.events():
                 if isinstance(event, Finding):
-                    return text_of(event)
+                    return str(event)
     return None
 
 
@@ -99,7 +83,7 @@ class Monitored:
         says, finds = SAYS.search(text), FINDS.search(text)
         self.tally.expect(what + ": status", status != 0, True)
         self.tally.expect(what + ": a finding", finds is not None, True)
-        self.tally.expect(what + ": in Python", found_in_python(self.library, self.plan.encode(), self.arrived()), finds and finds[1])
+        self.tally.expect(what + ": in Python", found_in_python(self.library, self.plan.encode(), self.arrived()), finds and PREFIX.sub("", finds[1]))
         sent = (int(says[1]), int(says[2]) + skew_of(int(says[1]))) if says else None
         return sent, finds[1] if finds else "", int(finds[2]) if finds else 0
 

@@ -423,16 +423,19 @@ static void try_no_inspector(void *inspector) {
   free(array.bytes);
 }
 
-/* Prints the events that are due, each after its last bit; how many there are. */
-static unsigned show_events(void *inspector, const struct file *lanes) {
-  unsigned kind, lane, events = 0;
+/* Prints the events that are due, each after its last bit, and none later than the last byte of its word allows. */
+static void show_events(void *inspector, const struct file *lanes, unsigned count) {
+  static size_t seen[64];
+  unsigned kind, lane;
   unsigned long long bit;
-  for (;; events++) {
+  for (;;) {
     want("next_lane_event", interlaken_dpi_next_lane_event(inspector, &kind, &lane, &bit), DONE);
-    if (kind == 0) return events;
-    want("an event before its word", bit + 67 <= lanes[lane].fed || lanes[lane].over, 1);
+    if (kind == 0) break;
+    want("an event before its word", bit + 67 <= lanes[lane].fed, 1);
+    want("an event that was due before", bit + 67 <= seen[lane], 0);
     printf("shows %u %llu %u\n", lane, bit, kind);
   }
+  for (lane = 0; lane < count; lane++) seen[lane] = lanes[lane].fed / 8 * 8;
 }
 
 /* The next bytes of a lane, as an array; 1 if all were taken. */
@@ -488,9 +491,9 @@ static void try_inspector(const char *plan, const struct file *lanes, unsigned c
   while (left > 0) {
     lane = below(count);
     if (!own[lane].over) left -= (unsigned)(own[lane].over = inspect_some(inspector, &own[lane], lane));
-    if (below(3) == 0) (void)show_events(inspector, own);
+    if (below(3) == 0) show_events(inspector, own, count);
   }
-  (void)show_events(inspector, own);
+  show_events(inspector, own, count);
   want("bits of a finished lane", interlaken_dpi_inspect_bits(inspector, 0, 1, 1), FINISHED);
   want("finish of a finished lane", interlaken_dpi_finish_inspection(inspector, 0), FINISHED);
   for (lane = 0; lane < count; lane++) {

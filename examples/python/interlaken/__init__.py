@@ -35,6 +35,7 @@ The numbers of a plan, and the lane and bit of a word: of one that came, and of 
             ...
 
 Where lanes come live, call `feed` for each, and take `events()` after each: it takes no byte of a lane whose events are due.
+interlaken.monitor has a receiver and an inspector over the same bytes, as one stream of findings.
 
 It calls the C library that tools/library makes; `library` is its path, or its name if the system finds it by that. A call that is misused
 raises Misuse, and changes nothing; a plan that is refused raises BadPlan, with the row and the cause. Each of them takes one call at a
