@@ -87,7 +87,7 @@ def monitored(folder, library):
 
 
 def try_monitor(tally, folder, library):
-    """The same lanes and a monitor: its findings are the events of `inspect` but the locks, and the spans of `receive` but the first and last,
+    """Lanes and a monitor: its findings are the events of `inspect` but the locks, and the spans of `receive` but the first and last,
     between whose words a bit was inverted."""
     from interlaken import LaneEvent, Span
 
@@ -107,6 +107,11 @@ def try_monitor(tally, folder, library):
         tally.expect("a bit within a span", any(first - 67 < flip < last + 67 for flip in flips), True)
     got = re.findall(r"^got channel=\d+ packets=(\d+)", run(PROGRAM, "receive", "many.plan", folder=folder)[1], re.M)
     tally.expect("packets beside a monitor", len(packets), sum(map(int, got)))
+    # The example feeds longer pieces, so what one lane shows may come before what another did.
+    words = [TOP + "/examples/python/findings.py", library, "many.plan", "many.lane.0", "many.lane.1"]
+    status, text = run(sys.executable, "-B", *words, folder=folder)
+    lines = [str(finding) for finding in found] + ["packets %d" % len(packets)]
+    tally.expect("examples/python/findings.py", (status, sorted(text.split("\n")[:-1])), (0, sorted(lines)))
 
 
 def try_cocotb(tally, folder, library):

@@ -1,5 +1,5 @@
-"""The part of checks/dpi.sh on tb_monitor: each planted bug of the device is found while it is sent, at the lane and the bit that the device
-says, as `inspect` and the Monitor of Python find it in the lanes that arrived; and without a bug there is no finding."""
+"""The part of checks/dpi.sh on tb_monitor: each planted bug of the device is found while it is sent, at the lane and the bit that the
+device says, as `inspect` and the Monitor of Python find it in the lanes that arrived; and without a bug there is no finding."""
 
 import glob
 import os
@@ -9,50 +9,22 @@ import re
 CODE_BITS = 67
 METAFRAMES = 2  # a bug is told in so many
 # The bugs of lane_pkg.sv that a lane shows, with the event of `inspect` and the name of interlaken.h.
-LANE_BUGS = {1: ("skip", "BAD_SKIP"), 2: ("diag", "BAD_DIAGNOSTIC"), 3: ("health", "HEALTH"), 4: ("balance", "BALANCE"), 5: ("state", "BAD_STATE"),
-             6: ("sync", "BAD_SYNC"), 7: ("bad", "BAD_WORD"), 8: ("bad", "BAD_WORD")}
+LANE_BUGS = {1: ("skip", "BAD_SKIP"), 2: ("diag", "BAD_DIAGNOSTIC"), 3: ("health", "HEALTH"), 4: ("balance", "BALANCE"),
+             5: ("state", "BAD_STATE"), 6: ("sync", "BAD_SYNC"), 7: ("bad", "BAD_WORD"), 8: ("bad", "BAD_WORD")}
+# What is found if a bug is there from the first word on.
+START_BUGS = {6: "lane 1 bit N: INTERLAKEN_LANE_EVENT_UNFRAMED", 8: "lane 1: no lock", 9: "from the first word on: no verified control word"}
 PLAIN_CODES, WRONG_CRC24, BURST_CRC24, ERROR_END = 4, 9, 10, 11
 # A bench as verilator builds it: lanes, metaframe, Skip words, and bits of each lane at a clock.
 SHAPES = {(2, 32, 1, 1): "obj_monitor", (3, 40, 2, 67): "obj_monitor_other"}
 SAYS = re.compile(r"^bug \d+: the first wrong word is on lane (\d+), sent from bit (\d+) on$", re.M)
 FINDS = re.compile(r"^(.*), after (\d+) bits$", re.M)
 WORD = re.compile(r"lane (\d+) bit (\d+)")
+PREFIX = re.compile(r"INTERLAKEN_(LANE_EVENT|DROP|FAULT)_")
 
 
 def skew_of(lane):
     """How late the wire of tb_monitor.sv has a lane arrive."""
     return 11 + 189 * lane % 400
-
-
-def text_of(finding):
-    """A finding of Python as the bench prints it."""
-    from interlaken import Dropped, LaneEvent, Span
-
-    def word(one):
-        return "lane %d bit %d" % (one.lane, one.bit)
-
-    what, start = finding.what, "from %s on" % (word(finding.first) if finding.first else "the first word")
-    if isinstance(what, LaneEvent):
-        return "%s: INTERLAKEN_LANE_EVENT_%s" % (word(finding.first), what.kind.name)
-    if isinstance(what, Dropped):
-        return "%s: INTERLAKEN_DROP_%s on channel %d" % (start, what.why.name, what.channel)
-    if isinstance(what, Span):
-        return "between %s and %s: INTERLAKEN_FAULT_%s" % (word(finding.first), word(finding.last), what.why.name)
-    return "lane %d: no lock" % finding.first.lane if finding.first and finding.first.bit == 0 else start + ": no verified control word"
-
-
-def found_in_python(library, plan, lanes):
-    """The first finding in lanes, a byte of each at a time; None if there is none."""
-    from interlaken.monitor import Finding, Monitor
-
-    with Monitor(plan, library) as monitor:
-        for at in range(min(map(len, lanes))):
-            for lane, data in enumerate(lanes):
-                monitor.feed(lane, data[at:at + 1])
-            for event in monitor.events():
-                if isinstance(event, Finding):
-                    return text_of(event)
-    return None
 
 
 class Monitored:
@@ -62,8 +34,8 @@ class Monitored:
         self.tally, self.folder, self.run, self.inspects = tally, folder, run, program
         self.lanes, self.metaframe, skips, self.width = shape
         self.bench, self.library = "dpi/%s/Vtb_monitor" % SHAPES[shape], folder + "/dpi/library/lib/libinterlaken.so"
-        rows = ["lanes,%d" % self.lanes, "metaframe,%d" % self.metaframe, "skips,%d" % skips, "burst_max,128", "channel,1", "channel,2", "out,seen"]
-        self.plan = "".join(row + "\n" for row in rows)
+        rows = ["lanes,%d" % self.lanes, "metaframe,%d" % self.metaframe, "skips,%d" % skips, "burst_max,128", "channel,1", "channel,2"]
+        self.plan = "".join(row + "\n" for row in [*rows, "out,seen"])
         with open(folder + "/seen.plan", "w", encoding="utf-8") as file:
             file.write(self.plan)
         self.what = "monitor of %d lanes, %d bits at a clock" % (self.lanes, self.width)
@@ -88,6 +60,20 @@ class Monitored:
             rows = [line.split(",") for line in file.read().split("\n")[1:-1]]
         return [(int(lane), int(bit), event) for lane, bit, event in rows if event != "lock"]
 
+    def found_in_python(self):
+        """The first finding in these lanes, a byte of each at a time; None if there is none."""
+        from interlaken.monitor import Finding, Monitor
+
+        lanes = self.arrived()
+        with Monitor(self.plan.encode(), self.library) as monitor:
+            for at in range(min(map(len, lanes))):
+                for lane, data in enumerate(lanes):
+                    monitor.feed(lane, data[at:at + 1])
+                for event in monitor.events():
+                    if isinstance(event, Finding):
+                        return str(event)
+        return None
+
     def order(self, lane, bit):
         """The place of a word among those of all lanes, by its lane and the bit at which it arrives."""
         return (bit - skew_of(lane)) // CODE_BITS, lane
@@ -99,7 +85,7 @@ class Monitored:
         says, finds = SAYS.search(text), FINDS.search(text)
         self.tally.expect(what + ": status", status != 0, True)
         self.tally.expect(what + ": a finding", finds is not None, True)
-        self.tally.expect(what + ": in Python", found_in_python(self.library, self.plan.encode(), self.arrived()), finds and finds[1])
+        self.tally.expect(what + ": in Python", self.found_in_python(), finds and PREFIX.sub("", finds[1]))
         sent = (int(says[1]), int(says[2]) + skew_of(int(says[1]))) if says else None
         return sent, finds[1] if finds else "", int(finds[2]) if finds else 0
 
@@ -107,7 +93,7 @@ class Monitored:
         return bit + CODE_BITS <= after <= bit + METAFRAMES * CODE_BITS * self.metaframe
 
     def try_lane_bug(self, bug, on):
-        """A bug of one lane: the first finding is the word that the device names, or, if nothing is inverted, the one that `inspect` finds."""
+        """A bug of one lane: the first finding is the word that the device names; if nothing is inverted, the one that `inspect` finds."""
         what, (event, name) = "%s, bug %d on lane %d" % (self.what, bug, on), LANE_BUGS[bug]
         sent, found, after = self.finding(what, "+bug=%d" % bug, "+on=%d" % on, "+packets=400")
         rows = self.shown()
@@ -141,7 +127,7 @@ class Monitored:
 
     def try_starts(self):
         """Bugs from the first word on: no lane has a lock, or no control word is verified."""
-        for bug, wanted in ((8, "lane 1: no lock"), (6, "lane 1 bit N: INTERLAKEN_LANE_EVENT_UNFRAMED"), (WRONG_CRC24, "from the first word on: no verified control word")):
+        for bug, wanted in START_BUGS.items():
             what = "%s, bug %d from the first word on" % (self.what, bug)
             _, found, _ = self.finding(what, "+bug=%d" % bug, "+on=1", "+from=0")
             self.tally.expect(what + ": its finding", re.sub(r"bit \d+", "bit N", found), wanted)
@@ -150,7 +136,7 @@ class Monitored:
         status, text = self.call()
         self.tally.expect(self.what + ": status without a bug", status, 0)
         self.tally.expect(self.what + ": no finding", re.findall(r"^no finding, (\d+) packets$", text, re.M), ["40"])
-        self.tally.expect(self.what + ": nothing shown", (self.shown(), found_in_python(self.library, self.plan.encode(), self.arrived())), ([], None))
+        self.tally.expect(self.what + ": nothing shown", (self.shown(), self.found_in_python()), ([], None))
         for bug in LANE_BUGS:
             for on in range(self.lanes):
                 self.try_lane_bug(bug, on)

@@ -323,7 +323,7 @@ try_pip() { # PACKAGE
   if python3 -m pip --version >/dev/null 2>&1; then
     rm -rf site
     python3 -m pip install --no-index --no-deps --quiet --disable-pip-version-check --target site "$python" >pip.txt 2>&1
-    holds 'pip install' "$? $(cd site/interlaken && printf '%s ' *.*)" '0 __init__.py py.typed '
+    holds 'pip install' "$? $(cd site/interlaken && printf '%s ' *.*)" '0 __init__.py monitor.py py.typed '
     holds 'the installed package' "$(PYTHONPATH=site python3 -B -c 'import interlaken, importlib.metadata as m; print(interlaken.__file__, m.version("interlaken"))')" \
       "$folder/site/interlaken/__init__.py $(cat "$top/release/VERSION")"
   else

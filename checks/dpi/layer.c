@@ -1,5 +1,5 @@
-/* The functions of examples/dpi/interlaken_dpi.c without a simulator: lanes in drawn pieces and orders, a transmitter whose lanes come back,
- * words of a sender, and each misuse. Its prototypes are those that verilator made of the imports.
+/* The functions of examples/dpi/interlaken_dpi.c without a simulator: lanes in drawn pieces and orders, a transmitter whose lanes come
+ * back, words of a sender, and each misuse. Its prototypes are those that verilator made of the imports.
  *
  *     layer PLAN SEED WORDS LANE..
  *
@@ -407,6 +407,10 @@ static void try_damage(void) {
   try_no_damage(damage);
 }
 
+static int report_of(void *inspector, unsigned lane, unsigned long long *n) {
+  return interlaken_dpi_inspector_report(inspector, lane, &n[0], &n[1], &n[2], &n[3], &n[4], &n[5], &n[6], &n[7], &n[8]);
+}
+
 /* All that a handle without an inspector answers. */
 static void try_no_inspector(void *inspector) {
   struct array array = make_array(1);
@@ -419,20 +423,23 @@ static void try_no_inspector(void *inspector) {
   want("finish of none", interlaken_dpi_finish_inspection(inspector, 0), NO_INSPECTOR);
   want("an event of none", interlaken_dpi_next_lane_event(inspector, &kind, &lane, &n[0]), NO_INSPECTOR);
   want("the event of none", kind == 0 && lane == 0 && n[0] == 0, 1);
-  want("report of none", interlaken_dpi_inspector_report(inspector, 0, &n[0], &n[1], &n[2], &n[3], &n[4], &n[5], &n[6], &n[7], &n[8]), NO_INSPECTOR);
+  want("report of none", report_of(inspector, 0, n), NO_INSPECTOR);
   free(array.bytes);
 }
 
-/* Prints the events that are due, each after its last bit; how many there are. */
-static unsigned show_events(void *inspector, const struct file *lanes) {
-  unsigned kind, lane, events = 0;
+/* Prints the events that are due, each after its last bit, and none later than the last byte of its word allows. */
+static void show_events(void *inspector, const struct file *lanes, unsigned count) {
+  static size_t seen[64];
+  unsigned kind, lane;
   unsigned long long bit;
-  for (;; events++) {
+  for (;;) {
     want("next_lane_event", interlaken_dpi_next_lane_event(inspector, &kind, &lane, &bit), DONE);
-    if (kind == 0) return events;
-    want("an event before its word", bit + 67 <= lanes[lane].fed || lanes[lane].over, 1);
+    if (kind == 0) break;
+    want("an event before its word", bit + 67 <= lanes[lane].fed, 1);
+    want("an event that was due before", bit + 67 <= seen[lane], 0);
     printf("shows %u %llu %u\n", lane, bit, kind);
   }
+  for (lane = 0; lane < count; lane++) seen[lane] = lanes[lane].fed / 8 * 8;
 }
 
 /* The next bytes of a lane, as an array; 1 if all were taken. */
@@ -484,18 +491,19 @@ static void try_inspector(const char *plan, const struct file *lanes, unsigned c
   want("bits of no lane", interlaken_dpi_inspect_bits(inspector, count, 1, 1), NO_LANE);
   want("65 bits", interlaken_dpi_inspect_bits(inspector, 0, 1, 65), TOO_MANY);
   want("finish of no lane", interlaken_dpi_finish_inspection(inspector, ~0u), NO_LANE);
-  want("report of no lane", interlaken_dpi_inspector_report(inspector, count, &n[0], &n[1], &n[2], &n[3], &n[4], &n[5], &n[6], &n[7], &n[8]), NO_LANE);
+  want("report of no lane", report_of(inspector, count, n), NO_LANE);
   while (left > 0) {
     lane = below(count);
     if (!own[lane].over) left -= (unsigned)(own[lane].over = inspect_some(inspector, &own[lane], lane));
-    if (below(3) == 0) (void)show_events(inspector, own);
+    if (below(3) == 0) show_events(inspector, own, count);
   }
-  (void)show_events(inspector, own);
+  show_events(inspector, own, count);
   want("bits of a finished lane", interlaken_dpi_inspect_bits(inspector, 0, 1, 1), FINISHED);
   want("finish of a finished lane", interlaken_dpi_finish_inspection(inspector, 0), FINISHED);
   for (lane = 0; lane < count; lane++) {
-    want("inspector_report", interlaken_dpi_inspector_report(inspector, lane, &n[0], &n[1], &n[2], &n[3], &n[4], &n[5], &n[6], &n[7], &n[8]), DONE);
-    printf("inspected %u locks=%llu lost=%llu unframed=%llu bad=%llu sync=%llu state=%llu diag=%llu\n", lane, n[0], n[3], n[4], n[5], n[6], n[7], n[8]);
+    want("inspector_report", report_of(inspector, lane, n), DONE);
+    printf("inspected %u locks=%llu lost=%llu unframed=%llu ", lane, n[0], n[3], n[4]);
+    printf("bad=%llu sync=%llu state=%llu diag=%llu\n", n[5], n[6], n[7], n[8]);
   }
   want("close_inspector", interlaken_dpi_close_inspector(inspector), DONE);
   try_no_inspector(inspector);

@@ -1,22 +1,21 @@
 """What is wrong with the lanes of a device, while it runs: a receiver and an inspector over the same bytes, as one stream.
 
     with Monitor(plan, library="lib/libinterlaken.so") as monitor:
-        for lane, data in enumerate(pieces):
-            monitor.feed(lane, data)
-        for event in monitor.events():
+        for event in monitor.feed_all(lanes):
             if isinstance(event, Finding):
-                ...
+                print(event)
 
-Each Finding has a lane and a bit of it, as far as there is one. The other events are the Packet and Flow of the receiver.
+Where bytes come live, call `feed` for each lane, and take `events()` after each. Each Finding has a lane and a bit of it, as far as there
+is one. The other events are the Packet and Flow of the receiver.
 """
 
 from __future__ import annotations
 
 from collections import deque
 from dataclasses import dataclass
-from typing import Iterator, Optional
+from typing import Iterator, Optional, Sequence
 
-from . import Dropped, Ended, Event, Fault, Flow, Inspector, LaneEvent, LaneEventKind, Packet, Place, Plan, Receiver, Span, _Bits
+from . import Drop, Dropped, Event, Fault, Flow, Inspector, LaneEvent, LaneEventKind, Packet, Place, Plan, Receiver, Span, _Bits
 
 _CODE_BITS = 67
 
@@ -28,10 +27,15 @@ class Word:
     lane: int
     bit: int
 
+    def __str__(self) -> str:
+        return "lane %d bit %d" % (self.lane, self.bit)
+
 
 @dataclass(frozen=True)
 class Silence:
-    """No lock is declared on a lane in time, or no control word is verified."""
+    """No lock was declared on this lane in time; or, if it is None, no control word was verified."""
+
+    lane: Optional[int]
 
 
 @dataclass(frozen=True)
@@ -42,6 +46,16 @@ class Finding:
     what: LaneEvent | Span | Dropped | Silence
     first: Optional[Word]
     last: Optional[Word] = None
+
+    def __str__(self) -> str:
+        since = "from %s on" % (self.first or "the first word")
+        if isinstance(self.what, LaneEvent):
+            return "%s: %s" % (self.first, self.what.kind.name)
+        if isinstance(self.what, Dropped):
+            return "%s: %s on channel %d" % (since, self.what.why.name, self.what.channel)
+        if isinstance(self.what, Span):
+            return "between %s and %s: %s" % (self.first, self.last, self.what.why.name)
+        return since + ": no verified control word" if self.what.lane is None else "lane %d: no lock" % self.what.lane
 
 
 class Monitor:
@@ -101,6 +115,20 @@ class Monitor:
         self.receiver.finish(lane)
         self.inspector.finish(lane)
 
+    def feed_all(self, lanes: Sequence[bytes]) -> Iterator[Packet | Flow | Finding]:
+        """Feeds these lanes, all that the plan has and of which nothing was fed, to their ends, and yields what there is as it comes."""
+        fed, left = [0] * len(lanes), set(range(len(lanes)))
+        while left:
+            before = sum(fed) - len(left)
+            for lane in sorted(left):
+                fed[lane] += self.feed(lane, lanes[lane][fed[lane] : fed[lane] + 1024])
+                if fed[lane] == len(lanes[lane]):
+                    self.finish(lane)
+                    left.remove(lane)
+            yield from self.events()
+            if sum(fed) - len(left) == before:  # What lacks bytes is a lane that is not among these.
+                raise ValueError("%d lanes are fewer than the plan has" % len(lanes))
+
     def events(self) -> Iterator[Packet | Flow | Finding]:
         """What there is so far. What the lanes show comes first, and then what the receiver makes of them."""
         yield from self._taken()
@@ -124,7 +152,7 @@ class Monitor:
             self._verified, self._heard = self.arrival(event.at), min(self._fed)
         if isinstance(event, (Packet, Flow)):
             yield event
-        elif isinstance(event, Dropped):
+        elif isinstance(event, Dropped) and event.why is not Drop.END:
             yield Finding(event, self._verified)
         elif isinstance(event, Span) and event.why not in (Fault.START, Fault.END):
             yield Finding(event, event.after and self.arrival(event.after), event.before and self.arrival(event.before))
@@ -138,12 +166,9 @@ class Monitor:
 
     def _silences(self) -> Iterator[Finding]:
         """A lock of each lane has to be declared in twelve metaframes, and then a control word has to be verified after each burst."""
-        fed = 8 * min(self._fed)
-        if self._unlocked:
-            is_late, first = fed >= _CODE_BITS * 12 * self.plan.metaframe, Word(min(self._unlocked), 0)
-        else:
-            limit = _CODE_BITS * (self.plan.metaframe + self.plan.burst_max // 8 * 3 // 2)
-            is_late, first = fed >= 8 * self._heard + limit, self._verified
-        if is_late and not self._silent:
-            yield Finding(Silence(), first)
-        self._silent = is_late
+        fed, lane = 8 * min(self._fed), min(self._unlocked, default=None)
+        burst = self.plan.burst_max // 8 * 3 // 2
+        limit = 8 * self._heard + _CODE_BITS * (self.plan.metaframe + burst) if lane is None else _CODE_BITS * 12 * self.plan.metaframe
+        if fed >= limit and not self._silent:
+            yield Finding(Silence(lane), self._verified)
+        self._silent = fed >= limit
