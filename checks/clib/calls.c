@@ -1395,7 +1395,7 @@ static void gatherer_sequence(void) {
   static struct gathering one;
   static uint32_t turn;
   uint32_t calls = 20 + below(400);
-  if (turn++ % 8 == 0) strike(), learn_gathered();
+  if (turn++ % 8 == 0) learn_gathered();
   while (calls-- > 0) {
     long before = allocations;
     switch (below(40)) {
