@@ -308,8 +308,13 @@ with i.Damage(2, "library/lib/libinterlaken.so") as damage:
             print(misuse)
 ' "$top/examples/python" 2>&1)" $'True False True\nTrue False True\nPASSED\nPASSED\nOUT_OF_RANGE\nOUT_OF_RANGE\nNO_LANE\nNO_LANE\nOUT_OF_RANGE\nNO_DAMAGE'
   # What lanes show: lanes of the program, with damage, and the same ones struck by many rows; and generated cases.
+  # And lanes that lose their locks.
   sed 's/^out,.*/out,drawn.damaged/' struck.plan >seen.plan
-  for plan in damaged.plan drawn.plan seen.plan; do
+  sed 's/^out,.*/out,thrice/' damaged.plan >thrice.plan
+  for lane in 0 1; do
+    { cat "damaged.lane.$lane" && head -c 700 /dev/zero && cat "damaged.lane.$lane" && head -c 900 /dev/zero && cat "damaged.lane.$lane"; } >"thrice.lane.$lane"
+  done
+  for plan in damaged.plan drawn.plan seen.plan thrice.plan; do
     for seed in 1 2 3; do
       same_as_inspect "$plan" "$seed"
       same_as_gather "$plan" "$seed"
