@@ -355,7 +355,7 @@ import sys
 sys.path.insert(0, sys.argv[1])
 import interlaken as i
 library = "library/lib/libinterlaken.so"
-lanes = [open("drawn.damaged.lane.%d" % lane, "rb").read() for lane in (0, 1)]
+lanes = [open("thrice.lane.%d" % lane, "rb").read() for lane in (0, 1)]
 with i.Gatherer(open("damaged.plan", "rb").read(), library) as gatherer:
     print(gatherer.feed(0, lanes[0]), gatherer.feed(0, lanes[0]), gatherer.next(), gatherer.feed(1, b""))
     gatherer.finish(0)
