@@ -177,7 +177,7 @@ if ! lacks python3 python3 'examples/python'; then
 import sys
 sys.path.insert(0, sys.argv[1])
 import interlaken as i
-for kind, prefix in (i.Result, ""), (i.Cause, ""), (i.Key, "KEY_"), (i.Kind, ""), (i.Drop, "DROP_"), (i.Fault, "FAULT_"), (i.LaneState, "LANE_"), (i.LaneEventKind, "LANE_EVENT_"), (i.WordKind, "WORD_"), (i.Rule, "RULE_"):
+for kind, prefix in (i.Result, ""), (i.Cause, ""), (i.Key, "KEY_"), (i.Kind, ""), (i.Drop, "DROP_"), (i.Fault, "FAULT_"), (i.LaneState, "LANE_"), (i.LaneEventKind, "LANE_EVENT_"), (i.WordKind, "WORD_"), (i.Rule, "RULE_"), (i.GatheredKind, "GATHERED_"):
     for one in kind:
         print(one.name if one.name in ("NO_KEY", "NO_LANE_EVENT") else prefix + one.name, one.value)
 ' "$top/examples/python" | LC_ALL=C sort)" "$numbers"
@@ -308,8 +308,13 @@ with i.Damage(2, "library/lib/libinterlaken.so") as damage:
             print(misuse)
 ' "$top/examples/python" 2>&1)" $'True False True\nTrue False True\nPASSED\nPASSED\nOUT_OF_RANGE\nOUT_OF_RANGE\nNO_LANE\nNO_LANE\nOUT_OF_RANGE\nNO_DAMAGE'
   # What lanes show: lanes of the program, with damage, and the same ones struck by many rows; and generated cases.
+  # And lanes that lose their locks.
   sed 's/^out,.*/out,drawn.damaged/' struck.plan >seen.plan
-  for plan in damaged.plan drawn.plan seen.plan; do
+  sed 's/^out,.*/out,thrice/' damaged.plan >thrice.plan
+  for lane in 0 1; do
+    { cat "damaged.lane.$lane" && head -c 700 /dev/zero && cat "damaged.lane.$lane" && head -c 900 /dev/zero && cat "damaged.lane.$lane"; } >"thrice.lane.$lane"
+  done
+  for plan in damaged.plan drawn.plan seen.plan thrice.plan; do
     for seed in 1 2 3; do
       same_as_inspect "$plan" "$seed"
       same_as_gather "$plan" "$seed"
@@ -350,7 +355,7 @@ import sys
 sys.path.insert(0, sys.argv[1])
 import interlaken as i
 library = "library/lib/libinterlaken.so"
-lanes = [open("drawn.damaged.lane.%d" % lane, "rb").read() for lane in (0, 1)]
+lanes = [open("thrice.lane.%d" % lane, "rb").read() for lane in (0, 1)]
 with i.Gatherer(open("damaged.plan", "rb").read(), library) as gatherer:
     print(gatherer.feed(0, lanes[0]), gatherer.feed(0, lanes[0]), gatherer.next(), gatherer.feed(1, b""))
     gatherer.finish(0)

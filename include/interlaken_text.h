@@ -84,9 +84,9 @@ static inline const char *interlaken_word_kind_text(uint32_t kind) {
   return interlaken_text_of(texts, sizeof texts / sizeof *texts, kind);
 }
 
-/* What a gatherer returned: an enum interlaken_gathered_kind. */
+/* An enum interlaken_gathered_kind. */
 static inline const char *interlaken_gathered_kind_text(uint32_t kind) {
-  static const char *const texts[] = {"nothing", "word", "break", "end"};
+  static const char *const texts[] = {"none", "word", "break", "ended"};
   return interlaken_text_of(texts, sizeof texts / sizeof *texts, kind);
 }
 

@@ -1217,7 +1217,11 @@ static void inspector_sequence(void) {
 
 #define GATHERED 4000
 
-/* All that a gatherer returns of the two struck lanes. */
+/* The two struck lanes, as they were when they were learned. */
+static uint8_t joined[2][INSPECTED];
+static size_t joined_count[2];
+
+/* All that a gatherer returns of them. */
 static interlaken_gathered gathered_of[GATHERED];
 static uint32_t gathered_count;
 
@@ -1237,12 +1241,12 @@ static int same_gathered(const interlaken_gathered *one, const interlaken_gather
 
 /* A word's lane is that of its index, and the bytes of the lane have the header of its kind where its code begins. */
 static void look_at_word(const interlaken_gathered *word) {
-  const uint8_t *bytes = struck[word->lane < 2 ? word->lane : 0];
+  const uint8_t *bytes = joined[word->lane < 2 ? word->lane : 0];
   uint64_t bit = word->bit + 1;
   uint32_t header;
   want("the lane of a word", word->lane < 2 && word->lane == word->at.index % 2);
-  want("a code in the lane", word->lane < 2 && word->bit + 67 <= 8 * (uint64_t)struck_count[word->lane < 2 ? word->lane : 0]);
-  if (word->lane >= 2 || word->bit + 67 > 8 * (uint64_t)struck_count[word->lane]) return;
+  want("a code in the lane", word->lane < 2 && word->bit + 67 <= 8 * (uint64_t)joined_count[word->lane < 2 ? word->lane : 0]);
+  if (word->lane >= 2 || word->bit + 67 > 8 * (uint64_t)joined_count[word->lane]) return;
   header = (uint32_t)(bytes[bit / 8] >> (7 - bit % 8) & 1) << 1;
   bit++;
   header |= (uint32_t)(bytes[bit / 8] >> (7 - bit % 8) & 1);
@@ -1269,8 +1273,8 @@ static void learn_gathered(void) {
   uint64_t numbers = 0, broken = 0;
   want("a gatherer of lanes", interlaken_gatherer_new(&one, plan.at, plan.count, &refusal) == INTERLAKEN_DONE);
   for (gathered_count = 0, next.kind = INTERLAKEN_GATHERED_NONE; next.kind != INTERLAKEN_GATHERED_ENDED && gathered_count < GATHERED;) {
-    feed_rest(&one, struck[0], 0, struck_count[0], &fed[0], &over[0]);
-    feed_rest(&one, struck[1], 1, struck_count[1], &fed[1], &over[1]);
+    feed_rest(&one, joined[0], 0, joined_count[0], &fed[0], &over[0]);
+    feed_rest(&one, joined[1], 1, joined_count[1], &fed[1], &over[1]);
     while (interlaken_gatherer_next(&one, &next) == INTERLAKEN_DONE && next.kind != INTERLAKEN_GATHERED_NONE && gathered_count < GATHERED) {
       gathered_of[gathered_count++] = next;
       if (next.kind == INTERLAKEN_GATHERED_ENDED) break;
@@ -1310,11 +1314,11 @@ static void try_gatherer_free(struct gathering *k) {
 
 static void try_gatherer_feed(struct gathering *k) {
   uint32_t lane = some_lane(), wanted = gatherer_lane_result(k, lane), from = lane < 2 ? lane : 0, result;
-  size_t left = struck_count[from] - k->fed[from], count = below(3) == 0 ? below(6000) : below(400), taken = 99;
+  size_t left = joined_count[from] - k->fed[from], count = below(3) == 0 ? below(6000) : below(400), taken = 99;
   int is_long = below(50) == 0 && long_piece != NULL;
   if (count > left) count = left;
   if (wanted == INTERLAKEN_DONE && is_long) wanted = INTERLAKEN_TOO_MANY;
-  result = interlaken_gatherer_feed(&k->gatherer, lane, is_long ? long_piece : struck[from] + k->fed[from], is_long ? LONG_PIECE : count, &taken);
+  result = interlaken_gatherer_feed(&k->gatherer, lane, is_long ? long_piece : joined[from] + k->fed[from], is_long ? LONG_PIECE : count, &taken);
   want("gatherer feed", result == wanted);
   if (result != INTERLAKEN_DONE) {
     want("no byte is gathered", taken == 0);
@@ -1329,7 +1333,7 @@ static void try_gatherer_finish(struct gathering *k) {
   want("gatherer finish", interlaken_gatherer_finish(&k->gatherer, lane) == wanted);
   if (wanted != INTERLAKEN_DONE) return;
   k->over[lane] = 1;
-  if (k->fed[lane] < struck_count[lane]) k->cut = 1;
+  if (k->fed[lane] < joined_count[lane]) k->cut = 1;
 }
 
 /* Returns whether something was returned. */
@@ -1365,8 +1369,8 @@ static void try_gatherer_report(struct gathering *k) {
 static void gather_rest(struct gathering *k) {
   if (!k->has || k->cut) return;
   while (!k->ended) {
-    feed_rest(&k->gatherer, struck[0], 0, struck_count[0], &k->fed[0], &k->over[0]);
-    feed_rest(&k->gatherer, struck[1], 1, struck_count[1], &k->fed[1], &k->over[1]);
+    feed_rest(&k->gatherer, joined[0], 0, joined_count[0], &k->fed[0], &k->over[0]);
+    feed_rest(&k->gatherer, joined[1], 1, joined_count[1], &k->fed[1], &k->over[1]);
     while (try_gatherer_next(k)) continue;
   }
   want("all words and breaks", k->given == gathered_count);
@@ -1395,7 +1399,7 @@ static void gatherer_sequence(void) {
   static struct gathering one;
   static uint32_t turn;
   uint32_t calls = 20 + below(400);
-  if (turn++ % 8 == 0) learn_gathered();
+  if (turn++ % 8 == 0) memcpy(joined, struck, sizeof joined), memcpy(joined_count, struck_count, sizeof joined_count), learn_gathered();
   while (calls-- > 0) {
     long before = allocations;
     switch (below(40)) {
