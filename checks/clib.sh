@@ -357,7 +357,7 @@ import interlaken as i
 library = "library/lib/libinterlaken.so"
 lanes = [open("thrice.lane.%d" % lane, "rb").read() for lane in (0, 1)]
 with i.Gatherer(open("damaged.plan", "rb").read(), library) as gatherer:
-    print(gatherer.feed(0, lanes[0]), gatherer.feed(0, lanes[0]), gatherer.next(), gatherer.feed(1, b""))
+    print(gatherer.feed(0, 3 * lanes[0]), gatherer.feed(0, lanes[0]), gatherer.next(), gatherer.feed(1, b""))
     gatherer.finish(0)
     for wrong in (lambda: gatherer.feed(0, b"a"), lambda: gatherer.finish(0), lambda: gatherer.feed(2, b"a"), lambda: gatherer.report(-1),
                   gatherer.close, lambda: gatherer.next(), lambda: gatherer.feed(0, b"a"), lambda: i.Gatherer(b"lanes,0", library)):
@@ -431,6 +431,7 @@ no count: -1
 no channel number: 65536
 no word: 18446744073709551616
 row 1: RANGE"
+  try_monitor
   holds 'examples/python' "$(python3 -B "$top/examples/python/packets.py" library/lib/libinterlaken.so damaged.plan damaged.lane.0 damaged.lane.1 2>&1)" "$printed"
 fi
 ends

@@ -87,9 +87,9 @@ def monitored(folder, library):
 
 
 def try_monitor(tally, folder, library):
-    """Lanes and a monitor: its findings are the events of `inspect` but the locks, and the spans of `receive` but the first and last,
-    between whose words a bit was inverted."""
-    from interlaken import LaneEvent, Span
+    """Lanes and a monitor: its findings are the events of `inspect` but the locks, the faults of `check` with lane and bit, and the spans
+    of `receive` but the first and last, between whose words a bit was inverted."""
+    from interlaken import LaneEvent, RuleFault, Span
 
     rows = make_many(folder)
     shown = [(int(lane), int(bit), event) for lane, bit, event in rows_of(folder + "/many.events.csv")[1:] if event != "lock"]
@@ -100,6 +100,13 @@ def try_monitor(tally, folder, library):
     of_lanes = [(event.first.lane, event.first.bit, names.get(event.what.kind.name, event.what.kind.name[4:].lower()))
                 for event in found if isinstance(event.what, LaneEvent)]
     tally.expect("findings of lanes", (sorted(of_lanes), len(of_lanes) > 0), (sorted(shown), True))
+    faults = [[str(event.what.word), event.what.rule.name.lower(), "" if event.what.channel is None else str(event.what.channel),
+               str(event.first.lane), str(event.first.bit)] for event in found if isinstance(event.what, RuleFault)]
+    for command in ("gather", "check"):
+        run(PROGRAM, command, "many.plan", folder=folder)
+    slots = run(TOP + "/tools/slots", "many.plan", "--faults", folder=folder)[1]
+    wanted = [row[:4] + row[5:] for row in (line.split(",") for line in slots.split("\n")[1:-1])]
+    tally.expect("findings of rules", (sorted(faults), len(faults) > 0), (sorted(wanted), True))
     spans = [event for event in found if isinstance(event.what, Span)]
     tally.expect("findings of spans", (len(spans), len(spans) > 0), (len(rows_of(folder + "/many.spans.csv")) - 3, True))
     for span in spans:

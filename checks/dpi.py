@@ -104,10 +104,29 @@ def make_events(folder):
     return [(int(lane), int(bit), 1 + KINDS.index(event)) for lane, bit, event in table_of(folder + "/long.events.csv")], counts
 
 
+def make_gathered(folder):
+    """What the gatherer of Python gives of the lanes, as the lines of the layer; checks/clib.sh tries it beside `gather`."""
+    from interlaken import GatheredBreak, GatheredWord, Gatherer
+
+    lanes, lines = [], []
+    for lane in (0, 1):
+        with open("%s/long.lane.%d" % (folder, lane), "rb") as file:
+            lanes.append(file.read())
+    with open(folder + "/long.plan", "rb") as file, Gatherer(file.read(), folder + "/dpi/library/lib/libinterlaken.so") as gatherer:
+        for one in gatherer.feed_all(lanes):
+            place = (one.at.group, one.at.index) if isinstance(one, (GatheredWord, GatheredBreak)) else ()
+            if isinstance(one, GatheredWord):
+                lines.append("gathered 1 %d %d 0 %d %d %d %d %x" % (one.kind, one.lane, *place, one.bit, one.number, one.word))
+            elif isinstance(one, GatheredBreak):
+                lines.append("gathered 2 0 0 %d %d %d 0 %d 0" % (one.why, *place, one.number))
+    return lines
+
+
 def try_layer(tally, folder):
     """The C layer alone, in drawn pieces and orders."""
     wanted = make_lanes(folder)
     events, counts = make_events(folder)
+    gathered = make_gathered(folder)
     faults = sorted((int(word), 1 + RULES.index(rule), channel) for word, rule, channel in make_words(folder))
     root = run("verilator", "--getenv", "VERILATOR_ROOT", folder=folder)[1].strip()
     header = ["-I%s/include/vltstd" % root, "-include", "dpi/obj_dir/Vtb_live__Dpi.h", "-Idpi/library/include"]
@@ -128,6 +147,8 @@ def try_layer(tally, folder):
         tally.expect(what + ": spans", [line for line in lines if line.startswith("span")], spans)
         tally.expect(what + ": lanes", [line for line in lines if line.startswith("lane")], wanted.lanes)
         tally.expect(what + ": inspected lanes", [line[len("inspected "):] for line in lines if line.startswith("inspected")], counts)
+        tally.expect(what + ": gathered lanes", [line[len("reported "):] for line in lines if line.startswith("reported")], counts)
+        tally.expect(what + ": gathered words", [line for line in lines if line.startswith("gathered")], gathered)
         shown = [tuple(map(int, found)) for found in re.findall(r"^shows (\d+) (\d+) (\d+)$", text, re.M)]
         tally.expect(what + ": events", sorted(shown, key=lambda event: event[0]), events)
         told = re.findall(r"^fault (\d+) (\d+) (\S+)$", text.replace(" -0\n", " -\n"), re.M)
@@ -267,13 +288,13 @@ def main():
         for bench in ("live", "drive", "monitor"):
             words = ["--lint-only", "-Wall", "--timing", "-f", bench + ".f", "--top-module", "tb_" + bench]
             tally.expect("lint of tb_" + bench, run("verilator", *words, folder=folder + "/dpi"), (0, ""))
+        sys.path.insert(0, TOP + "/examples/python")
         try_layer(tally, folder)
         try_drive(tally, folder + "/dpi")
         for shape, name in PLANS.items():
             if not os.path.exists(folder + "/dpi/" + name):
                 build(tally, folder + "/dpi", "live", name, shape)
             Bench(tally, folder, shape, name).try_all()
-        sys.path.insert(0, TOP + "/examples/python")
         try_monitor(tally, folder, run, lambda name, shape: build(tally, folder + "/dpi", "monitor", name, shape), PROGRAM)
         try_bare(tally, folder)
     return tally.end()

@@ -1,5 +1,5 @@
 """The part of checks/dpi.sh on tb_monitor: each planted bug of the device is found while it is sent, at the lane and the bit that the
-device says, as `inspect` and the Monitor of Python find it in the lanes that arrived; and without a bug there is no finding."""
+device says, as `inspect`, `check` and the Monitor of Python find it in the lanes that arrived; and without a bug there is no finding."""
 
 import glob
 import os
@@ -12,14 +12,16 @@ METAFRAMES = 2  # a bug is told in so many
 LANE_BUGS = {1: ("skip", "BAD_SKIP"), 2: ("diag", "BAD_DIAGNOSTIC"), 3: ("health", "HEALTH"), 4: ("balance", "BALANCE"),
              5: ("state", "BAD_STATE"), 6: ("sync", "BAD_SYNC"), 7: ("bad", "BAD_WORD"), 8: ("bad", "BAD_WORD")}
 # What is found if a bug is there from the first word on.
-START_BUGS = {6: "lane 1 bit N: INTERLAKEN_LANE_EVENT_UNFRAMED", 8: "lane 1: no lock", 9: "from the first word on: no verified control word"}
-PLAIN_CODES, WRONG_CRC24, BURST_CRC24, ERROR_END = 4, 9, 10, 11
+START_BUGS = {6: "lane 1 bit N: INTERLAKEN_LANE_EVENT_UNFRAMED", 8: "lane 1: no lock", 9: "lane 0 bit N: INTERLAKEN_RULE_CRC"}
+PLAIN_CODES, ERROR_END = 4, 11
+# The bugs of words that break a rule, with the rule of `check`, the name of interlaken.h, and whether the rule is on a channel.
+RULE_BUGS = {9: ("crc", "CRC", False), 10: ("crc", "CRC", False), 12: ("max", "MAX", True), 13: ("short", "SHORT", True),
+             14: ("calendar", "CALENDAR", False), 15: ("idle", "IDLE", False)}
 # A bench as verilator builds it: lanes, metaframe, Skip words, and bits of each lane at a clock.
 SHAPES = {(2, 32, 1, 1): "obj_monitor", (3, 40, 2, 67): "obj_monitor_other"}
 SAYS = re.compile(r"^bug \d+: the first wrong word is on lane (\d+), sent from bit (\d+) on$", re.M)
 FINDS = re.compile(r"^(.*), after (\d+) bits$", re.M)
-WORD = re.compile(r"lane (\d+) bit (\d+)")
-PREFIX = re.compile(r"INTERLAKEN_(LANE_EVENT|DROP|FAULT)_")
+PREFIX = re.compile(r"INTERLAKEN_(LANE_EVENT|RULE|DROP|FAULT)_")
 
 
 def skew_of(lane):
@@ -32,9 +34,11 @@ class Monitored:
 
     def __init__(self, tally, folder, run, program, shape):
         self.tally, self.folder, self.run, self.inspects = tally, folder, run, program
+        self.slots = os.path.dirname(folder) + "/tools/slots"
         self.lanes, self.metaframe, skips, self.width = shape
         self.bench, self.library = "dpi/%s/Vtb_monitor" % SHAPES[shape], folder + "/dpi/library/lib/libinterlaken.so"
-        rows = ["lanes,%d" % self.lanes, "metaframe,%d" % self.metaframe, "skips,%d" % skips, "burst_max,128", "channel,1", "channel,2"]
+        rows = ["lanes,%d" % self.lanes, "metaframe,%d" % self.metaframe, "skips,%d" % skips, "burst_max,128", "burst_short,64"]
+        rows += ["channel,1", "channel,2"]
         self.plan = "".join(row + "\n" for row in [*rows, "out,seen"])
         with open(folder + "/seen.plan", "w", encoding="utf-8") as file:
             file.write(self.plan)
@@ -60,6 +64,14 @@ class Monitored:
             rows = [line.split(",") for line in file.read().split("\n")[1:-1]]
         return [(int(lane), int(bit), event) for lane, bit, event in rows if event != "lock"]
 
+    def broken(self):
+        """The rules that `check` finds broken in the lanes that arrived, with the lane and the bit of the word."""
+        self.run(self.inspects, "gather", "seen.plan", folder=self.folder)
+        self.run(self.inspects, "check", "seen.plan", folder=self.folder)
+        text = self.run(self.slots, "seen.plan", "--faults", folder=self.folder)[1]
+        rows = [line.split(",") for line in text.split("\n")[1:-1]]
+        return [(int(row[3]), int(row[5]), row[1]) for row in rows]
+
     def found_in_python(self):
         """The first finding in these lanes, a byte of each at a time; None if there is none."""
         from interlaken.monitor import Finding, Monitor
@@ -73,10 +85,6 @@ class Monitored:
                     if isinstance(event, Finding):
                         return str(event)
         return None
-
-    def order(self, lane, bit):
-        """The place of a word among those of all lanes, by its lane and the bit at which it arrives."""
-        return (bit - skew_of(lane)) // CODE_BITS, lane
 
     def finding(self, what, *options):
         """What a run says that it sends wrong, with the bit at which that arrives; what it finds, and after how many bits. Python finds the
@@ -105,19 +113,26 @@ class Monitored:
         self.tally.expect(what + ": in time", self.is_in_time(bit, after), True)
         self.tally.expect(what + ": by inspect", rows[:1], [(on, bit, event)])
 
-    def try_word_bug(self, bug, start, wanted):
-        """A bug of words: what the receiver finds begins before the word that the device names, or there, and not long before it."""
-        what = "%s, bug %d from metaframe %d" % (self.what, bug, start)
-        sent, found, after = self.finding(what, "+bug=%d" % bug, "+from=%d" % start)
-        words = [(int(lane), int(bit)) for lane, bit in WORD.findall(found)]
-        self.tally.expect(what + ": its finding", bool(re.fullmatch(wanted, found)), True)
-        self.tally.expect(what + ": in time", sent is not None and self.is_in_time(sent[1], after), True)
-        if sent and words:
-            first, wrong = self.order(*words[0]), self.order(*sent)
-            self.tally.expect(what + ": from there on", first == wrong if bug == ERROR_END else first < wrong, True)
-            self.tally.expect(what + ": not long before", wrong[0] - first[0] < self.metaframe, True)
-            self.tally.expect(what + ": up to there", all(self.order(*word) > wrong for word in words[1:]), True)
+    def try_rule_bug(self, bug, start):
+        """A bug of words that breaks a rule: the first finding is the word that the device names, and `check` finds it first."""
+        what, (rule, name, on_channel) = "%s, bug %d from metaframe %d" % (self.what, bug, start), RULE_BUGS[bug]
+        sent, found, after = self.finding(what, "+bug=%d" % bug, "+from=%d" % start, "+packets=400")
+        lane, bit = sent or (0, 0)
+        wanted = "lane %d bit %d: INTERLAKEN_RULE_%s" % (lane, bit, name) + (" on channel [12]" if on_channel else "")
+        self.tally.expect(what + ": its finding", (bool(re.fullmatch(wanted, found)), found), (True, found))
+        self.tally.expect(what + ": in time", self.is_in_time(bit, after), True)
+        self.tally.expect(what + ": by check", self.broken()[:1], [(lane, bit, rule)])
         self.tally.expect(what + ": no lane shows it", self.shown(), [])
+
+    def try_error_end(self):
+        """Packets that end with an error break no rule: the receiver finds the first of them at its end."""
+        what = "%s, bug %d" % (self.what, ERROR_END)
+        sent, found, after = self.finding(what, "+bug=%d" % ERROR_END)
+        lane, bit = sent or (0, 0)
+        wanted = "from lane %d bit %d on: INTERLAKEN_DROP_SENDER_ERROR on channel N" % (lane, bit)
+        self.tally.expect(what + ": its finding", re.sub("[12]$", "N", found), wanted)
+        self.tally.expect(what + ": in time", self.is_in_time(bit, after), True)
+        self.tally.expect(what + ": nothing else shows it", (self.broken(), self.shown()), ([], []))
 
     def try_flip(self, lane, bit):
         """A bit that is inverted on its way."""
@@ -136,17 +151,14 @@ class Monitored:
         status, text = self.call()
         self.tally.expect(self.what + ": status without a bug", status, 0)
         self.tally.expect(self.what + ": no finding", re.findall(r"^no finding, (\d+) packets$", text, re.M), ["40"])
-        self.tally.expect(self.what + ": nothing shown", (self.shown(), self.found_in_python()), ([], None))
+        self.tally.expect(self.what + ": nothing shown", (self.shown(), self.broken(), self.found_in_python()), ([], [], None))
         for bug in LANE_BUGS:
             for on in range(self.lanes):
                 self.try_lane_bug(bug, on)
-        drop = r"from lane \d+ bit \d+ on: INTERLAKEN_DROP_%s on channel [12]"
-        span = r"between lane \d+ bit \d+ and lane \d+ bit \d+: INTERLAKEN_FAULT_CRC"
-        self.try_word_bug(WRONG_CRC24, 8, drop % "CRC")
-        self.try_word_bug(WRONG_CRC24, 5, r"from lane \d+ bit \d+ on: no verified control word")
-        self.try_word_bug(BURST_CRC24, 5, span)
-        self.try_word_bug(BURST_CRC24, 8, span + "|" + drop % "CRC")
-        self.try_word_bug(ERROR_END, 8, drop % "SENDER_ERROR")
+        for bug in RULE_BUGS:
+            for start in (5, 8):
+                self.try_rule_bug(bug, start)
+        self.try_error_end()
         self.try_starts()
         draw = random.Random(2)
         for lane in range(self.lanes):

@@ -173,6 +173,79 @@ try_examples() {
   holds 'loop with an inverted bit' "$? $(grep '^spans' looped.txt)" '0 spans 3 far, 3 near'
 }
 
+# Passes if the monitor in C tells of these lanes what `inspect`, `gather` with `check`, and `receive` find in their files. Each table is
+# put into its lines.
+same_as_tables() { # WHAT PLAN PIECE
+  local what="the monitor of $1, pieces of $3" plan=$2 out flow
+  out=$(awk -F, '$1 == "out" { print $2 }' "$plan")
+  flow=$(awk -F, '$1 == "flow" { print $2 }' "$plan")
+  if [ -n "$flow" ]; then python3 -B "$top/checks/clib/heard.py" "$flow" heard.flow && flow=heard.flow; fi
+  "$program" receive "$plan" >received.txt && "$program" inspect "$plan" >/dev/null && "$program" gather "$plan" >/dev/null &&
+    "$program" check "$plan" >/dev/null || gives_up "the tables of $plan are not made"
+  INTERLAKEN_PROGRAM=$program "$top/tools/slots" "$plan" --faults >slots.csv 2>&1
+  # No flow is no word.
+  # shellcheck disable=SC2086
+  ./monitor "$plan" "$out" "$3" lanes,rules,packets,drops,spans $flow >told.txt 2>&1
+  holds "$what: rules" "$(grep '^rule ' told.txt | LC_ALL=C sort)" "$(awk -F, 'NR == 1 && $0 != "word,rule,channel,lane,metaframe,bit"
+    NR > 1 { print "rule", $2, "word", $1 ($3 == "" ? "" : " channel " $3), "lane", $4, "bit", $6 }' slots.csv | LC_ALL=C sort)"
+  holds "$what: lanes" "$(grep '^lane ' told.txt | LC_ALL=C sort -s -n -k 2,2)" "$(awk -F, 'NR > 1 { print "lane", $1, "bit", $2, $3 }' "$out.events.csv")"
+  holds "$what: spans" "$(grep '^span ' told.txt | cut -d ' ' -f 2)" "$(sed 1d "$out.spans.csv" | cut -d , -f 5)"
+  holds "$what: drops" "$(grep '^dropped ' told.txt | cut -d ' ' -f 2 | LC_ALL=C sort | uniq -c | awk '{ print $2 "=" $1 }')" \
+    "$(grep '^dropped ' received.txt | tr ' ' '\n' | grep '=[1-9]' | LC_ALL=C sort)"
+  holds "$what: packets" "$(awk '$1 == "packet" { n[$3]++; b[$3] += $5 } END { for (c in n) print "got channel=" c " packets=" n[c] " bytes=" b[c] }' told.txt | LC_ALL=C sort)" \
+    "$(grep '^got ' received.txt | grep -v packets=0 | LC_ALL=C sort)"
+  holds "$what: no other line" "$(grep -v -e '^lane ' -e '^rule ' -e '^span ' -e '^packet ' -e '^dropped ' told.txt)" ''
+}
+
+# The monitor in C: lanes of the program with damage, generated cases, and lanes of words with planted faults, which break each kind of rule.
+try_monitor() {
+  local seed bytes limit rules
+  cc -std=c99 "${strict[@]}" "${sanitize[@]}" -o monitor "$top/examples/c/monitor.c" library/lib/libinterlaken.a || gives_up 'examples/c/monitor.c is not compiled'
+  holds 'monitor is short' "$(($(wc -l <"$top/examples/c/monitor.c") < 150))" 1
+  holds 'monitor without words' "$(./monitor 2>&1 | grep -c '^usage: ')" 1
+  for plan in damaged.plan seen.plan; do same_as_tables "$plan" "$plan" 1000; done
+  for seed in $(seq 1 "${CASES:-12}"); do
+    rm -f g*
+    "$program" generate "$seed" g >/dev/null 2>&1
+    [ $? -le 3 ] && [ -f g.plan ] || continue
+    same_as_tables "case $seed" g.plan $((1 + seed * 37 % 500))
+  done
+  rm -f g* rules.txt
+  for seed in $(seq 1 "${CASES:-12}"); do
+    rm -f planted* again*
+    # The stream eight times over, changed; `stripe` takes no bad word.
+    for _ in 1 2 3 4 5 6 7 8; do cat words.words; done >many.words
+    python3 -B "$top/checks/clib/changed.py" many.words planted.words planted.flow "$seed"
+    python3 -c 'data = open("planted.words", "rb").read()
+open("planted.words", "wb").write(b"".join(data[at : at + 9] for at in range(0, len(data), 9) if data[at] != 3))'
+    sed 's/^out,.*/out,planted/; /^flow,/d; /^schedule,/d' words.plan >planted.plan
+    sed 's/^out,.*/out,again\nflow,planted.flow/; /^flow,/d; /^schedule,/d' words.plan >again.plan
+    "$program" stripe planted.plan >/dev/null || gives_up 'stripe of changed words fails'
+    mv planted.lane.0 again.lane.0 && mv planted.lane.1 again.lane.1
+    same_as_tables "planted faults, seed $seed" again.plan $((1 + seed * 53 % 4000))
+    cut -d , -f 2 slots.csv >>rules.txt
+    # The same lanes, late and dark for a while, so that there are several epochs.
+    printf '%s\n' "skew,1,$((seed * 31 % 300))" "dark,0,$((20000 + seed * 997 % 9000)),2500" "dark,1,$((70000 + seed * 331 % 9000)),1800" >dark.schedule
+    sed 's/^flow,.*/schedule,dark.schedule/' again.plan >dark.plan
+    "$program" damage dark.plan >/dev/null || gives_up 'damage of changed words fails'
+    sed 's/^out,.*/out,again.damaged/' again.plan >dark.plan
+    same_as_tables "lanes that are dark, seed $seed" dark.plan $((1 + seed * 53 % 4000))
+    holds "several epochs of dark lanes, seed $seed" "$(($("$program" gather dark.plan | sed -n 's/^epochs //p') >= 2))" 1
+  done
+  rules=$(sed '/^rule$/d' rules.txt | LC_ALL=C sort -u | wc -l)
+  holds 'kinds of rules that were broken' "$((rules >= 14))" 1
+  # What is told of lanes that are cut off are the first of the lines, with all that are two metaframes of 32 words or more before the end.
+  ./monitor again.plan again 1 rules,lanes >whole.txt
+  for bytes in 3000 5001 8007; do
+    for lane in 0 1; do head -c "$bytes" again.lane.$lane >cut.lane.$lane; done
+    ./monitor again.plan cut 1 rules,lanes >cut.txt
+    limit=$((8 * bytes - 2 * 32 * 67))
+    holds "the monitor of $bytes bytes: the first lines" "$(cat cut.txt)" "$(head -n "$(wc -l <cut.txt)" whole.txt)"
+    holds "the monitor of $bytes bytes: in time" "$(awk -v limit="$limit" '{ for (i = 1; i < NF; i++) if ($i == "bit" && $(i + 1) < limit) print }' cut.txt)" \
+      "$(awk -v limit="$limit" '{ for (i = 1; i < NF; i++) if ($i == "bit" && $(i + 1) < limit) print }' whole.txt)"
+  done
+}
+
 # All of the installed files, and that no other file is written over or removed.
 try_install() {
   local prefix=$folder/prefix of_list wanted

@@ -4,15 +4,15 @@
  *     layer PLAN SEED WORDS LANE..
  *
  * PLAN is a plan file, WORDS a words file, and each LANE the file of a lane, from lane 0 on. It prints a line for each packet, fault span
- * and dropped piece and for each lane, for each event of a lane, for each fault of the words, and a line that begins with `wrong` for each
- * call with another result than it should have. */
+ * and dropped piece and for each lane, for each event of a lane, for each word of the lanes, for each fault of the words, and a line that
+ * begins with `wrong` for each call with another result than it should have. */
 #include <stdint.h>
 #include <stdio.h>
 #include <stdlib.h>
 #include <string.h>
 
 enum { DONE, NO_LANE = 3, FINISHED, TOO_MANY, NO_PACKET, NO_RECEIVER, NO_DAMAGE = 9, OUT_OF_RANGE, PASSED, NO_TRANSMITTER, NO_CHANNEL,
-       BAD_LENGTH, NO_INSPECTOR, NO_CHECKER, WAITING, NO_ROOM = 100 };
+       BAD_LENGTH, NO_INSPECTOR, NO_CHECKER, WAITING, NO_GATHERER, NO_ROOM = 100 };
 enum { NONE, PACKET, DROPPED, SPAN, FLOW, ENDED };
 
 struct file {
@@ -509,6 +509,85 @@ static void try_inspector(const char *plan, const struct file *lanes, unsigned c
   try_no_inspector(inspector);
 }
 
+static int gatherer_report(void *gatherer, unsigned lane, unsigned long long *n) {
+  return interlaken_dpi_gatherer_report(gatherer, lane, &n[0], &n[1], &n[2], &n[3], &n[4], &n[5], &n[6], &n[7], &n[8]);
+}
+
+static int next_gathered(void *gatherer, unsigned *u, unsigned long long *n) {
+  return interlaken_dpi_next_gathered(gatherer, &u[0], &u[1], &u[2], &u[3], &u[4], &u[5], &n[0], &n[1], &n[2], &n[3]);
+}
+
+/* All that a handle without a gatherer answers. */
+static void try_no_gatherer(void *gatherer) {
+  unsigned u[6] = {9, 9, 9, 9, 9, 9};
+  unsigned long long n[9] = {9, 9, 9, 9};
+  want("close of no gatherer", interlaken_dpi_close_gatherer(gatherer), NO_GATHERER);
+  want("bits of no gatherer", interlaken_dpi_gather_bits(gatherer, 0, 1, 1), NO_GATHERER);
+  want("finish of no gatherer", interlaken_dpi_finish_gathering(gatherer, 0), NO_GATHERER);
+  want("a word of no gatherer", next_gathered(gatherer, u, n), NO_GATHERER);
+  want("the word of none", u[0] == 0 && u[2] == 0 && u[4] == 0 && n[0] == 0 && n[3] == 0, 1);
+  want("report of no gatherer", gatherer_report(gatherer, 0, n), NO_GATHERER);
+}
+
+/* Prints the words and breaks that there are; 1 if the end is among them. */
+static int show_gathered(void *gatherer) {
+  unsigned u[6];
+  unsigned long long n[4];
+  for (;;) {
+    want("next_gathered", next_gathered(gatherer, u, n), DONE);
+    want("the place", (int)u[4], u[0] == 1 || u[0] == 2);
+    if (u[0] == 0 || u[0] == 3) return u[0] == 3;
+    printf("gathered %u %u %u %u %llu %u %llu %llu %llx\n", u[0], u[1], u[2], u[3], n[0], u[5], n[1], n[2], n[3]);
+  }
+}
+
+/* Bits of a lane up to its end, or as long as there is room; 1 if the lane is finished. */
+static int gather_some(void *gatherer, struct file *file, unsigned lane) {
+  unsigned long long bits;
+  unsigned most = 1 + below(64), pieces = below(1500), length;
+  int result = DONE;
+  while (result == DONE && pieces-- > 0 && file->fed < file->bits) {
+    length = piece(file, 1 + below(most), &bits);
+    result = interlaken_dpi_gather_bits(gatherer, lane, bits, length);
+    if (result == DONE) file->fed += length;
+    else want("gather_bits", result, NO_ROOM), puts("no room of a gatherer");
+  }
+  if (result != DONE || file->fed < file->bits) return 0;
+  result = interlaken_dpi_finish_gathering(gatherer, lane);
+  if (result != NO_ROOM) want("finish_gathering", result, DONE);
+  return result == DONE;
+}
+
+/* Lanes through a gatherer, in drawn pieces and orders. */
+static void try_gatherer(const char *plan, const struct file *lanes, unsigned count) {
+  static struct file own[64];
+  unsigned cause, row, key, lane;
+  unsigned long long n[9];
+  void *gatherer = interlaken_dpi_open_gatherer("lanes,x\n", &cause, &row, &key);
+  want("a refused plan of a gatherer", gatherer == NULL && cause == 4 && row == 1, 1);
+  gatherer = interlaken_dpi_open_gatherer(plan, &cause, &row, &key);
+  if (gatherer == NULL) exit(1);
+  memcpy(own, lanes, count * sizeof *own);
+  want("bits of no lane to gather", interlaken_dpi_gather_bits(gatherer, count, 1, 1), NO_LANE);
+  want("65 bits to gather", interlaken_dpi_gather_bits(gatherer, 0, 1, 65), TOO_MANY);
+  want("finish of no lane to gather", interlaken_dpi_finish_gathering(gatherer, ~0u), NO_LANE);
+  want("report of no lane to gather", gatherer_report(gatherer, count, n), NO_LANE);
+  while (!show_gathered(gatherer)) {
+    lane = below(count);
+    if (!own[lane].over) own[lane].over = gather_some(gatherer, &own[lane], lane);
+  }
+  want("a second end", show_gathered(gatherer), 0);
+  want("bits of a finished lane to gather", interlaken_dpi_gather_bits(gatherer, 0, 1, 1), FINISHED);
+  want("finish of a finished lane to gather", interlaken_dpi_finish_gathering(gatherer, 0), FINISHED);
+  for (lane = 0; lane < count; lane++) {
+    want("gatherer_report", gatherer_report(gatherer, lane, n), DONE);
+    printf("reported %u locks=%llu lost=%llu unframed=%llu ", lane, n[0], n[3], n[4]);
+    printf("bad=%llu sync=%llu state=%llu diag=%llu\n", n[5], n[6], n[7], n[8]);
+  }
+  want("close_gatherer", interlaken_dpi_close_gatherer(gatherer), DONE);
+  try_no_gatherer(gatherer);
+}
+
 /* All that a handle without a checker answers. */
 static void try_no_checker(void *checker) {
   unsigned u[3] = {9, 9, 9};
@@ -581,8 +660,10 @@ int main(int argc, char **argv) {
   try_no_damage(NULL);
   try_no_inspector(NULL);
   try_no_checker(NULL);
+  try_no_gatherer(NULL);
   try_damage();
   try_inspector((const char *)plan.at, lanes, count);
+  try_gatherer((const char *)plan.at, lanes, count);
   try_checker((const char *)plan.at, &words);
   try_transmitter((const char *)plan.at, count);
   try_plan("lanes,2\nlanes,3\n", 6, 2, 0);

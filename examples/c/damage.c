@@ -60,11 +60,8 @@ int main(int argc, char **argv) {
   must("lanes", interlaken_damage_new(&damage, lanes));
   rows = load(argv[1]);
   for (uint32_t lane = 0; lane < lanes; lane++) {
-    char name[4096];
-    struct bytes file;
+    struct bytes file = load_lane(argv[2], lane);
     FILE *out;
-    snprintf(name, sizeof name, "%s.lane.%" PRIu32, argv[2], lane);
-    file = load(name);
     give_rows(&damage, (const char *)rows.at, lane);
     out = create(argv[3], "lane", lane);
     pass_lane(&damage, lane, file, out);

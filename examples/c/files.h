@@ -49,6 +49,13 @@ static inline struct bytes load(const char *name) {
   return file;
 }
 
+/* Reads the file of a lane whole. */
+static inline struct bytes load_lane(const char *prefix, uint32_t number) {
+  char name[4096];
+  snprintf(name, sizeof name, "%s.lane.%" PRIu32, prefix, number);
+  return load(name);
+}
+
 /* Creates the file PREFIX.MIDDLE.NUMBER, or PREFIX.NUMBER.pcap if there is no middle. */
 static inline FILE *create(const char *prefix, const char *middle, uint32_t number) {
   char name[4096];

@@ -1,5 +1,5 @@
-"""A test of cocotb: the transmitter of examples/dpi as the device, and the receiver of the C library beside it in Python, alone and together
-with the inspector.
+"""A test of cocotb: the transmitter of examples/dpi as the device, and the receiver of the C library beside it in Python, alone and
+together with the inspector, the gatherer and the checker.
 
 INTERLAKEN_LIBRARY names the shared library that tools/library makes. Another device has its place at `dut`: what the receiver needs is
 a bit of each lane at each clock at which `valid` is 1, and the plan.
@@ -94,7 +94,7 @@ async def first_finding(dut, flip: int = -1):
 
 @cocotb.test()
 async def nothing_is_found(dut):
-    """Neither the receiver nor the inspector finds anything wrong. With PLUSARGS=+bug=1 the device has a bug, and this test names it."""
+    """The receiver, the inspector and the checker find nothing wrong. With PLUSARGS=+bug=1 the device has a bug, and this test names it."""
     finding, _ = await first_finding(dut)
     assert finding is None, finding
 

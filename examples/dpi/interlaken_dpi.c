@@ -2,8 +2,8 @@
  * interlaken_dpi.sv imports, over the C library of interlaken.h. It is C99 and C++. Of a simulator it needs svdpi.h alone, which each
  * has. The calls are said in interlaken_dpi.sv.
  *
- * A handle is the address of a `live`, a `drive`, a `hurt`, a `look` or a `judge`, which stays until the simulation ends: a call on a
- * closed one has the result NO_RECEIVER, NO_TRANSMITTER, NO_DAMAGE, NO_INSPECTOR or NO_CHECKER, as one on null has. */
+ * A handle is the address of a `live`, a `drive`, a `hurt`, a `look`, a `judge` or a `crop`, which stays until the simulation ends: a call
+ * on a closed one has the result NO_RECEIVER, NO_TRANSMITTER, NO_DAMAGE, NO_INSPECTOR, NO_CHECKER or NO_GATHERER, as one on null has. */
 #include "interlaken.h"
 #include "svdpi.h"
 #include <stdlib.h>
@@ -72,6 +72,15 @@ struct judge {
 
 static struct judge *judges;
 
+struct crop {
+  interlaken_gatherer gatherer;
+  struct lane lanes[LANES];
+  unsigned count; /* of lanes; 0 if it is closed */
+  struct crop *other;
+};
+
+static struct crop *crops;
+
 #ifdef __cplusplus
 extern "C" {
 #endif
@@ -135,6 +144,18 @@ int interlaken_dpi_check_flow(void *checker, unsigned long long word);
 int interlaken_dpi_finish_words(void *checker);
 int interlaken_dpi_next_fault(void *checker, unsigned int *rule, unsigned int *has_channel, unsigned int *channel,
                               unsigned long long *number);
+
+void *interlaken_dpi_open_gatherer(const char *plan, unsigned int *cause, unsigned int *row, unsigned int *key);
+int interlaken_dpi_close_gatherer(void *gatherer);
+int interlaken_dpi_gather_bits(void *gatherer, unsigned int lane, unsigned long long bits, unsigned int count);
+int interlaken_dpi_finish_gathering(void *gatherer, unsigned int lane);
+int interlaken_dpi_next_gathered(void *gatherer, unsigned int *kind, unsigned int *word_kind, unsigned int *lane, unsigned int *why,
+                                 unsigned int *known, unsigned int *index, unsigned long long *group, unsigned long long *bit,
+                                 unsigned long long *number, unsigned long long *word);
+int interlaken_dpi_gatherer_report(void *gatherer, unsigned int lane, unsigned long long *locks, unsigned long long *has_first,
+                                   unsigned long long *first, unsigned long long *lost, unsigned long long *unframed,
+                                   unsigned long long *bad, unsigned long long *sync, unsigned long long *state,
+                                   unsigned long long *diag);
 
 #ifdef __cplusplus
 }
@@ -713,5 +734,104 @@ int interlaken_dpi_next_fault(void *checker, unsigned int *rule, unsigned int *h
   *has_channel = fault.has_channel;
   *channel = fault.channel;
   *number = fault.word;
+  return (int)result;
+}
+
+void *interlaken_dpi_open_gatherer(const char *plan, unsigned int *cause, unsigned int *row, unsigned int *key) {
+  struct crop *crop = (struct crop *)calloc(1, sizeof *crop);
+  interlaken_refusal refusal = {0, 0, 0};
+  interlaken_plan numbers;
+  if (crop == NULL || interlaken_plan_read((const uint8_t *)plan, strlen(plan), &numbers, &refusal) != INTERLAKEN_DONE ||
+      interlaken_gatherer_new(&crop->gatherer, (const uint8_t *)plan, strlen(plan), &refusal) != INTERLAKEN_DONE) {
+    free(crop);
+    crop = NULL;
+  } else {
+    crop->count = numbers.lanes;
+    crop->other = crops;
+    crops = crop;
+  }
+  write_refusal(&refusal, cause, row, key);
+  return crop;
+}
+
+int interlaken_dpi_close_gatherer(void *gatherer) {
+  struct crop *crop = (struct crop *)gatherer;
+  if (crop == NULL) return INTERLAKEN_NO_GATHERER;
+  crop->count = 0;
+  return (int)interlaken_gatherer_free(&crop->gatherer);
+}
+
+/* The lane of this number, if the handle has a gatherer with such a lane that is not finished. */
+static int find_gathered(struct crop *crop, unsigned int number, struct lane **lane) {
+  if (crop == NULL || crop->count == 0) return INTERLAKEN_NO_GATHERER;
+  if (number >= crop->count) return INTERLAKEN_NO_LANE;
+  *lane = &crop->lanes[number];
+  return (*lane)->finished ? INTERLAKEN_FINISHED : INTERLAKEN_DONE;
+}
+
+/* Has the gatherer take the whole bytes: NO_ROOM if it does not take all. */
+static int push_gathered(struct crop *crop, unsigned int number, struct lane *lane) {
+  size_t taken = 0;
+  uint32_t result;
+  if (lane->count == 0) return INTERLAKEN_DONE;
+  result = interlaken_gatherer_feed(&crop->gatherer, number, lane->bytes, lane->count, &taken);
+  return result == INTERLAKEN_DONE ? drop_bytes(lane, taken) : (int)result;
+}
+
+int interlaken_dpi_gather_bits(void *gatherer, unsigned int number, unsigned long long bits, unsigned int count) {
+  struct crop *crop = (struct crop *)gatherer;
+  struct lane *lane;
+  int result = find_gathered(crop, number, &lane);
+  if (result != INTERLAKEN_DONE) return result;
+  if (count > 64) return INTERLAKEN_TOO_MANY;
+  result = push_gathered(crop, number, lane);
+  if (result != INTERLAKEN_DONE) return result;
+  put_bits(lane, bits, count);
+  result = push_gathered(crop, number, lane);
+  return result == NO_ROOM ? INTERLAKEN_DONE : result; /* what it did not take waits here */
+}
+
+int interlaken_dpi_finish_gathering(void *gatherer, unsigned int number) {
+  struct crop *crop = (struct crop *)gatherer;
+  struct lane *lane;
+  int result = find_gathered(crop, number, &lane);
+  if (result == INTERLAKEN_DONE) result = push_gathered(crop, number, lane);
+  if (result == INTERLAKEN_DONE) fill_byte(lane), result = push_gathered(crop, number, lane);
+  if (result == INTERLAKEN_DONE) result = (int)interlaken_gatherer_finish(&crop->gatherer, number);
+  if (result == INTERLAKEN_DONE) lane->finished = 1;
+  return result;
+}
+
+int interlaken_dpi_next_gathered(void *gatherer, unsigned int *kind, unsigned int *word_kind, unsigned int *lane, unsigned int *why,
+                                 unsigned int *known, unsigned int *index, unsigned long long *group, unsigned long long *bit,
+                                 unsigned long long *number, unsigned long long *word) {
+  struct crop *crop = (struct crop *)gatherer;
+  interlaken_gathered found;
+  uint32_t result = INTERLAKEN_NO_GATHERER;
+  memset(&found, 0, sizeof found);
+  if (crop != NULL) result = interlaken_gatherer_next(&crop->gatherer, &found);
+  *kind = found.kind;
+  *word_kind = found.word_kind;
+  *lane = found.lane;
+  *why = found.why;
+  *known = found.at.known;
+  *index = found.at.index;
+  *group = found.at.group;
+  *bit = found.bit;
+  *number = found.number;
+  *word = found.word;
+  return (int)result;
+}
+
+int interlaken_dpi_gatherer_report(void *gatherer, unsigned int lane, unsigned long long *locks, unsigned long long *has_first,
+                                   unsigned long long *first, unsigned long long *lost, unsigned long long *unframed,
+                                   unsigned long long *bad, unsigned long long *sync, unsigned long long *state,
+                                   unsigned long long *diag) {
+  struct crop *crop = (struct crop *)gatherer;
+  interlaken_report report;
+  uint32_t result = INTERLAKEN_NO_GATHERER;
+  memset(&report, 0, sizeof report);
+  if (crop != NULL) result = interlaken_gatherer_report(&crop->gatherer, lane, &report);
+  write_report(&report, locks, has_first, first, lost, unframed, bad, sync, state, diag);
   return (int)result;
 }

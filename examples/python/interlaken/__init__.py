@@ -35,7 +35,7 @@ The numbers of a plan, and the lane and bit of a word: of one that came, and of 
             ...
 
 Where lanes come live, call `feed` for each, and take `events()` after each: it takes no byte of a lane whose events are due.
-interlaken.monitor has a receiver and an inspector over the same bytes, as one stream of findings.
+interlaken.monitor has a receiver, an inspector, and a gatherer with a checker over the same bytes, as one stream of findings.
 
     with Gatherer(plan, library="lib/libinterlaken.so") as gatherer:
         for word in gatherer.feed_all(lanes):

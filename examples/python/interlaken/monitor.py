@@ -1,4 +1,5 @@
-"""What is wrong with the lanes of a device, while it runs: a receiver and an inspector over the same bytes, as one stream.
+"""What is wrong with the lanes of a device, while it runs: a receiver, an inspector, and a gatherer with a checker over the same bytes, as
+one stream.
 
     with Monitor(plan, library="lib/libinterlaken.so") as monitor:
         for event in monitor.feed_all(lanes):
@@ -6,7 +7,9 @@
                 print(event)
 
 Where bytes come live, call `feed` for each lane, and take `events()` after each. Each Finding has a lane and a bit of it, as far as there
-is one. The other events are the Packet and Flow of the receiver.
+is one. The other events are the Packet and Flow of the receiver. The words are checked from the first group of aligned lanes on: if the
+device sends bursts by then, rules may be told that the words before would explain. What the far end turns off is not in the lanes: pass its
+verified control words to `flow`, or no word breaks the rule OFF.
 """
 
 from __future__ import annotations
@@ -15,7 +18,29 @@ from collections import deque
 from dataclasses import dataclass
 from typing import Iterator, Optional, Sequence
 
-from . import Drop, Dropped, Event, Fault, Flow, Inspector, LaneEvent, LaneEventKind, Packet, Place, Plan, Receiver, Span, _Bits
+from . import (
+    Checker,
+    Drop,
+    Dropped,
+    Event,
+    Fault,
+    Flow,
+    Gathered,
+    GatheredBreak,
+    GatheredWord,
+    Gatherer,
+    Inspector,
+    LaneEvent,
+    LaneEventKind,
+    Packet,
+    Place,
+    Plan,
+    Receiver,
+    RuleFault,
+    Span,
+    WordKind,
+    _Bits,
+)
 
 _CODE_BITS = 67
 
@@ -40,10 +65,11 @@ class Silence:
 
 @dataclass(frozen=True)
 class Finding:
-    """What is wrong. `first` is the word that shows it if that is a LaneEvent. Otherwise it is the last control word that was verified
-    before, and `last` the first one after a Span: what is wrong is between them. Each is None if there is none."""
+    """What is wrong. `first` is the word that shows it if that is a LaneEvent, or breaks the rule of a RuleFault. Otherwise it is the last
+    control word that was verified before, and `last` the first one after a Span: what is wrong is between them. Each is None if there is
+    none."""
 
-    what: LaneEvent | Span | Dropped | Silence
+    what: LaneEvent | RuleFault | Span | Dropped | Silence
     first: Optional[Word]
     last: Optional[Word] = None
 
@@ -51,6 +77,9 @@ class Finding:
         since = "from %s on" % (self.first or "the first word")
         if isinstance(self.what, LaneEvent):
             return "%s: %s" % (self.first, self.what.kind.name)
+        if isinstance(self.what, RuleFault):
+            on = "" if self.what.channel is None else " on channel %d" % self.what.channel
+            return "%s: %s%s" % (self.first, self.what.rule.name, on)
         if isinstance(self.what, Dropped):
             return "%s: %s on channel %d" % (since, self.what.why.name, self.what.channel)
         if isinstance(self.what, Span):
@@ -59,12 +88,17 @@ class Finding:
 
 
 class Monitor:
-    """A receiver and an inspector of the lanes of a plan. As a context manager it is closed at the end."""
+    """A receiver, an inspector, and a gatherer with a checker of the lanes of a plan. As a context manager it is closed at the end."""
 
     def __init__(self, plan: bytes, library: str = "libinterlaken.so"):
         """`plan` is the text of a plan file, and `library` the path of the shared library."""
         self.plan = Plan(plan, library)
         self.receiver, self.inspector = Receiver(plan, library), Inspector(plan, library)
+        self.gatherer, self.checker = Gatherer(plan, library), Checker(plan, library)
+        self._held = [b""] * self.plan.lanes  # What the gatherer has not taken of a lane,
+        self._finished: set[int] = set()  # the lanes that are finished for it once it has,
+        self._words: dict[int, Optional[Word]] = {}  # the last two words that were checked, by their numbers,
+        self._gap: Optional[GatheredBreak] = None  # and the end of the last epoch, until a word comes.
         self._due: deque[Finding] = deque()
         self._bits: dict[int, _Bits] = {}
         self._fed = [0] * self.plan.lanes
@@ -80,9 +114,9 @@ class Monitor:
         self.close()
 
     def close(self) -> None:
-        """Frees both."""
-        self.receiver.close()
-        self.inspector.close()
+        """Frees them."""
+        for each in self.receiver, self.inspector, self.gatherer, self.checker:
+            each.close()
 
     def feed(self, lane: int, data: bytes) -> int:
         """Feeds a lane with the next of its bytes, as many as the ring of the receiver has room for, and returns how many."""
@@ -93,7 +127,41 @@ class Monitor:
             for event in self.inspector.events():
                 self._show(event)
         self._fed[lane] += count
+        self._held[lane] += data[:count]
+        self._gather()
         return count
+
+    def flow(self, word: int) -> None:
+        """Passes on a control word of the far end that was verified; 0 after a fault span. It counts from the next word of the lanes on."""
+        self.checker.flow(word)
+
+    def _gather(self) -> None:
+        """Has the gatherer take what it has room for, and the checker the words that it knows then."""
+        for lane, held in enumerate(self._held):
+            if held:
+                self._held[lane] = held[self.gatherer.feed(lane, held) :]
+            if lane in self._finished and not self._held[lane]:
+                self._finished.discard(lane)
+                self.gatherer.finish(lane)
+        for one in self.gatherer.gathered():
+            self._check(one)
+
+    def _check(self, one: Gathered) -> None:
+        """Checks a word. If it begins an epoch after another one, a bad word stands for what is missing between."""
+        if isinstance(one, GatheredBreak):
+            self._gap = one
+        elif isinstance(one, GatheredWord):
+            if self._gap is not None:
+                self._judge(WordKind.BAD, 0, self._gap.number, None)
+            self._gap = None
+            self._judge(one.kind, one.word, one.number, Word(one.lane, one.bit))
+
+    def _judge(self, kind: WordKind, word: int, number: int, at: Optional[Word]) -> None:
+        self._words = {number - 1: self._words.get(number - 1), number: at}
+        self.checker.word(kind, word)
+        for fault in self.checker.faults():
+            if (broken := self._words[fault.word]) is not None:
+                self._due.append(Finding(fault, broken))
 
     def feed_bits(self, lane: int, bits: int, count: int) -> bool:
         """Feeds a lane with its next `count` bits: those of a number, the highest first. Up to seven bits wait for the next. False if the ring of
@@ -114,6 +182,8 @@ class Monitor:
         """No further byte of this lane comes. Bits that do not fill a byte are left out."""
         self.receiver.finish(lane)
         self.inspector.finish(lane)
+        self._finished.add(lane)
+        self._gather()
 
     def feed_all(self, lanes: Sequence[bytes]) -> Iterator[Packet | Flow | Finding]:
         """Feeds these lanes, all that the plan has and of which nothing was fed, to their ends, and yields what there is as it comes."""
@@ -130,7 +200,8 @@ class Monitor:
                 raise ValueError("%d lanes are fewer than the plan has" % len(lanes))
 
     def events(self) -> Iterator[Packet | Flow | Finding]:
-        """What there is so far. What the lanes show comes first, and then what the receiver makes of them."""
+        """What there is so far. What the lanes show and the rules that words break come first, and then what the receiver makes of them."""
+        self._gather()
         yield from self._taken()
         for event in self.receiver.events():
             yield from self._received(event)
