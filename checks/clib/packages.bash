@@ -199,7 +199,7 @@ same_as_tables() { # WHAT PLAN PIECE
 
 # The monitor in C: lanes of the program with damage, generated cases, and lanes of words with planted faults, which break each kind of rule.
 try_monitor() {
-  local seed bytes limit rules
+  local plan lane seed bytes limit rules
   cc -std=c99 "${strict[@]}" "${sanitize[@]}" -o monitor "$top/examples/c/monitor.c" library/lib/libinterlaken.a || gives_up 'examples/c/monitor.c is not compiled'
   holds 'monitor is short' "$(($(wc -l <"$top/examples/c/monitor.c") < 150))" 1
   holds 'monitor without words' "$(./monitor 2>&1 | grep -c '^usage: ')" 1
