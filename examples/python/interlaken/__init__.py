@@ -699,6 +699,20 @@ class _Bits:
         self.value &= (1 << self.count) - 1
         return first
 
+    def push(self, feed: Callable[[bytes], int]) -> bool:
+        """Feeds the whole bytes that wait, by a call that returns how many it took: whether it took all."""
+        if self.count >= 8:
+            self.drop(8 * feed(self.whole_bytes()))
+        return self.count < 8
+
+    def feed(self, bits: int, count: int, feed: Callable[[bytes], int]) -> bool:
+        """Adds bits, and feeds what fills bytes. False if earlier bytes wait: then no bit was added."""
+        if not self.push(feed):
+            return False
+        self.put(bits, count)
+        self.push(feed)
+        return True
+
 
 class Receiver(_OfPlan):
     """A receiver of the lanes of a plan. As a context manager it is closed at the end."""
@@ -725,24 +739,13 @@ class Receiver(_OfPlan):
         wait for the next. False where the ring of the lane has no room: then nothing was taken; take events and feed these again."""
         _within(bits, _within(count, 63, "count"), "number of %d bits" % count)
         self._feed(lane, b"")  # what is misused raises before bits are kept
-        waiting = self._bits.setdefault(lane, _Bits())
-        if not self._push(lane, waiting):
-            return False
-        waiting.put(bits, count)
-        self._push(lane, waiting)
-        return True
-
-    def _push(self, lane: int, waiting: _Bits) -> bool:
-        """Feeds the whole bytes that wait: whether all were taken."""
-        if waiting.count >= 8:
-            waiting.drop(8 * self._feed(lane, waiting.whole_bytes()))
-        return waiting.count < 8
+        return self._bits.setdefault(lane, _Bits()).feed(bits, count, lambda data: self._feed(lane, data))
 
     def finish(self, lane: int) -> None:
         """No further byte of this lane comes. Bits that wait are filled up with zeros; where there is no room for them it raises
         ValueError, and the lane is not finished: take events first."""
         waiting = self._bits.get(lane, _Bits())
-        if waiting.count > 0 and not self._push(lane, waiting):
+        if waiting.count > 0 and not waiting.push(lambda data: self._feed(lane, data)):
             raise ValueError("bytes of lane %d wait" % lane)
         if waiting.count > 0 and self._feed(lane, bytes([waiting.value << 8 - waiting.count])) != 1:
             raise ValueError("bits of lane %d wait" % lane)

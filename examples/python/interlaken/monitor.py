@@ -166,17 +166,7 @@ class Monitor:
     def feed_bits(self, lane: int, bits: int, count: int) -> bool:
         """Feeds a lane with its next `count` bits: those of a number, the highest first. Up to seven bits wait for the next. False if the ring of
         the receiver has no room: then nothing was taken; take events and feed these again."""
-        waiting = self._bits.setdefault(lane, _Bits())
-        if not self._push(lane, waiting):
-            return False
-        waiting.put(bits, count)
-        self._push(lane, waiting)
-        return True
-
-    def _push(self, lane: int, waiting: _Bits) -> bool:
-        if waiting.count >= 8:
-            waiting.drop(8 * self.feed(lane, waiting.whole_bytes()))
-        return waiting.count < 8
+        return self._bits.setdefault(lane, _Bits()).feed(bits, count, lambda data: self.feed(lane, data))
 
     def finish(self, lane: int) -> None:
         """No further byte of this lane comes. Bits that do not fill a byte are left out."""
