@@ -26,26 +26,6 @@ impl Model for WordList {
     ghost invariant = { λ a. length a.controls.items ≡ length a.numbers.items };
 }
 
-// The number of a word.
-fn number_of(word: Word) -> u64
-    ensures { result ≡ payload word }
-{
-    match word {
-        Word::Data(x) => x,
-        Word::Control(x) => x,
-    }
-}
-
-// Whether a word is a control word.
-fn is_control(word: Word) -> bool
-    ensures { result ≡ is_control word }
-{
-    match word {
-        Word::Data(_) => false,
-        Word::Control(_) => true,
-    }
-}
-
 // The word of this number and this kind.
 fn word_of(number: u64, control: bool) -> Word
     ensures { result ≡ word_of number control }
@@ -85,8 +65,8 @@ fn push_all(numbers: &mut Vec<u64>, controls: &mut Vec<bool>, words: &[Word])
     ensures controls { controls.new.items ≡ controls.old.items ++ map is_control words.now }
 {
     for word in words {
-        numbers.push_reserved(number_of(*word));
-        controls.push_reserved(is_control(*word));
+        numbers.push_reserved(word.number());
+        controls.push_reserved(word.is_control());
     }
 }
 
@@ -124,8 +104,8 @@ impl WordList {
         push_parts(
             &mut self.numbers,
             &mut self.controls,
-            number_of(word),
-            is_control(word),
+            word.number(),
+            word.is_control(),
         )
     }
 
