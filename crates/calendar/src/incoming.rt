@@ -7,7 +7,7 @@ ghost use Rattle.calendar.specs.Changes.{changes, change_of, told_by_bits};
 ghost use Rattle.calendar.specs.Incoming.{HasStates};
 
 use arrayvec::ArrayVec;
-use control_words::Control;
+use control_words::{CHANNEL_NUMBERS, Control};
 use lk_base::OutOfMemory;
 use std::alloc::Global;
 
@@ -36,15 +36,15 @@ fn tell_one(on: &mut [bool], changed: &mut ArrayVec<(u16, bool), 16>, channel: u
 }
 
 // Takes the entries of one word, and adds to `changed` those that change a channel.
-fn tell(entries: &[u16], flow: u16, on: &mut [bool], changed: &mut ArrayVec<(u16, bool), 16>)
+fn tell(entries: &[u16], word: Control, on: &mut [bool], changed: &mut ArrayVec<(u16, bool), 16>)
     requires short { length entries.now ≤ 16 }
     requires wide { length on.old ≡ 65536 }
     requires empty { changed.old.items ≡ [] }
-    ensures states { (slot row : ℕ) (told : List Told) → HasStates on.old told → HasStates on.new (reverse (map (told_by_bits slot row entries.now flow) (range_with_len 0 (length entries.now))) ++ told) }
-    ensures changed { (slot row : ℕ) (told : List Told) → HasStates on.old told → changed.new.items ≡ changes told (map (told_by_bits slot row entries.now flow) (range_with_len 0 (length entries.now))) }
+    ensures states { (slot row : ℕ) (told : List Told) → HasStates on.old told → HasStates on.new (reverse (map (told_by_bits slot row entries.now word.flow) (range_with_len 0 (length entries.now))) ++ told) }
+    ensures changed { (slot row : ℕ) (told : List Told) → HasStates on.old told → changed.new.items ≡ changes told (map (told_by_bits slot row entries.now word.flow) (range_with_len 0 (length entries.now))) }
 {
     for i in 0..entries.len() {
-        tell_one(on, changed, entries[i], (flow >> (15 - i as u32)) & 1 == 1);
+        tell_one(on, changed, entries[i], word.entry(i as u32));
     }
 }
 
@@ -59,7 +59,7 @@ impl CalendarIn {
     pub fn new(alloc: Global, entries: &[u16]) -> Result<CalendarIn, OutOfMemory>
         ensures { IfOk result (λ calendar. Stands calendar entries.now []) }
     {
-        let on = vec![in alloc; true; 65536]?;
+        let on = vec![in alloc; true; CHANNEL_NUMBERS]?;
         let own = Vec::from_slice(alloc, entries)?;
         Ok(CalendarIn {
             entries: own,
@@ -86,7 +86,7 @@ impl CalendarIn {
             return;
         };
         let end = self.entries.len().min(first + 16);
-        tell(&self.entries[first..end], c.flow, &mut self.on, changed);
+        tell(&self.entries[first..end], c, &mut self.on, changed);
         self.next = Some(end);
     }
 

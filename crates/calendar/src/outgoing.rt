@@ -1,6 +1,7 @@
 ghost use Rattle.std.specs.Prelude.{◌≡◌, ◌↔◌, ℕ, ◌+◌, ◌-◌, ◌<◌, ◌≤◌, ◌==◌, List, [], ◌∷◌, ◌++◌, length, true, All, IfOk, if◌then◌else◌};
 ghost use Rattle.std.specs.Int.{bit_at};
 
+use control_words::CHANNEL_NUMBERS;
 use lk_base::OutOfMemory;
 use std::alloc::Global;
 
@@ -36,7 +37,7 @@ impl CalendarOut {
         requires high { length entries.now ≤ 1024 }
         ensures { IfOk result (λ calendar. StandsOut calendar entries.now [] 0) }
     {
-        let on = vec![in alloc; true; 65536]?;
+        let on = vec![in alloc; true; CHANNEL_NUMBERS]?;
         let own = Vec::from_slice(alloc, entries)?;
         Ok(CalendarOut {
             entries: own,

@@ -1,5 +1,6 @@
-ghost use Rattle.std.specs.Prelude.{◌≡◌, ◌↔◌, ◌*◌, ◌/◌, ◌^◌, ◌<◌, ◌==◌, ℕ, IsOk, IfOk};
+ghost use Rattle.std.specs.Prelude.{◌≡◌, ◌↔◌, ◌-◌, ◌*◌, ◌/◌, ◌^◌, ◌<◌, ◌==◌, ℕ, IsOk, IfOk};
 ghost use Rattle.std.specs.Bool.{IsTrue};
+ghost use Rattle.std.specs.Int.{bit_at};
 ghost use Rattle.lk_base.specs.Fields.{channel_number, crc_field, field, flow_field, has_burst, has_end, has_sop, is_control_word, multi_field, reset_field};
 ghost use Rattle.control_words.specs.ControlWord.{IsWordOf, burst_channel, end_of};
 ghost use Rattle.control_words.specs.declared.fields.Control.{Control};
@@ -78,6 +79,14 @@ impl ControlWord {
         ensures { result ≡ flow_field self.0 }
     {
         self.bits(40, 16) as u16
+    }
+
+    /// Bit 55 - `i`: true if entry `i` (0..=15) of the sixteen entries of the calendar is on.
+    pub fn entry(self, i: u32) -> bool
+        requires { i < 16 }
+        ensures { result ≡ (bit_at self.0 (55 - i) == 1) }
+    {
+        (self.0 >> (55 - i)) & 1 == 1
     }
 
     /// Bits 39:32, the channel of the data that follow; where channel numbers are wide, bits 31:24 are the upper eight bits of its
