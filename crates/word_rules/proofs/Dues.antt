@@ -4,9 +4,7 @@ use Rattle.std.proofs.lemmas.Bool.{ltb-true}
 use Rattle.std.specs.List.{list_any, range_with_len, position_or_len}
 use Rattle.lk_base.specs.declared.word.RxWord.{RxWord}
 use Rattle.lk_base.specs.declared.word.RxWord.TheVariants.{Data, Control, Bad}
-use Rattle.std.specs.Int.{bit_at}
-use Rattle.lk_base.specs.Fields.{is_control_word, flow_field}
-use Rattle.stream_model.proofs.OneStream.{flow_bit}
+use Rattle.lk_base.specs.Fields.{is_control_word}
 use Rattle.word_rules.specs.Places.{known, control_number}
 use Rattle.word_rules.specs.Rules.{has_reset, accepted_before, breaks_calendar}
 use Rattle.word_rules.specs.declared.due.Due.{Due}
@@ -25,10 +23,6 @@ any_more : (p : ℕ → Bool) (a n : ℕ) → list_any p (range_with_len a (suc 
 any_more p a zero = or_none (p a) ∙ (let e : a ≡ a + 0 = omega arith in ap p e)
 any_more p a (suc n) = ap (λ (t : Bool). p a || t) (any_more p (a + 1) n) ∙ or_assoc (p a) (list_any p (range_with_len (a + 1) n)) (p (a + 1 + n))
     ∙ (let e : a + 1 + n ≡ a + suc n = omega arith in ap (λ (k : ℕ). (p a || list_any p (range_with_len (a + 1) n)) || p k) e)
-
--- the flow bit of entry i, 0 for bit 55
-pub flow_place : (x i : ℕ) → i < 16 → bit_at (flow_field x) (15 - i) ≡ bit_at x (55 - i)
-flow_place x i h = (let e : 40 + (15 - i) ≡ 55 - i = omega arith in flow_bit x (15 - i) (omega arith) ∙ ap (bit_at x) e)
 
 -- the test of one place more
 pub any_next : (p : ℕ → Bool) (n : ℕ) → list_any p (range_with_len 0 (n + 1)) ≡ (list_any p (range_with_len 0 n) || p n)

@@ -20,7 +20,7 @@ use crate::limits::WordLimits;
 use crate::plan::WordPlan;
 use crate::rows::tell;
 use crate::rule::WordRule;
-use control_words::ControlWord;
+use control_words::{CHANNEL_NUMBERS, ControlWord};
 use lk_base::{OutOfMemory, RxWord};
 use std::alloc::Global;
 
@@ -63,7 +63,7 @@ fn made(alloc: Global, channels: &[u16]) -> Result<Vec<ChannelState>, OutOfMemor
         packet: None,
         listed: false,
     };
-    let mut kept = vec![in alloc; unused; 65536]?;
+    let mut kept = vec![in alloc; unused; CHANNEL_NUMBERS]?;
     for i in 0..channels.len() {
         list(&mut kept, channels[i]);
     }

@@ -18,14 +18,6 @@ pub struct Due {
     pub count: u64,
 }
 
-// Whether a word says that its entry `i` of sixteen is on.
-fn is_on(word: ControlWord, i: u64) -> bool
-    requires { i < 16 }
-    ensures { result ≡ (bit_at word.0 (55 - i) == 1) }
-{
-    (word.flow() >> (15 - i as u32)) & 1 == 1
-}
-
 // Whether the flow bit of a word's entry `i` is 0 and stands past the last entry, where the word carries the sixteen entries of
 // this number.
 fn is_zero_past_last(entries: u64, word: ControlWord, number: u64, i: u64) -> bool
@@ -34,7 +26,7 @@ fn is_zero_past_last(entries: u64, word: ControlWord, number: u64, i: u64) -> bo
     ensures { result ≡ (nat_le entries (16 * number + i) && not (bit_at word.0 (55 - i) == 1)) }
 {
     let past = entries <= 16 * number + i;
-    let on = is_on(word, i);
+    let on = word.entry(i as u32);
     past && !on
 }
 
