@@ -1,6 +1,5 @@
 ghost use Rattle.std.specs.Prelude.{◌≡◌, ◌≢◌, ◌+◌, ◌*◌, ◌/◌, ◌^◌, ◌<◌, ◌==◌, ◌≤ℤ◌, ◌&&◌, ◌||◌, ◌↔◌, ◌⊎◌, ◌-ℤ◌, ◌+ℤ◌, if◌then◌else◌, pos, negsuc, int_le, int_lt};
 ghost use Rattle.lk_base.specs.declared.word.RxWord.TheVariants as received;
-ghost use Rattle.lk_base.specs.Words.{payload as payload_of};
 ghost use Rattle.lk_base.specs.Checksum.{digit};
 ghost use Rattle.lane_model.specs.Coding.{code_of, header_for, header_in, inverse_of, payload_in, weight, word_of_code};
 
@@ -63,16 +62,6 @@ pub fn decode(code: u128) -> RxWord
     }
 }
 
-/// The number that a word carries.
-pub fn payload(word: Word) -> u64
-    ensures { result ≡ payload_of word }
-{
-    match word {
-        Word::Data(x) => x,
-        Word::Control(x) => x,
-    }
-}
-
 /// The ones less the zeros in a payload and one further zero bit.
 pub fn weight_of(payload: u64) -> i32
     ensures value { result ≡ weight payload }
@@ -117,7 +106,7 @@ pub fn code(inverted: bool, word: Word) -> u128
     ensures below { result < 2 ^ 67 }
 {
     let top = top_bits(inverted, word);
-    let low = low_bits(inverted, payload(word));
+    let low = low_bits(inverted, word.number());
     top << 64 | low as u128
 }
 

@@ -3,7 +3,7 @@ ghost use Rattle.lk_base.specs.Words.{payload as payload_of, as_sent};
 ghost use Rattle.lane_model.specs.Coding.{code_behind, codes_behind, code_of, disparity, is_inverted, next_disparity, word_of_code};
 ghost use Rattle.coding_67b.specs.Runs.{codes_from, disparity_from};
 
-use crate::codes::{code, disparity_after, inverts, payload, weight_of};
+use crate::codes::{code, disparity_after, inverts, weight_of};
 use lk_base::Word;
 use std::marker::Model;
 
@@ -44,7 +44,7 @@ impl Encoder {
         ensures below { result < 2 ^ 67 }
         ensures means { word_of_code result ≡ as_sent word }
     {
-        let weight = weight_of(payload(word));
+        let weight = weight_of(word.number());
         let inverted = inverts(self.disparity, weight);
         let next = disparity_after(self.disparity, weight, inverted);
         self.disparity = next;

@@ -47,10 +47,10 @@ raised w h = omega (arith, ints, h)
 
 module _ (c : goal.After-code) where
   fits : payload_of c.args.word < 2 ^ 64
-  fits = let e = c.payload.ensures in let t = c.payload.type_inv in omega (arith, e, t)
+  fits = let e = c.number.ensures in let t = c.number.type_inv in omega (arith, e, t)
 
   weight_is : c.weight_of-weight.result ≡ weight (payload_of c.args.word)
-  weight_is = c.weight_of-weight.ensures.value ∙ ap weight c.payload.ensures
+  weight_is = c.weight_of-weight.ensures.value ∙ ap weight c.number.ensures
 
   disparity_kept : to_z w32 (of_z w32 c.self.inside.disparity) ≡ c.self.inside.disparity
   disparity_kept = kept c.self.inside.disparity c.self.invariant.0 c.self.invariant.1
