@@ -6,5 +6,11 @@ pub const CODE_BITS: u32 = 67;
 /// The payload of a Sync word.
 pub const SYNC: u64 = 0x78F6_78F6_78F6_78F6;
 
+/// The payload of a Skip word.
+pub const SKIP: u64 = 0x1E1E_1E1E_1E1E_1E1E;
+
+/// The payload of a Diagnostic word before its CRC32: 011001 in bits 63:58, and both health bits.
+pub const DIAGNOSTIC: u64 = 0b011001 << 58 | 3 << 32;
+
 /// The payload of a Scrambler State word before the state, which has bits 57:0: 001010 in bits 63:58.
 pub const SCRAMBLER_STATE: u64 = 0b001010 << 58;
