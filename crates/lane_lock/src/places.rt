@@ -2,7 +2,7 @@ ghost use Rattle.std.specs.Prelude.{◌≡◌, ◌<◌, ◌≤◌, ◌+◌, ◌*
 ghost use Rattle.lk_base.specs.Checksum.{bits_of, bits_of_bytes};
 ghost use Rattle.lane_lock.specs.Run.{AreWordsOf};
 
-use crate::words::{is_bad, last_bits};
+use crate::words::last_bits;
 use coding_67b::decode;
 use lane_model::CODE_BITS;
 use lk_base::{RxWord, eight_at};
@@ -66,7 +66,7 @@ fn words_of(bytes: &[u8]) -> Option<[RxWord; 8]>
     let mut words = [RxWord::Bad; 8];
     for place in 0..8 {
         let word = decode(code_at(bytes, CODE_BITS as usize * place));
-        if is_bad(word) {
+        if word.is_bad() {
             return None;
         }
         words[place] = word;

@@ -11,7 +11,7 @@ ghost use Rattle.lane_lock.specs.Search.{MissEach};
 
 use crate::marks::Marks;
 use crate::places::code_at;
-use crate::words::{is_bad, is_control_of};
+use crate::words::is_control_of;
 use coding_67b::decode;
 use lane_model::{CODE_BITS, SYNC};
 use phase_finder::Finder;
@@ -73,6 +73,6 @@ pub fn search_last(starts: &mut Finder, marks: &mut Marks, bytes: &[u8], count: 
     for k in 0..count {
         let word = decode(code_at(bytes, first + k));
         let _syncs = marks.step(is_control_of(SYNC, word));
-        let _start = starts.step(!is_bad(word));
+        let _start = starts.step(!word.is_bad());
     }
 }
