@@ -3,6 +3,8 @@ ghost use Rattle.std.specs.Int.Count.{ones_in};
 ghost use Rattle.lane_model.specs.Coding.{excess};
 ghost use Rattle.lane_events.specs.Balance.{balance_after, is_far_off};
 
+use lane_model::CODE_BITS;
+
 /// Over how many more ones than zeros, or zeros than ones, the codes of a lock are unbalanced.
 const MOST: i32 = 129;
 
@@ -13,7 +15,7 @@ pub fn excess_of(code: u128) -> i32
     ensures low { negsuc 66 ≤ℤ result }
     ensures high { result ≤ℤ pos 67 }
 {
-    2 * code.count_ones() as i32 - 67
+    2 * code.count_ones() as i32 - CODE_BITS as i32
 }
 
 /// The ones less the zeros after one code more, where they were never over 129 apart.

@@ -6,12 +6,9 @@ ghost use Rattle.lane_events.specs.Steps.{balance_before as before_step, balance
 
 use crate::balance::balance_with;
 use crate::word_events::WordEvents;
-use lane_model::{Role, SYNC};
+use lane_model::{Role, SKIP, SYNC};
 use lk_base::RxWord;
 use lock_model::{LaneReport, LaneStep, LostWhy};
-
-/// The payload of a Skip word.
-const SKIP: u64 = 0x1E1E_1E1E_1E1E_1E1E;
 
 /// The events of the word of a step, given the reports before and after it, and whether its code unbalances its lock.
 pub fn told(step: LaneStep, before: &LaneReport, after: &LaneReport, unbalances: bool) -> WordEvents
@@ -146,10 +143,5 @@ fn is_no_skip(word: RxWord) -> bool
 fn is_unhealthy(word: RxWord) -> bool
     ensures { result ≡ unhealthy word }
 {
-    let number = match word {
-        RxWord::Data(x) => x,
-        RxWord::Control(x) => x,
-        RxWord::Bad => 0,
-    };
-    number >> 32 & 3 != 3
+    word.number_or_zero() >> 32 & 3 != 3
 }
