@@ -222,15 +222,7 @@ impl LiveScheduler {
     {
         let (reset, flow) = self.outgoing.next();
         let x = sealed(
-            Control {
-                burst: false,
-                sop: false,
-                eop: self.eop,
-                reset,
-                flow,
-                channel: 0,
-                multi: 0,
-            },
+            Control::idle(self.eop, reset, flow),
             &self.run[..self.count],
         );
         self.count = 0;
@@ -250,15 +242,7 @@ impl LiveScheduler {
         let channel = self.turns[at].channel;
         let (reset, flow) = self.outgoing.next();
         let x = sealed(
-            Control {
-                burst: true,
-                sop: self.turns[at].is_first(),
-                eop: self.eop,
-                reset,
-                flow,
-                channel: (channel % 256) as u8,
-                multi: (channel / 256) as u8,
-            },
+            Control::burst(channel, self.turns[at].is_first(), self.eop, reset, flow),
             &self.run[..self.count],
         );
         let taken = self.turns[at].take(self.sizes, &mut self.run);

@@ -1,4 +1,4 @@
-use Rattle.std.proofs.Common.{◌≡◌, ◌∙◌, ◌+◌, ◌*◌, ◌/◌, ◌%◌, ◌<◌, ◌++◌, ◌∷◌, [], ℕ, List, length, take, get_or, refl, sym, ap, ap₂, subst, arith}
+use Rattle.std.proofs.Common.{◌≡◌, ◌∙◌, ◌<◌, ◌++◌, ◌∷◌, [], ℕ, List, length, take, get_or, refl, sym, ap, ap₂, subst}
 use Rattle.std.specs.List.{remove}
 use Rattle.std.specs.Vec.{with_items}
 use Rattle.std.proofs.lemmas.List.{get_or-set_same, get_or_default}
@@ -12,10 +12,6 @@ use Rattle.live_stream.specs.declared.waiting.Waiting.{Waiting}
 use Rattle.live_stream.proofs.Places.{refill, removed_set}
 use Rattle.live_stream.proofs.Steps.{none_to_come, left_at, some_left, burst_step}
 use Rattle.live_stream.proofs.scheduler.LiveScheduler.burst.Goals as goal
-
--- the remainder by 256 and the quotient make the channel's number
-both_parts : (n : ℕ) → n % 256 + 256 * (n / 256) ≡ n
-both_parts n = omega arith
 
 -- two reads of one place
 same_read : (turns : List Waiting) (at : ℕ) (p q : Waiting) → at < length turns → p ≡ get_or turns at p → q ≡ get_or turns at q → p ≡ q
@@ -54,11 +50,11 @@ returns c g w h time =
     let sop : c.is_first.result ≡ chunk.is_first = c.is_first.ensures s.sizes packets done chunk asked taken.1 in
     let back : c.to_back.new.turns.items ≡ remove turns at ++ now ∷ [] = c.to_back.ensures now ∙ ap₂ (λ xs x. xs ++ x ∷ []) (removed_set turns at now) (get_or-set_same turns at now now below) in
     let run : (with_items s.run c.take-taken.new.run).items ≡ c.take-taken.new.run = refill s.run.len s.run.items c.take-taken.new.run s.run.ok.0 (c.take-taken.ensures.long ∙ ap length c.deref_mut.ensures.value) in
-    let seal = is_sealed (source_of g) w _ c.sealed-x.ensures.fields.0 c.sealed-x.result (take s.count s.run.items) c.sealed-x.ensures.fields.1 (c.sealed-x.ensures.checksum ∙ ap (λ xs. control_crc (take s.count xs) c.sealed-x.result) c.deref.ensures.value) (sym (ap data_since none) ∙ h.since) (h.end ∙ ap (end_format (source_of g)) none)
+    let seal = is_sealed (source_of g) w c.burst.result c.sealed-x.ensures.fields.0 c.sealed-x.result (take s.count s.run.items) _ _ _ c.burst.ensures.eop c.burst.ensures.reset c.burst.ensures.flow c.sealed-x.ensures.fields.1 (c.sealed-x.ensures.checksum ∙ ap (λ xs. control_crc (take s.count xs) c.sealed-x.result) c.deref.ensures.value) (sym (ap data_since none) ∙ h.since) (h.end ∙ ap (end_format (source_of g)) none)
     (c.next-reset.ensures.reset g.entries g.local (controls_in w) h.outgoing)
     (λ i l. c.next-reset.ensures.flow g.entries g.local (controls_in w) (length w) i h.outgoing h.given_by.local l) in
-    burst_step s g w h none _ c.sealed-x.result _ seal (record { settings = (refl, refl, refl, refl); incoming = refl; slot = refl; given = refl; end = (refl, refl); accepts = (refl, refl) })
-    at q time is refl (both_parts c.index.result.now.channel ∙ named) chunk sop taken.1
+    burst_step s g w h none _ c.sealed-x.result c.burst.result seal (record { settings = (refl, refl, refl, refl); incoming = refl; slot = refl; given = refl; end = (refl, refl); accepts = (refl, refl) })
+    at q time is c.burst.ensures.kind (c.burst.ensures.channel ∙ named) chunk (c.burst.ensures.sop ∙ sop) taken.1
     now back c.take-taken.ensures.channel (c.take-taken.ensures.next packets done left)
     (c.next-reset.ensures.stands g.entries g.local (controls_in w) h.outgoing)
     (ap (take c.take-taken.result.words) run ∙ taken.2) c.take-taken.ensures.words
