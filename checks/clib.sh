@@ -6,7 +6,6 @@
 set -u
 . "$(dirname "$0")/program.bash"
 wants_cc
-crate=$top/crates/c_parts
 . "$top/tools/archive.bash"
 if ! archive=$(find_archive "$top"); then
   echo "$name: skipped, no archive of these sources (rt lib in crates/interlaken_c makes it)"
@@ -31,10 +30,10 @@ holds 'the version of the header and of the release' "$(sed -n 's/^#define INTER
 holds 'the numbers of the version in the header' "$(sed -nE 's/^#define INTERLAKEN_VERSION_(MAJOR|MINOR|PATCH) ([0-9]+)$/\2/p' "$include/interlaken.h" | paste -sd .)" \
   "$(sed -n 's/^#define INTERLAKEN_VERSION "\(.*\)"$/\1/p' "$include/interlaken.h")"
 
-# The keys after `out` are of other files, and no plan of lanes lacks one.
+# The package for SystemVerilog has one result of its own.
 numbers=$(grep -oE '\bINTERLAKEN_[A-Z_]+ = [0-9]+' "$include/interlaken.h" | sed 's/^INTERLAKEN_//; s/ = / /' | LC_ALL=C sort)
-holds 'numbers of the header and of the crate' "$numbers" \
-  "$(sed -nE 's/^pub const ([A-Z_]+): u32 = ([0-9]+);$/\1 \2/p' "$crate/src/codes.rt" | grep -vE '^KEY_(OOB|EVENTS|PLAN|DELAY|MARK|SLOTS) ' | LC_ALL=C sort)"
+holds 'numbers of the header and of the package for SystemVerilog' "$numbers" \
+  "$(grep -oE '\bINTERLAKEN_[A-Z_]+ = [0-9]+' "$top/examples/dpi/interlaken_dpi.sv" | sed 's/^INTERLAKEN_//; s/ = / /' | grep -v '^NO_ROOM ' | LC_ALL=C sort)"
 
 cc -std=c99 "${strict[@]}" -o receive "$top/examples/c/receive.c" "$archive" "$top/examples/c/alloc.c" || gives_up 'examples/c is not compiled'
 if ! lacks pkg-config pkg-config 'the example compiled with the words of pkg-config'; then
@@ -172,7 +171,8 @@ if ! lacks c++ g++ 'the same calls as C++'; then
   holds 'drawn calls as C++' "$(./calls_plus drawn.plan drawn.lane.0 drawn.lane.1 100 2>&1 | sed '/^not tried/d; s/^[0-9]* tried, //')" '0 wrong'
 fi
 
-if ! lacks python3 python3 'examples/python'; then
+if ! lacks python3 python3 'the numbers of the crates, and examples/python'; then
+  holds 'numbers of the header and of the crates' "$numbers" "$(python3 -B "$top/checks/clib/numbers.py" "$top" 2>&1 | LC_ALL=C sort)"
   holds 'numbers of the header and of the Python module' "$(python3 -B -c '
 import sys
 sys.path.insert(0, sys.argv[1])

@@ -10,7 +10,7 @@ use word_rules::Fault;
 #[repr(C)]
 #[derive(Clone, Copy)]
 pub struct CFault {
-    /// One of the rules in `codes`, `RULE_BAD` to `RULE_OFF`, or `RULE_NONE` if there is no fault.
+    /// The number of a `WordRule`, from 1 on, or `RULE_NONE` if there is no fault.
     pub rule: u32,
     /// 1 if the rule is on a channel, otherwise 0.
     pub has_channel: u32,

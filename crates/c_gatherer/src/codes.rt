@@ -2,10 +2,7 @@
 ghost use Rattle.std.specs.Prelude.{◌≡◌};
 ghost use Rattle.c_gatherer.specs.Codes.{fault_code, kind_of, misuse_code, number_of};
 
-use c_parts::codes::{
-    FAULT_BAD, FAULT_CRC, FAULT_END, FAULT_LOST, FAULT_PROTOCOL, FAULT_START, FINISHED, NO_LANE,
-    TOO_MANY, WORD_BAD, WORD_CONTROL, WORD_DATA,
-};
+use c_parts::codes::{FINISHED, NO_LANE, TOO_MANY, WORD_BAD, WORD_CONTROL, WORD_DATA};
 use live_gatherer::Misuse;
 use lk_base::{RxWord, Why};
 
@@ -24,14 +21,7 @@ pub fn misuse_code(why: Misuse) -> u32
 pub fn fault_code(why: Why) -> u32
     ensures { result ≡ fault_code why }
 {
-    match why {
-        Why::Start => FAULT_START,
-        Why::Bad => FAULT_BAD,
-        Why::Crc => FAULT_CRC,
-        Why::Protocol => FAULT_PROTOCOL,
-        Why::Lost => FAULT_LOST,
-        Why::End => FAULT_END,
-    }
+    why as u32
 }
 
 /// The number of the kind of a word.

@@ -17,7 +17,7 @@ pub struct CGathered {
     pub word_kind: u32,
     /// The lane on which a word came.
     pub lane: u32,
-    /// Why an epoch ends, one of the faults in `codes`.
+    /// Why an epoch ends: the place of a `Why`.
     pub why: u32,
     /// The place of a word, or the place where an epoch ends.
     pub at: CPlace,

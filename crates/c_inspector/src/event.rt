@@ -10,7 +10,7 @@ use live_inspector::LiveEvent;
 #[repr(C)]
 #[derive(Clone, Copy)]
 pub struct CLaneEvent {
-    /// One of the kinds of events of lanes in `codes`, or `NO_LANE_EVENT`.
+    /// The number of an `EventKind`, from 1 on, or `NO_LANE_EVENT`.
     pub kind: u32,
     /// The lane's number.
     pub lane: u32,

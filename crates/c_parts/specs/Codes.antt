@@ -1,5 +1,9 @@
 -- The results of calls.
 use Rattle.std.specs.Prelude.{ℕ}
+use Rattle.c_parts.specs.declared.codes.Cause.{Cause}
+use Rattle.c_parts.specs.declared.codes.Cause.TheVariants as causes
+use Rattle.c_parts.specs.declared.codes.Code.{Code}
+use Rattle.c_parts.specs.declared.codes.Code.TheVariants as results
 use Rattle.c_parts.specs.declared.misuse.Misuse.{Misuse}
 use Rattle.c_parts.specs.declared.misuse.Misuse.TheVariants as misuses
 use Rattle.plan_errors.specs.declared.error.PlanError.{PlanError}
@@ -7,50 +11,86 @@ use Rattle.plan_errors.specs.declared.error.PlanError.TheVariants as errors
 use Rattle.lock_model.specs.declared.types.LaneState.{LaneState}
 use Rattle.lock_model.specs.declared.types.LaneState.TheVariants as states
 
+-- the number of a result, as in the header
+abbrev pub number_of : Code → ℕ
+number_of results.Done = 0
+number_of results.OutOfMemory = 1
+number_of results.BadPlan = 2
+number_of results.NoLane = 3
+number_of results.Finished = 4
+number_of results.TooMany = 5
+number_of results.NoPacket = 6
+number_of results.NoReceiver = 7
+number_of results.InUse = 8
+number_of results.NoDamage = 9
+number_of results.OutOfRange = 10
+number_of results.Passed = 11
+number_of results.NoTransmitter = 12
+number_of results.NoChannel = 13
+number_of results.BadLength = 14
+number_of results.NoInspector = 15
+number_of results.NoChecker = 16
+number_of results.Waiting = 17
+number_of results.NoGatherer = 18
+
+-- the number of a cause of a refusal, as in the header
+abbrev pub cause_number : Cause → ℕ
+cause_number causes.NoCause = 0
+cause_number causes.Text = 1
+cause_number causes.UnknownKey = 2
+cause_number causes.Fields = 3
+cause_number causes.Number = 4
+cause_number causes.Range = 5
+cause_number causes.Repeat = 6
+cause_number causes.Missing = 7
+cause_number causes.Clash = 8
+
+-- ---- results by their names
+
 abbrev pub done : ℕ
-done = 0
+done = number_of results.Done
 
 abbrev pub out_of_memory : ℕ
-out_of_memory = 1
+out_of_memory = number_of results.OutOfMemory
 
 abbrev pub bad_plan : ℕ
-bad_plan = 2
+bad_plan = number_of results.BadPlan
 
 abbrev pub no_receiver : ℕ
-no_receiver = 7
+no_receiver = number_of results.NoReceiver
 
 abbrev pub in_use : ℕ
-in_use = 8
+in_use = number_of results.InUse
 
 abbrev pub no_damage : ℕ
-no_damage = 9
+no_damage = number_of results.NoDamage
 
 abbrev pub out_of_range : ℕ
-out_of_range = 10
+out_of_range = number_of results.OutOfRange
 
 abbrev pub no_lane : ℕ
-no_lane = 3
+no_lane = number_of results.NoLane
 
 abbrev pub finished : ℕ
-finished = 4
+finished = number_of results.Finished
 
 abbrev pub no_transmitter : ℕ
-no_transmitter = 12
+no_transmitter = number_of results.NoTransmitter
 
 abbrev pub no_channel : ℕ
-no_channel = 13
+no_channel = number_of results.NoChannel
 
 abbrev pub no_inspector : ℕ
-no_inspector = 15
+no_inspector = number_of results.NoInspector
 
 abbrev pub no_checker : ℕ
-no_checker = 16
+no_checker = number_of results.NoChecker
 
 abbrev pub waiting : ℕ
-waiting = 17
+waiting = number_of results.Waiting
 
 abbrev pub no_gatherer : ℕ
-no_gatherer = 18
+no_gatherer = number_of results.NoGatherer
 
 -- ---- the states of a lane
 

@@ -210,8 +210,8 @@ fn told(answer: Result<LaneState, Misuse>, state: &mut u32) -> u32
     }
 }
 
-/// Writes how far the search for the locks of a lane is after the bytes that were taken from its ring: one of the states in
-/// `codes`, `LANE_SEARCHING` to `LANE_DECLARED`. It is `DONE`, `NO_LANE` or `NO_RECEIVER`.
+/// Writes how far the search for the locks of a lane is after the bytes that were taken from its ring: the number of a
+/// `LaneState`. It is `DONE`, `NO_LANE` or `NO_RECEIVER`.
 pub fn lane_state(alloc: Global, receiver: &mut ReceiverHandle, lane: u32, state: &mut u32) -> u32
     ensures { TellsState receiver.old.at.session receiver.new.at.session lane result state.new }
 {

@@ -2,11 +2,7 @@
 ghost use Rattle.std.specs.Prelude.{◌≡◌};
 ghost use Rattle.c_receiver.specs.Shown.{drop_number, dropped, fault_number, fault_span, flow, no_event, packet, shown};
 
-use c_parts::codes::{
-    DROP_BAD, DROP_CRC, DROP_END, DROP_LOST, DROP_PROTOCOL, DROP_SENDER_ERROR, DROP_TOO_LONG,
-    DROP_UNLISTED, DROPPED, ENDED, FAULT_BAD, FAULT_CRC, FAULT_END, FAULT_LOST, FAULT_PROTOCOL,
-    FAULT_START, FLOW, NONE, PACKET, SPAN,
-};
+use c_parts::codes::{DROPPED, ENDED, FLOW, NONE, PACKET, SPAN};
 use c_parts::place::{CPlace, place_of};
 use lk_base::{DropWhy, Pos, Why};
 use receive_model::Span;
@@ -22,7 +18,7 @@ pub struct CEvent {
     pub channel: u32,
     /// How many bytes a packet has.
     pub length: u32,
-    /// Why a piece is dropped, `DROP_BAD` to `DROP_SENDER_ERROR` in `codes`, or what a span is for, `FAULT_START` to `FAULT_END`.
+    /// Why a piece is dropped, the place of a `DropWhy`; or what a span is for, the place of a `Why`.
     pub why: u32,
     /// A packet's SOP word, the verified word before a span, or the place of a control word.
     pub first: CPlace,
@@ -50,29 +46,13 @@ fn no_event(kind: u32) -> CEvent
 fn drop_number(why: DropWhy) -> u32
     ensures { result ≡ drop_number why }
 {
-    match why {
-        DropWhy::Bad => DROP_BAD,
-        DropWhy::Crc => DROP_CRC,
-        DropWhy::Protocol => DROP_PROTOCOL,
-        DropWhy::Lost => DROP_LOST,
-        DropWhy::End => DROP_END,
-        DropWhy::TooLong => DROP_TOO_LONG,
-        DropWhy::Unlisted => DROP_UNLISTED,
-        DropWhy::SenderError => DROP_SENDER_ERROR,
-    }
+    why as u32
 }
 
 fn fault_number(why: Why) -> u32
     ensures { result ≡ fault_number why }
 {
-    match why {
-        Why::Start => FAULT_START,
-        Why::Bad => FAULT_BAD,
-        Why::Crc => FAULT_CRC,
-        Why::Protocol => FAULT_PROTOCOL,
-        Why::Lost => FAULT_LOST,
-        Why::End => FAULT_END,
-    }
+    why as u32
 }
 
 fn packet(channel: u16, length: u32, first: Pos, last: Pos) -> CEvent

@@ -1,7 +1,7 @@
 -- One more fault counts one more at the place of its rule.
 use Rattle.std.proofs.Common.{◌≡◌, ◌≢◌, ℕ, zero, suc, ◌+◌, ◌-◌, ◌^◌, ◌≤◌, ◌<◌, ◌==◌, Bool, List, [], ◌∷◌, ◌++◌, cond, count_by, length, map, refl, sym, ap, ap₂, ◌∙◌, subst, arith, slice_index, slice_set, add-zero, ne_eqb, eq-eqb, get_or, take, append-nil, append_assoc}
 use Rattle.std.specs.List.{flat_map}
-use Rattle.std.proofs.lemmas.List.{get_or-map, length-append, length-take-le, take_more}
+use Rattle.std.proofs.lemmas.List.{length-append, length-take-le, take_more}
 use Rattle.std.proofs.lemmas.List.Concat.{flat_map-append}
 use Rattle.std.proofs.lemmas.List.Sums.{sum_by_push, count_by-le-length}
 use Rattle.word_rules.specs.declared.fault.Fault.{Fault}
@@ -10,7 +10,8 @@ use Rattle.word_rules.specs.declared.rule.WordRule.TheVariants as rules
 use lib.Chars.{codes}
 use Rattle.link_reports.specs.Lines.{count_line}
 use Rattle.run_shell.proofs.OutputNames.{from_zero}
-use Rattle.check_commands.specs.Table.{all_rules, check_text, faults_of, rule_line, rule_line_of, rule_place}
+use Rattle.word_rules.specs.Names.{all_rules, rule_place}
+use Rattle.check_commands.specs.Table.{check_text, faults_of, rule_line, rule_line_of}
 use Rattle.check_commands.specs.Tally.{counts_of}
 
 -- how many of these faults have the rule at this place
@@ -76,21 +77,26 @@ one-more told f =
     same : (k : ℕ) → k ≡ rule_place f.rule → at (told ++ f ∷ []) k ≡ at told k + 1
     same k e = counted told f k ∙ ap (λ (b : Bool). at told k + cond b 1 0) (eq-eqb (rule_place f.rule) k (sym e))
 
+-- the count at the place of a rule is of its faults
+count_at : (told : List Fault) (rule : WordRule) → slice_index (counts_of told) (rule_place rule) ≡ faults_of told rule
+count_at told rule = index_at (at told) 0 19 (rule_place rule) (place_low rule) ∙ ap (at told) (from_zero (rule_place rule))
+
 -- no rule has more faults than there are
 pub count_low : (told : List Fault) (rule : WordRule) → slice_index (counts_of told) (rule_place rule) ≤ length told
 count_low told rule =
-    let e : slice_index (counts_of told) (rule_place rule) ≡ at told (0 + rule_place rule) = index_at (at told) 0 19 (rule_place rule) (place_low rule) in
-    let le : at told (0 + rule_place rule) ≤ length told = count_by-le-length (λ (f : Fault). rule_place f.rule == 0 + rule_place rule) told in
+    let e : slice_index (counts_of told) (rule_place rule) ≡ faults_of told rule = count_at told rule in
+    let le : faults_of told rule ≤ length told = count_by-le-length (λ (f : Fault). rule_place f.rule == rule_place rule) told in
     omega (arith, e, le)
 
 -- the line of one more rule
-pub line_more : (told : List Fault) (rs : List WordRule) (counts : List ℕ) (i : ℕ) (d : WordRule) (z : ℕ) (first old new : List ℕ) → i < length rs → counts ≡ map (faults_of told) rs →
+pub line_more : (told : List Fault) (rs : List WordRule) (counts : List ℕ) (i : ℕ) (d : WordRule) (place : ℕ) (first old new : List ℕ) → i < length rs → counts ≡ counts_of told →
+    place ≡ rule_place (get_or rs i d) →
     old ≡ first ++ flat_map (rule_line_of told) (take i rs) →
-    new ≡ old ++ cond (get_or counts i z == 0) [] (rule_line (get_or rs i d) (get_or counts i z)) →
+    new ≡ old ++ cond (slice_index counts place == 0) [] (rule_line (get_or rs i d) (slice_index counts place)) →
     new ≡ first ++ flat_map (rule_line_of told) (take (i + 1) rs)
-line_more told rs counts i d z first old new lt are h more =
+line_more told rs counts i d place first old new lt are is h more =
     let rule : WordRule = get_or rs i d in
-    let count : get_or counts i z ≡ faults_of told rule = ap (λ (l : List ℕ). get_or l i z) are ∙ get_or-map (faults_of told) rs i d z lt in
+    let count : slice_index counts place ≡ faults_of told rule = ap (λ (l : List ℕ). slice_index l place) are ∙ ap (λ (p : ℕ). slice_index (counts_of told) p) is ∙ count_at told rule in
     let before : List ℕ = flat_map (rule_line_of told) (take i rs) in
     more ∙ ap (λ (n : ℕ). old ++ cond (n == 0) [] (rule_line rule n)) count ∙ ap (λ (l : List ℕ). l ++ rule_line_of told rule) h
     ∙ append_assoc first before (rule_line_of told rule)

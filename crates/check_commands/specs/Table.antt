@@ -6,10 +6,9 @@ use lib.Chars.{codes}
 use Rattle.csv_rows.specs.Rows.{Row}
 use Rattle.csv_rows.specs.Written.{rows_text}
 use Rattle.link_reports.specs.Lines.{count_line, line_end, number_or_stroke, told}
-use Rattle.word_rules.specs.Names.{name_of}
+use Rattle.word_rules.specs.Names.{all_rules, name_of, rule_place}
 use Rattle.word_rules.specs.declared.fault.Fault.{Fault}
 use Rattle.word_rules.specs.declared.rule.WordRule.{WordRule}
-use Rattle.word_rules.specs.declared.rule.WordRule.TheVariants as rules
 
 -- ---- the table
 
@@ -29,34 +28,6 @@ abbrev pub faults_table : List Fault → List ℕ
 faults_table faults = rows_text (heading ∷ []) ++ fault_rows faults
 
 -- ---- the text
-
--- the rules, in the order in which the faults of one word are told
-abbrev pub all_rules : List WordRule
-all_rules =
-    rules.Bad ∷ rules.Control ∷ rules.Crc ∷ rules.Data ∷ rules.Max ∷ rules.Empty ∷ rules.Short ∷ rules.End ∷ rules.Fill ∷ rules.Part
-    ∷ rules.Min ∷ rules.Sop ∷ rules.Open ∷ rules.Channel ∷ rules.Long ∷ rules.Idle ∷ rules.Multi ∷ rules.Calendar ∷ rules.Off ∷ []
-
--- the place of a rule among them, from 0
-abbrev pub rule_place : WordRule → ℕ
-rule_place rules.Bad = 0
-rule_place rules.Control = 1
-rule_place rules.Crc = 2
-rule_place rules.Data = 3
-rule_place rules.Max = 4
-rule_place rules.Empty = 5
-rule_place rules.Short = 6
-rule_place rules.End = 7
-rule_place rules.Fill = 8
-rule_place rules.Part = 9
-rule_place rules.Min = 10
-rule_place rules.Sop = 11
-rule_place rules.Open = 12
-rule_place rules.Channel = 13
-rule_place rules.Long = 14
-rule_place rules.Idle = 15
-rule_place rules.Multi = 16
-rule_place rules.Calendar = 17
-rule_place rules.Off = 18
 
 -- how many of these faults break a rule
 abbrev pub faults_of : List Fault → WordRule → ℕ

@@ -2,7 +2,8 @@
 use Rattle.std.specs.Prelude.{ℕ, ◌≡◌, List, length, map}
 use Rattle.word_rules.specs.declared.fault.Fault.{Fault}
 use Rattle.check_commands.specs.declared.tally.Tally.{Tally}
-use Rattle.check_commands.specs.Table.{all_rules, faults_of}
+use Rattle.word_rules.specs.Names.{all_rules}
+use Rattle.check_commands.specs.Table.{faults_of}
 
 -- how many of these faults each rule has, in the order of the rules
 abbrev pub counts_of : List Fault → List ℕ

@@ -16,7 +16,7 @@ use crate::table::{fault_rows, heading};
 use crate::tally::Tally;
 use link_plan::{Plan, channels_in_order};
 use lk_base::OutOfMemory;
-use run_shell::{Finished, Maker, Outputs, Step};
+use run_shell::{Finished, Maker, Outputs, Step, only_name};
 use std::alloc::Global;
 use word_rules::{Checker, Fault, WordLimits, WordPlan};
 
@@ -25,9 +25,7 @@ fn table_names(alloc: Global, out: &str) -> Result<Vec<String>, OutOfMemory>
     ensures names { IfOk result (λ v. map string_bytes v.items ≡ faults_name out.now ∷ []) }
     ensures differ { IfOk result (λ v. Differ (map string_bytes v.items)) }
 {
-    let mut names = Vec::new(alloc);
-    names.push(format!(in alloc; "{out}.faults.csv")?)?;
-    Ok(names)
+    only_name(alloc, format!(in alloc; "{out}.faults.csv")?)
 }
 
 // The numbers of a plan that the rules read.

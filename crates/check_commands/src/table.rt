@@ -1,6 +1,5 @@
 //! The text of the table of faults.
 ghost use Rattle.std.specs.Prelude.{◌≡◌, [], ◌∷◌, Some, OnOk, IfOk, string_bytes};
-ghost use Rattle.std.specs.Fmt.{decimal};
 ghost use Rattle.std.specs.Io.KnownBytes.{Appends};
 ghost use Rattle.csv.specs.Writing.{text_written, row_text};
 ghost use Rattle.csv_rows.specs.Written.{rows_text, rows_writer};
@@ -9,7 +8,7 @@ ghost use Rattle.link_reports.specs.TableWriter.{IsBetweenRows};
 ghost use Rattle.check_commands.specs.Table.{fault_fields, fault_rows, heading};
 
 use csv::Writer;
-use link_reports::{row_writer, write_row, written_rows};
+use link_reports::{number_or_stroke, number_text, row_writer, write_row, written_rows};
 use lk_base::OutOfMemory;
 use std::alloc::{AllocError, Global};
 use word_rules::Fault;
@@ -21,20 +20,13 @@ pub fn heading() -> &'static [u8]
     b"word,rule,channel\n"
 }
 
-// The number of a word.
-fn number_text(alloc: Global, number: u64) -> Result<String, AllocError>
-    ensures { IfOk result (λ text. string_bytes text ≡ decimal number) }
-{
-    format!(in alloc; "{number}")
-}
-
 // The channel of a fault, or a stroke.
 fn channel_text(alloc: Global, channel: Option<u16>) -> Result<String, AllocError>
     ensures { IfOk result (λ text. string_bytes text ≡ number_or_stroke channel) }
 {
     match channel {
-        None => String::from_str(alloc, "-"),
-        Some(number) => format!(in alloc; "{number}"),
+        None => number_or_stroke(alloc, None),
+        Some(number) => number_text(alloc, u64::from(number)),
     }
 }
 

@@ -1,8 +1,9 @@
 //! How many faults there are, in all and of each rule.
-ghost use Rattle.std.specs.Prelude.{◌≡◌, ◌<◌, ◌+◌, ◌-◌, ◌^◌, ◌==◌, ◌++◌, [], List, cond, length, map, slice_index, slice_set, IfOk, OnOk, string_bytes};
+ghost use Rattle.std.specs.Prelude.{◌≡◌, ◌<◌, ◌+◌, ◌-◌, ◌^◌, ◌==◌, ◌++◌, [], List, cond, length, slice_index, slice_set, IfOk, OnOk, string_bytes};
 ghost use Rattle.std.specs.List.{flat_map};
 ghost use Rattle.word_rules.specs.declared.fault.Fault.{Fault};
-ghost use Rattle.check_commands.specs.Table.{check_text, faults_of, rule_line, rule_line_of, rule_place};
+ghost use Rattle.word_rules.specs.Names.{rule_place};
+ghost use Rattle.check_commands.specs.Table.{check_text, rule_line, rule_line_of};
 ghost use Rattle.check_commands.specs.Tally.{IsTally, counts_of};
 
 use link_reports::count_line;
@@ -10,63 +11,12 @@ use lk_base::OutOfMemory;
 use std::alloc::{AllocError, Global};
 use word_rules::{Fault, WordRule};
 
-// The rules, in the order in which they are counted.
-const RULES: [WordRule; 19] = [
-    WordRule::Bad,
-    WordRule::Control,
-    WordRule::Crc,
-    WordRule::Data,
-    WordRule::Max,
-    WordRule::Empty,
-    WordRule::Short,
-    WordRule::End,
-    WordRule::Fill,
-    WordRule::Part,
-    WordRule::Min,
-    WordRule::Sop,
-    WordRule::Open,
-    WordRule::Channel,
-    WordRule::Long,
-    WordRule::Idle,
-    WordRule::Multi,
-    WordRule::Calendar,
-    WordRule::Off,
-];
-
-// The place of a rule among them.
-fn rule_place(rule: WordRule) -> usize
-    ensures place { result ≡ rule_place rule }
-    ensures bound { result < 19 }
-{
-    match rule {
-        WordRule::Bad => 0,
-        WordRule::Control => 1,
-        WordRule::Crc => 2,
-        WordRule::Data => 3,
-        WordRule::Max => 4,
-        WordRule::Empty => 5,
-        WordRule::Short => 6,
-        WordRule::End => 7,
-        WordRule::Fill => 8,
-        WordRule::Part => 9,
-        WordRule::Min => 10,
-        WordRule::Sop => 11,
-        WordRule::Open => 12,
-        WordRule::Channel => 13,
-        WordRule::Long => 14,
-        WordRule::Idle => 15,
-        WordRule::Multi => 16,
-        WordRule::Calendar => 17,
-        WordRule::Off => 18,
-    }
-}
-
 // Counts one more fault of a rule.
 fn count_fault(counts: &mut [u64; 19], rule: WordRule)
     requires { slice_index counts.old (rule_place rule) < 2 ^ 64 - 1 }
     ensures { counts.new ≡ slice_set counts.old (rule_place rule) (slice_index counts.old (rule_place rule) + 1) }
 {
-    counts[rule_place(rule)] += 1;
+    counts[rule.place()] += 1;
 }
 
 // Counts faults by their rules.
@@ -103,18 +53,17 @@ fn put_rule(
     Ok(())
 }
 
-// Puts the lines of these rules after a text; `counts` has the faults of each.
+// Puts the lines of these rules after a text; `counts` has the faults of each rule at its place.
 fn put_rules(
     alloc: Global,
     text: &mut Vec<u8>,
     rules: &[WordRule],
-    counts: &[u64],
+    counts: &[u64; 19],
 ) -> Result<(), OutOfMemory>
-    requires { length rules.now ≡ length counts.now }
-    ensures { (told : List Fault) → counts.now ≡ map (faults_of told) rules.now → OnOk result (text.new.items ≡ text.old.items ++ flat_map (rule_line_of told) rules.now) }
+    ensures { (told : List Fault) → counts.now ≡ counts_of told → OnOk result (text.new.items ≡ text.old.items ++ flat_map (rule_line_of told) rules.now) }
 {
-    for place in 0..rules.len() {
-        put_rule(alloc, text, rules[place], counts[place])?;
+    for rule in rules {
+        put_rule(alloc, text, *rule, counts[rule.place()])?;
     }
     Ok(())
 }
@@ -123,7 +72,7 @@ fn put_rules(
 #[derive(Drop)]
 pub struct Tally {
     total: u64,
-    // By the places of the rules.
+    // By the places of the rules in `WordRule::ALL`.
     counts: [u64; 19],
 }
 
@@ -154,7 +103,7 @@ impl Tally {
         let mut text = Vec::new(alloc);
         count_line(alloc, &mut text, "words", words)?;
         count_line(alloc, &mut text, "faults", self.total)?;
-        put_rules(alloc, &mut text, &RULES, &self.counts)?;
+        put_rules(alloc, &mut text, &WordRule::ALL, &self.counts)?;
         Ok(text)
     }
 }

@@ -6,6 +6,8 @@ use Rattle.pcap_files.specs.Written.{capture_bytes}
 use Rattle.link_reports.specs.Lines.{end_line, slots_line}
 use Rattle.duplex_model.specs.DuplexRun.{Settings, Ends, IsDuplexRun, peak}
 use Rattle.duplex_model.specs.Came.{came}
+use Rattle.duplex.specs.declared.duplex.End.{End}
+use Rattle.duplex.specs.declared.duplex.End.TheVariants.{A, B}
 use Rattle.receipts.specs.Received.{bytes_of}
 use Rattle.pcap_files.specs.Names.{capture_name}
 use Rattle.receipts.specs.declared.receipt.ChannelReceipt.{ChannelReceipt}
@@ -23,6 +25,11 @@ abbrev pub files_under : Beginning → Settings → List ℕ → List Word → L
 files_under b settings prefix sent =
     map (λ channel. record { name = capture_name prefix channel; content = capture_bytes b.link_type (packets_on b settings sent channel) }) b.setting.channels
 
+-- the letter of an end
+abbrev pub letter_of : End → ℕ
+letter_of A = 97
+letter_of B = 98
+
 -- what is reported of the channels by number, of the end of this letter
 abbrev pub text_under : Beginning → Settings → ℕ → List Word → List ℕ
 text_under b settings letter sent =
@@ -34,7 +41,7 @@ counted_line letter settings sent slots c = end_line letter c.channel c.packets 
 
 -- the lines of both ends, and how many slots there were
 abbrev pub run_text : Beginning → Settings → List Word → List Word → List ℕ
-run_text b settings from_a from_b = text_under b settings 97 from_b ++ (text_under b settings 98 from_a ++ slots_line settings.slots)
+run_text b settings from_a from_b = text_under b settings (letter_of A) from_b ++ (text_under b settings (letter_of B) from_a ++ slots_line settings.slots)
 
 abbrev pub run_outcome : Beginning → Settings → List Word → List Word → Outcome
 run_outcome b settings from_a from_b = record {

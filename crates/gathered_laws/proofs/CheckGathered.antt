@@ -40,7 +40,8 @@ use Rattle.run_shell.specs.Work.{refused_outcome}
 use Rattle.check_commands.specs.AfterBurst.{TellsNoFault}
 use Rattle.check_commands.specs.Check.{IsChecked, check_inputs_in, faults_name, rules_of, told_outcome, with_flow, with_words}
 use Rattle.check_commands.specs.CheckLaws.{WorkedTables}
-use Rattle.check_commands.specs.Table.{all_rules, rule_line_of}
+use Rattle.word_rules.specs.Names.{all_rules}
+use Rattle.check_commands.specs.Table.{rule_line_of}
 use Rattle.gathered_laws.specs.AfterSend.{CheckAfterGather, GatherAfterSend, later_words}
 use Rattle.gathered_laws.proofs.Warmup.{none_from_warmup, three_in_warmup}
 

@@ -94,8 +94,8 @@ pub extern "C" fn interlaken_receiver_report(
     c_receiver::report(alloc, receiver, lane, report)
 }
 
-/// Writes how far the search for the locks of a lane is after the bytes that were taken from its ring: one of the states in
-/// `codes`, `LANE_SEARCHING` to `LANE_DECLARED`. It is `DONE`, `NO_LANE` or `NO_RECEIVER`.
+/// Writes how far the search for the locks of a lane is after the bytes that were taken from its ring: the number of a
+/// `LaneState`. It is `DONE`, `NO_LANE` or `NO_RECEIVER`.
 #[unsafe(no_mangle)]
 pub extern "C" fn interlaken_receiver_lane_state(
     alloc: Global,

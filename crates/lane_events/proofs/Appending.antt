@@ -1,25 +1,38 @@
 -- The events of some bytes are found one piece after another.
-use Rattle.std.proofs.Common.{ℕ, ◌≡◌, sym, ap, ◌∙◌, subst, ◌+◌, ◌≤◌, Bool, List, ◌++◌, length, filter, take, drop, arith, append_assoc}
+use Rattle.std.proofs.Common.{ℕ, ◌≡◌, refl, sym, ap, ◌∙◌, subst, ◌+◌, ◌≤◌, ◌==◌, Bool, true, false, List, [], ◌∷◌, ◌++◌, length, map, take, drop, arith, append_assoc, eqb-true, true≢false}
 use Rattle.std.proofs.Math.Seq.{take-add}
 use Rattle.std.proofs.lemmas.List.{append-nil, length-append, length-map, take_all}
 use Rattle.std.proofs.lemmas.List.Concat.{flat_map-append}
-use Rattle.std.proofs.lemmas.List.Sums.{count_by-le-length, length-filter}
 use Rattle.lk_base.specs.Checksum.{bits_of, bits_of_bytes}
+use Rattle.lane_events.specs.declared.types.EventKind.{EventKind}
 use Rattle.lane_events.specs.declared.types.LaneEvent.{LaneEvent}
 use Rattle.lane_events.specs.declared.word_events.WordEvents.{WordEvents}
-use Rattle.lane_events.specs.Events.{AreLaneEvents, all_kinds}
-use Rattle.lane_events.specs.Inspection.{Finds, GoesOn, Inspects, InspectorView, event_of, events_in, has_kind}
+use Rattle.lane_events.specs.Events.{AreLaneEvents}
+use Rattle.lane_events.specs.Inspection.{Finds, GoesOn, Inspects, InspectorView, events_in}
+use Rattle.lane_events.specs.Steps.{event_of}
 
--- a word has at most twelve events
-few_events : (w : WordEvents) → length (events_in w) ≤ 12
-few_events w =
-    let a = length-map (filter (has_kind w) all_kinds) (event_of w.bit) in
-    let b = length-filter (has_kind w) all_kinds in
-    let c = count_by-le-length (has_kind w) all_kinds in
-    omega (arith, a, b, c)
+-- at most twelve kinds give at most twelve events
+pub few_appended : (bit : ℕ) (ks : List EventKind) (old new : List LaneEvent) → length ks ≤ 12 → new ≡ old ++ map (event_of bit) ks → length new ≤ length old + 12
+few_appended bit ks old new few e =
+    let f = length-map ks (event_of bit) in
+    let l = length-append old (map (event_of bit) ks) in
+    let g = ap length e in
+    omega (arith, few, f, l, g)
 
-pub few_appended : (w : WordEvents) (old new : List LaneEvent) → new ≡ old ++ events_in w → length new ≤ length old + 12
-few_appended w old new e = let f = few_events w in let l = length-append old (events_in w) in let g = ap length e in omega (arith, f, l, g)
+-- a word without kinds has no event, and one with some has some
+none_in : (bit : ℕ) (ks : List EventKind) → (length ks == 0) ≡ true → map (event_of bit) ks ≡ []
+none_in bit [] e = refl
+none_in bit (k ∷ ks) e = let l : length (k ∷ ks) ≡ length ks + 1 = omega arith in absurd (omega (arith, l, eqb-true (length (k ∷ ks)) 0 e))
+
+some_in : (bit : ℕ) (ks : List EventKind) → (length ks == 0) ≡ false → map (event_of bit) ks ≡ [] → ⊥
+some_in bit [] e h = true≢false e
+some_in bit (k ∷ ks) e h = cc
+
+pub none_of : (w : WordEvents) → (length w.kinds.items == 0) ≡ true → events_in w ≡ []
+none_of w e = none_in w.bit w.kinds.items e
+
+pub some_of : (w : WordEvents) → (length w.kinds.items == 0) ≡ false → events_in w ≡ [] → ⊥
+some_of w e = some_in w.bit w.kinds.items e
 
 -- before the first byte
 pub found_none : (v : InspectorView) (bytes : List ℕ) (before : List LaneEvent) → Finds v v (bits_of_bytes (take 0 bytes)) before before

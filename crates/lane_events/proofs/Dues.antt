@@ -1,10 +1,12 @@
 -- The events that are due, one after another.
-use Rattle.std.proofs.Common.{ℕ, zero, suc, get_or, ◌≡◌, refl, ap, ◌∙◌, ◌<◌, ◌+◌, true, false, List, [], ◌∷◌, length, map, filter, drop, arith}
+use Rattle.std.proofs.Common.{ℕ, zero, suc, get_or, ◌≡◌, refl, ap, ◌∙◌, ◌<◌, ◌≤◌, ◌==◌, ◌+◌, ◌-◌, List, [], ◌∷◌, length, map, drop, arith}
+use Rattle.std.proofs.lemmas.Bool.Decides.{nat_tests}
+use Rattle.std.proofs.lemmas.List.{length-drop, length-map}
 use Rattle.lane_events.specs.declared.types.EventKind.{EventKind}
 use Rattle.lane_events.specs.declared.types.LaneEvent.{LaneEvent}
 use Rattle.lane_events.specs.declared.word_events.WordEvents.{WordEvents}
-use Rattle.lane_events.specs.Events.{all_kinds}
-use Rattle.lane_events.specs.Inspection.{due_from, event_of, has_kind}
+use Rattle.lane_events.specs.Inspection.{due_from}
+use Rattle.lane_events.specs.Steps.{event_of}
 
 -- the kinds from a place on begin with the one at that place
 drop_by : (ks : List EventKind) (n : ℕ) (d : EventKind) → n < length ks → drop n ks ≡ get_or ks n d ∷ drop (suc n) ks
@@ -15,19 +17,21 @@ drop_by (k ∷ ks) (suc n) d lt = let e : length (k ∷ ks) ≡ length ks + 1 = 
 drop_at : (ks : List EventKind) (n : ℕ) (d : EventKind) → n < length ks → drop n ks ≡ get_or ks n d ∷ drop (n + 1) ks
 drop_at ks n d lt = let e : suc n ≡ n + 1 = omega arith in drop_by ks n d lt ∙ ap (λ m. get_or ks n d ∷ drop m ks) e
 
-abbrev events_of : WordEvents → List EventKind → List LaneEvent
-events_of w ks = map (event_of w.bit) (filter (has_kind w) ks)
+-- the event of the kind at this place is first
+pub due_here : (w : WordEvents) (n : ℕ) (d : EventKind) → n < length w.kinds.items → due_from w n ≡ event_of w.bit (get_or w.kinds.items n d) ∷ due_from w (n + 1)
+due_here w n d lt = ap (λ (ks : List EventKind). map (event_of w.bit) ks) (drop_at w.kinds.items n d lt)
 
-kept : (w : WordEvents) (k : EventKind) (ks : List EventKind) → has_kind w k ≡ true → events_of w (k ∷ ks) ≡ event_of w.bit k ∷ events_of w ks
-kept w k ks e = rw e refl
+-- how many are due
+left : (w : WordEvents) (n : ℕ) → length (due_from w n) ≡ length w.kinds.items - n
+left w n = length-map (drop n w.kinds.items) (event_of w.bit) ∙ length-drop n w.kinds.items
 
-left_out : (w : WordEvents) (k : EventKind) (ks : List EventKind) → has_kind w k ≡ false → events_of w (k ∷ ks) ≡ events_of w ks
-left_out w k ks e = rw e refl
+-- none is due where all were given, and only there
+pub all_given : (w : WordEvents) (n : ℕ) → n ≤ length w.kinds.items → (n == length w.kinds.items) ≡ (length (due_from w n) == 0)
+all_given w n le = let l = left w n in grind (arith, nat_tests)
 
--- the word has the kind at this place: its event is first
-pub due_here : (w : WordEvents) (n : ℕ) (d : EventKind) → n < 12 → has_kind w (get_or all_kinds n d) ≡ true → due_from w n ≡ event_of w.bit (get_or all_kinds n d) ∷ due_from w (n + 1)
-due_here w n d lt e = ap (events_of w) (drop_at all_kinds n d lt) ∙ kept w (get_or all_kinds n d) (drop (n + 1) all_kinds) e
-
--- or does not have it
-pub due_later : (w : WordEvents) (n : ℕ) (d : EventKind) → n < 12 → has_kind w (get_or all_kinds n d) ≡ false → due_from w n ≡ due_from w (n + 1)
-due_later w n d lt e = ap (events_of w) (drop_at all_kinds n d lt) ∙ left_out w (get_or all_kinds n d) (drop (n + 1) all_kinds) e
+pub none_due : (w : WordEvents) (n : ℕ) → n ≡ length w.kinds.items → due_from w n ≡ []
+none_due w n e = let l = left w n in empty (due_from w n) (omega (arith, l, e))
+  where
+    empty : (es : List LaneEvent) → length es ≡ 0 → es ≡ []
+    empty [] h = refl
+    empty (x ∷ es) h = let l : length (x ∷ es) ≡ length es + 1 = omega arith in absurd (omega (arith, l, h))

@@ -31,7 +31,7 @@ use Rattle.lane_events.specs.declared.word_events.WordEvents.{WordEvents}
 use Rattle.lane_events.specs.EventLaw.{AreCounted}
 use Rattle.lane_events.specs.Events.{AreLaneEvents, has_event, lane_events, word_events}
 use Rattle.lane_events.specs.Inspection.{Balances, GoesOn, Inspects, InspectorView, IsPassed, IsPushed, IsShown, IsTold, balance_of, events_in, excess_before, open_of}
-use Rattle.lane_events.specs.Steps.{balance_before, balance_behind, covered_word, is_plain, told, unbalances}
+use Rattle.lane_events.specs.Steps.{balance_before, balance_behind, covered_has, events_at, is_plain, told, unbalances}
 use Rattle.lane_events.specs.Balance.{balance_after}
 use Rattle.lane_events.proofs.Balances.{balance_more, balances_stay, none_balance, unbalances_is}
 use Rattle.lane_events.proofs.Counts.{events_are_counted}
@@ -47,14 +47,14 @@ long_of s link = link.metaframe.0
 -- ---- one word
 
 -- what is told of the word of a step, and the balance after it
-record Told (s : Settings) (bits : List Bool) (now : Option Lock) (new : List LaneEvent) (balance : Option ℤ) (given : WordEvents) : Type 0 where
-  events : events_in given ≡ new
+record Told (s : Settings) (bits : List Bool) (now : Option Lock) (new : List LaneEvent) (balance : Option ℤ) (given : List LaneEvent) : Type 0 where
+  events : given ≡ new
   balances : Balances balance bits now
 
 module _ (s : Settings) (link : IsLink s) (bits : List Bool) (excess_now : ℤ) (old : List LaneEvent) (before after : LaneReport) (counts_before : AreCounted old before) where
   -- a covered word, by what its step has of it
   covers : (at r : ℕ) (balance : Option ℤ) (now : Option Lock) (new : List LaneEvent) (step x : LaneStep) → CoversWord s bits at r now new step → AreCounted (old ++ new) after →
-      ((u : Bool) → told x before after u ≡ covered_word (at + 67 * r) (received_at s bits at r) (role_of s (r % s.metaframe)) before after u) →
+      ((u : Bool) → told x before after u ≡ events_at (at + 67 * r) (covered_has (received_at s bits at r) (role_of s (r % s.metaframe)) before after u)) →
       ((b : Option ℤ) (e : ℤ) → balance_behind x b e ≡ balance_after b e) →
       balance_before x balance ≡ balance_of bits at r → excess_now ≡ excess 67 (ones_in 67 (code_at bits (at + 67 * r))) →
       Told s bits now new (balance_behind x (balance_before x balance) excess_now) (told x before after (unbalances (balance_before x balance) (balance_behind x (balance_before x balance) excess_now)))
@@ -66,7 +66,7 @@ module _ (s : Settings) (link : IsLink s) (bits : List Bool) (excess_now : ℤ) 
       let counts : AreCounted (old ++ word_events s bits at r) after = subst (λ (es : List LaneEvent). AreCounted (old ++ es) after) k.events counts_after in
       let ends = k.ends in
       record {
-        events = ap events_in (told_is (unbalances (balance_before x balance) (balance_behind x (balance_before x balance) excess_now)))
+        events = told_is (unbalances (balance_before x balance) (balance_behind x (balance_before x balance) excess_now))
             ∙ covered_told s bits link at r old before after counts_before counts (unbalances (balance_before x balance) (balance_behind x (balance_before x balance) excess_now)) turned
             ∙ sym k.events;
         balances = subst (λ (o : Option Lock). Balances (balance_behind x (balance_before x balance) excess_now) bits o) (sym k.now_is) (behind, omega (arith, ends));
@@ -81,9 +81,9 @@ module _ (s : Settings) (link : IsLink s) (bits : List Bool) (excess_now : ℤ) 
       let zero_place : 0 % s.metaframe ≡ 0 = omega (arith, long) in
       subst (λ (x : LaneStep). Told s bits now new (balance_behind x (balance_before x balance) excess_now) (told x before after (unbalances (balance_before x balance) (balance_behind x (balance_before x balance) excess_now)))) (sym k.step_is)
       (covers at 0 balance now new step (steps.Locked (at + 67 * 0)) k counts_after
-      (λ u. sym (ap (λ w. covered_word (at + 67 * 0) w (role_of s (0 % s.metaframe)) before after u) (k.first refl)
-      ∙ ap (λ p. covered_word (at + 67 * 0) (Control sync_payload) (role_of s p) before after u) zero_place
-      ∙ ap (λ r. covered_word (at + 67 * 0) (Control sync_payload) r before after u) (role_sync s)))
+      (λ u. sym (ap (λ w. events_at (at + 67 * 0) (covered_has w (role_of s (0 % s.metaframe)) before after u)) (k.first refl)
+      ∙ ap (λ p. events_at (at + 67 * 0) (covered_has (Control sync_payload) (role_of s p) before after u)) zero_place
+      ∙ ap (λ r. events_at (at + 67 * 0) (covered_has (Control sync_payload) r before after u)) (role_sync s)))
       (λ b x. refl) (sym (none_balance bits at)) e)
 
   -- a word after it
@@ -254,7 +254,7 @@ module _ (v u : InspectorView) (width x : ℕ) (front : List Bool) (b : Bool) (b
         (still_counted (lane_events s bits old) (lane_events s bits old) v.counted u.counted refl pushed.counted (k.counts old are)) u.balance (open_of bits old) g.middle g.new step g.tells
         (subst (λ (es : List LaneEvent). AreCounted es after) (grown s bits k old all are are_all) (reported s (bits ++ (front ++ b ∷ back)) after (second s (bits ++ (front ++ b ∷ back)) (now s bits k).0) all are_all))
         (balance_there s bits k old are) (code_is s bits k) in (
-          ap events_in (shown.events ∙ ap (λ y. told step u.counted after (unbalances (balance_before step u.balance) y)) shown.balance) ∙ t.events,
+          shown.events ∙ ap (λ y. told step u.counted after (unbalances (balance_before step u.balance) y)) shown.balance ∙ t.events,
           balance_past s bits k w.balance all g.middle g.lock (subst (λ (y : Option ℤ). Balances y word_bits g.middle) (sym shown.balance) t.balances),
         )
 

@@ -15,11 +15,9 @@ use Rattle.lock_model.specs.Report.{has_right_diagnostic}
 use Rattle.lane_events.specs.declared.types.EventKind.{EventKind}
 use Rattle.lane_events.specs.declared.types.EventKind.TheVariants as kinds
 use Rattle.lane_events.specs.declared.types.LaneEvent.{LaneEvent}
-use Rattle.lane_events.specs.declared.word_events.WordEvents.{WordEvents}
 use Rattle.lane_events.specs.EventLaw.{AreCounted, count_of, kind_place}
 use Rattle.lane_events.specs.Events.{all_kinds, has_event, is_unhealthy, loss_kind, word_events}
-use Rattle.lane_events.specs.Inspection.{events_in, has_kind}
-use Rattle.lane_events.specs.Steps.{covered_word, is_diagnostic_place, losing_word}
+use Rattle.lane_events.specs.Steps.{covered_has, event_of, events_at, is_diagnostic_place}
 use Rattle.lane_events.proofs.Counts.{count_append, count_cons, count_word}
 use Rattle.lane_events.proofs.Local.{filters_same}
 
@@ -61,13 +59,13 @@ health_is false right unhealthy same e = refl
 module _ (s : Settings) (bits : List Bool) (link : IsLink s) (at r : ℕ) (old : List LaneEvent) (before after : LaneReport)
     (counts_before : AreCounted old before) (counts_after : AreCounted (old ++ word_events s bits at r) after) (unbalances : Bool)
     (balance_is : unbalances ≡ has_event s bits at r kinds.Balance) where
-  abbrev pub word : WordEvents
-  word = covered_word (at + 67 * r) (received_at s bits at r) (role_of s (r % s.metaframe)) before after unbalances
+  abbrev has : EventKind → Bool
+  has = covered_has (received_at s bits at r) (role_of s (r % s.metaframe)) before after unbalances
 
   risen_by : (kind : EventKind) (a b : ℕ) → count_of kind old ≡ b → count_of kind (old ++ word_events s bits at r) ≡ a → not (a == b) ≡ has_event s bits at r kind
   risen_by kind a b e f = flag a b (has_event s bits at r kind) (risen kind old (word_events s bits at r) a b e f ∙ ap (λ n. b + n) (count_word s bits at r kind))
 
-  kinds_are : (kind : EventKind) → has_kind word kind ≡ has_event s bits at r kind
+  kinds_are : (kind : EventKind) → has kind ≡ has_event s bits at r kind
   kinds_are kinds.Bad = risen_by kinds.Bad after.bad before.bad counts_before.bad counts_after.bad
   kinds_are kinds.Sync = risen_by kinds.Sync after.sync before.sync counts_before.sync counts_after.sync
   kinds_are kinds.State = risen_by kinds.State after.state before.state counts_before.state counts_after.state
@@ -85,36 +83,34 @@ module _ (s : Settings) (bits : List Bool) (link : IsLink s) (at r : ℕ) (old :
   kinds_are kinds.LostState = refl
   kinds_are kinds.Unframed = refl
 
-  pub covered_told : events_in word ≡ word_events s bits at r
+  pub covered_told : events_at (at + 67 * r) has ≡ word_events s bits at r
   unfolding word_events
-  covered_told = ap (λ ks. map (λ (kind : EventKind). event (at + 67 * r) kind) ks) (filters_same (has_kind word) (has_event s bits at r) all_kinds kinds_are)
-    where
-      event : ℕ → EventKind → LaneEvent
-      event bit kind = record { bit = bit; kind = kind }
+  covered_told = ap (λ ks. map (event_of (at + 67 * r)) ks) (filters_same has (has_event s bits at r) all_kinds kinds_are)
 
 -- ---- a losing word
 
-loss_in : (at : ℕ) (declared : Bool) (why : LostWhy) (unframed : Bool) → unframed ≡ (kind_place (loss_kind declared why) == 11) → events_in (losing_word at why unframed) ≡ record { bit = at; kind = loss_kind declared why } ∷ []
-loss_in at true whys.Headers true e = absurd (true≢false e)
-loss_in at true whys.Headers false e = refl
-loss_in at true whys.Sync true e = absurd (true≢false e)
-loss_in at true whys.Sync false e = refl
-loss_in at true whys.State true e = absurd (true≢false e)
-loss_in at true whys.State false e = refl
-loss_in at true whys.Unframed true e = refl
-loss_in at true whys.Unframed false e = absurd (false≢true e)
-loss_in at false why true e = refl
-loss_in at false why false e = absurd (false≢true e)
+-- the loss is that of a search where the losses of searches have risen
+loss_in : (declared : Bool) (why : LostWhy) (same : Bool) → not same ≡ (kind_place (loss_kind declared why) == 11) → loss_kind same why ≡ loss_kind declared why
+loss_in true whys.Headers true e = refl
+loss_in true whys.Headers false e = absurd (true≢false e)
+loss_in true whys.Sync true e = refl
+loss_in true whys.Sync false e = absurd (true≢false e)
+loss_in true whys.State true e = refl
+loss_in true whys.State false e = absurd (true≢false e)
+loss_in true whys.Unframed true e = refl
+loss_in true whys.Unframed false e = refl
+loss_in false why true e = absurd (false≢true e)
+loss_in false why false e = refl
 
 pub lost_told : (at : ℕ) (declared : Bool) (why : LostWhy) (old : List LaneEvent) (before after : LaneReport) → AreCounted old before →
-    AreCounted (old ++ record { bit = at; kind = loss_kind declared why } ∷ []) after →
-    events_in (losing_word at why (not (after.unframed == before.unframed))) ≡ record { bit = at; kind = loss_kind declared why } ∷ []
+    AreCounted (old ++ event_of at (loss_kind declared why) ∷ []) after →
+    event_of at (loss_kind (after.unframed == before.unframed) why) ∷ [] ≡ event_of at (loss_kind declared why) ∷ []
 lost_told at declared why old before after b a =
-    let e : LaneEvent = record { bit = at; kind = loss_kind declared why } in
+    let e : LaneEvent = event_of at (loss_kind declared why) in
     let c = count_cons kinds.Unframed e [] in
     let d : count_of kinds.Unframed (e ∷ []) ≡ digit (kind_place (loss_kind declared why) == 11) = c ∙ once (kind_place (loss_kind declared why) == 11) in
-    loss_in at declared why (not (after.unframed == before.unframed))
-    (flag after.unframed before.unframed (kind_place (loss_kind declared why) == 11) (risen kinds.Unframed old (e ∷ []) after.unframed before.unframed b.unframed a.unframed ∙ ap (λ n. before.unframed + n) d))
+    ap (λ (kind : EventKind). event_of at kind ∷ []) (loss_in declared why (after.unframed == before.unframed)
+    (flag after.unframed before.unframed (kind_place (loss_kind declared why) == 11) (risen kinds.Unframed old (e ∷ []) after.unframed before.unframed b.unframed a.unframed ∙ ap (λ n. before.unframed + n) d)))
   where
     once : (b : Bool) → cond b 1 0 + 0 ≡ digit b
     once true = refl

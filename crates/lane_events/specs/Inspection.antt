@@ -1,5 +1,5 @@
 -- What an inspector keeps of the bits of a lane.
-use Rattle.std.specs.Prelude.{ℕ, ℤ, ◌≡◌, ◌≤◌, ◌+◌, ◌*◌, ◌/◌, ◌%◌, ◌^◌, Bool, true, false, List, [], ◌∷◌, ◌++◌, length, drop, map, filter, Option, Some, None, is_some, if◌then◌else◌}
+use Rattle.std.specs.Prelude.{ℕ, ℤ, ◌≡◌, ◌≤◌, ◌+◌, ◌*◌, ◌/◌, ◌%◌, ◌^◌, Bool, true, false, List, [], ◌∷◌, ◌++◌, length, drop, map, Option, Some, None, is_some, if◌then◌else◌}
 use Rattle.std.specs.List.{list_any, range_with_len}
 use Rattle.std.specs.Int.Count.{ones_in}
 use Rattle.lk_base.specs.Link.{Settings}
@@ -11,41 +11,21 @@ use Rattle.lock_model.specs.Locks.{Attempt, AreAttempts, code_at}
 use Rattle.lock_model.specs.Received.{Lock, lock_of}
 use Rattle.lane_lock.specs.Lane.{LaneView}
 use Rattle.lane_lock.specs.Standing.{IsReport, Stands}
-use Rattle.lane_events.specs.declared.types.EventKind.{EventKind}
-use Rattle.lane_events.specs.declared.types.EventKind.TheVariants as kinds
 use Rattle.lane_events.specs.declared.types.LaneEvent.{LaneEvent}
 use Rattle.lane_events.specs.declared.word_events.WordEvents.{WordEvents}
 use Rattle.lane_events.specs.EventLaw.{AreCounted}
-use Rattle.lane_events.specs.Events.{AreLaneEvents, all_kinds, is_unbalanced, lane_events}
-use Rattle.lane_events.specs.Steps.{balance_before, balance_behind, is_plain, told, unbalances}
+use Rattle.lane_events.specs.Events.{AreLaneEvents, is_unbalanced, lane_events}
+use Rattle.lane_events.specs.Steps.{balance_before, balance_behind, event_of, is_plain, told, unbalances}
 
 -- ---- the events of one word
 
--- the word has an event of this kind
-abbrev pub has_kind : WordEvents → EventKind → Bool
-has_kind w kinds.Bad = w.bad
-has_kind w kinds.Sync = w.sync
-has_kind w kinds.State = w.state
-has_kind w kinds.Skip = w.skip
-has_kind w kinds.Diagnostic = w.diag
-has_kind w kinds.Health = w.health
-has_kind w kinds.Balance = w.balance
-has_kind w kinds.Lock = w.lock
-has_kind w kinds.LostHeaders = w.lost_headers
-has_kind w kinds.LostSync = w.lost_sync
-has_kind w kinds.LostState = w.lost_state
-has_kind w kinds.Unframed = w.unframed
-
-abbrev pub event_of : ℕ → EventKind → LaneEvent
-event_of bit kind = record { bit = bit; kind = kind }
-
 -- they, in order
 abbrev pub events_in : WordEvents → List LaneEvent
-events_in w = map (event_of w.bit) (filter (has_kind w) all_kinds)
+events_in w = map (event_of w.bit) w.kinds.items
 
--- those of the kinds from this place on
+-- those from this place on
 abbrev pub due_from : WordEvents → ℕ → List LaneEvent
-due_from w n = map (event_of w.bit) (filter (has_kind w) (drop n all_kinds))
+due_from w n = map (event_of w.bit) (drop n w.kinds.items)
 
 -- they, if the word shows any
 abbrev pub events_if : Bool → WordEvents → List LaneEvent
@@ -131,7 +111,7 @@ pub record IsShown (v w : InspectorView) (before after : LaneReport) (step : Lan
   pub window : w.window ≡ v.window
   pub balance : w.balance ≡ balance_behind step (balance_before step v.balance) (excess_before v further)
   pub counted : w.counted ≡ after
-  pub events : given ≡ told step before after (unbalances (balance_before step v.balance) w.balance)
+  pub events : events_in given ≡ told step before after (unbalances (balance_before step v.balance) w.balance)
 
 -- the word of a step was told, after which this many bits came, with the report after it: these are its events
 pub record IsTold (v w : InspectorView) (step : LaneStep) (further : ℕ) (events : List LaneEvent) : Type 0 where

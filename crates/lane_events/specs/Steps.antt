@@ -1,5 +1,5 @@
 -- The events that a step of a lane's locks tells of, with the reports before and after it.
-use Rattle.std.specs.Prelude.{ℕ, ℤ, pos, ◌==◌, Bool, true, false, not, ◌&&◌, Option, Some, is_none, is_some}
+use Rattle.std.specs.Prelude.{ℕ, ℤ, pos, ◌==◌, Bool, true, false, not, ◌&&◌, List, [], ◌∷◌, map, filter, Option, Some, is_none, is_some}
 use Rattle.lk_base.specs.declared.word.RxWord.{RxWord}
 use Rattle.lk_base.specs.declared.word.RxWord.TheVariants.{Control}
 use Rattle.lk_base.specs.Words.{is_bad}
@@ -9,14 +9,19 @@ use Rattle.lane_model.specs.Framing.{sync_payload}
 use Rattle.lock_model.specs.declared.types.LaneReport.{LaneReport}
 use Rattle.lock_model.specs.declared.types.LaneStep.{LaneStep}
 use Rattle.lock_model.specs.declared.types.LaneStep.TheVariants as steps
-use Rattle.lock_model.specs.declared.types.LostWhy.{LostWhy}
-use Rattle.lock_model.specs.declared.types.LostWhy.TheVariants as whys
-use Rattle.lane_events.specs.declared.word_events.WordEvents.{WordEvents}
+use Rattle.lane_events.specs.declared.types.EventKind.{EventKind}
+use Rattle.lane_events.specs.declared.types.EventKind.TheVariants as kinds
+use Rattle.lane_events.specs.declared.types.LaneEvent.{LaneEvent}
 use Rattle.lane_events.specs.Balance.{balance_after}
-use Rattle.lane_events.specs.Events.{is_no_skip, is_skip_place, is_unhealthy}
+use Rattle.lane_events.specs.Events.{all_kinds, is_no_skip, is_skip_place, is_unhealthy, loss_kind}
 
-abbrev pub no_events : ℕ → WordEvents
-no_events bit = record { bit = bit; bad = false; sync = false; state = false; skip = false; diag = false; health = false; balance = false; lock = false; lost_headers = false; lost_sync = false; lost_state = false; unframed = false }
+-- the event of this kind of a word at this bit position
+abbrev pub event_of : ℕ → EventKind → LaneEvent
+event_of bit kind = record { bit = bit; kind = kind }
+
+-- the events of a word at this bit position that has these kinds, in their order
+abbrev pub events_at : ℕ → (EventKind → Bool) → List LaneEvent
+events_at bit has = map (event_of bit) (filter has all_kinds)
 
 abbrev pub is_diagnostic_place : Role → Bool
 is_diagnostic_place roles.Sync = false
@@ -25,67 +30,28 @@ is_diagnostic_place roles.Skip = false
 is_diagnostic_place (roles.Payload n) = false
 is_diagnostic_place roles.Diagnostic = true
 
--- a covered word: what is counted of it, what it is, and whether it unbalances its lock
-abbrev pub covered_word : ℕ → RxWord → Role → LaneReport → LaneReport → Bool → WordEvents
-covered_word at word role before after unbalances = record {
-  bit = at;
-  bad = not (after.bad == before.bad);
-  sync = not (after.sync == before.sync);
-  state = not (after.state == before.state);
-  skip = is_skip_place role && is_no_skip word;
-  diag = not (after.diag == before.diag);
-  health = is_diagnostic_place role && (after.diag == before.diag) && is_unhealthy word;
-  balance = unbalances;
-  lock = not (after.locks == before.locks);
-  lost_headers = false;
-  lost_sync = false;
-  lost_state = false;
-  unframed = false;
-}
-
-abbrev pub is_headers : LostWhy → Bool
-is_headers whys.Headers = true
-is_headers whys.Unframed = false
-is_headers whys.Sync = false
-is_headers whys.State = false
-
-abbrev pub is_sync : LostWhy → Bool
-is_sync whys.Headers = false
-is_sync whys.Unframed = false
-is_sync whys.Sync = true
-is_sync whys.State = false
-
-abbrev pub is_state : LostWhy → Bool
-is_state whys.Headers = false
-is_state whys.Unframed = false
-is_state whys.Sync = false
-is_state whys.State = true
-
--- a losing word, of a declared lock or before a declaration
-abbrev pub losing_word : ℕ → LostWhy → Bool → WordEvents
-losing_word at why unframed = record {
-  bit = at;
-  bad = false;
-  sync = false;
-  state = false;
-  skip = false;
-  diag = false;
-  health = false;
-  balance = false;
-  lock = false;
-  lost_headers = not unframed && is_headers why;
-  lost_sync = not unframed && is_sync why;
-  lost_state = not unframed && is_state why;
-  unframed = unframed;
-}
+-- a covered word has an event of this kind: from what is counted of it, what it is, and whether it unbalances its lock
+abbrev pub covered_has : RxWord → Role → LaneReport → LaneReport → Bool → EventKind → Bool
+covered_has word role before after unbalances kinds.Bad = not (after.bad == before.bad)
+covered_has word role before after unbalances kinds.Sync = not (after.sync == before.sync)
+covered_has word role before after unbalances kinds.State = not (after.state == before.state)
+covered_has word role before after unbalances kinds.Skip = is_skip_place role && is_no_skip word
+covered_has word role before after unbalances kinds.Diagnostic = not (after.diag == before.diag)
+covered_has word role before after unbalances kinds.Health = is_diagnostic_place role && (after.diag == before.diag) && is_unhealthy word
+covered_has word role before after unbalances kinds.Balance = unbalances
+covered_has word role before after unbalances kinds.Lock = not (after.locks == before.locks)
+covered_has word role before after unbalances kinds.LostHeaders = false
+covered_has word role before after unbalances kinds.LostSync = false
+covered_has word role before after unbalances kinds.LostState = false
+covered_has word role before after unbalances kinds.Unframed = false
 
 -- the events of the word that a step is of
-abbrev pub told : LaneStep → LaneReport → LaneReport → Bool → WordEvents
-told steps.Nothing before after unbalances = no_events 0
-told (steps.Word word role at) before after unbalances = covered_word at word role before after unbalances
-told (steps.Locked at) before after unbalances = covered_word at (Control sync_payload) roles.Sync before after unbalances
-told (steps.Lost why at) before after unbalances = losing_word at why (not (after.unframed == before.unframed))
-told steps.Ended before after unbalances = no_events 0
+abbrev pub told : LaneStep → LaneReport → LaneReport → Bool → List LaneEvent
+told steps.Nothing before after unbalances = []
+told (steps.Word word role at) before after unbalances = events_at at (covered_has word role before after unbalances)
+told (steps.Locked at) before after unbalances = events_at at (covered_has (Control sync_payload) roles.Sync before after unbalances)
+told (steps.Lost why at) before after unbalances = event_of at (loss_kind (after.unframed == before.unframed) why) ∷ []
+told steps.Ended before after unbalances = []
 
 -- ---- the steps that show nothing but a balance
 

@@ -1,85 +1,67 @@
 //! The events of one word, given one after another.
-ghost use Rattle.std.specs.Prelude.{◌≡◌, ◌≤◌, ◌==◌, [], length, IfNone};
+ghost use Rattle.std.specs.Prelude.{◌≡◌, ◌==◌, [], length, IfNone};
 ghost use Rattle.std.specs.List.{cons_option};
-ghost use Rattle.lane_events.specs.Inspection.{due_from, shown_in};
+ghost use Rattle.lane_events.specs.Inspection.{shown_in};
 
 use crate::types::LaneEvent;
-use crate::word_events::{KINDS, WordEvents};
+use crate::word_events::WordEvents;
 use std::marker::Model;
 
 /// The events of one word that are due: each is given once, in the order of the kinds.
 #[derive(Drop)]
 pub struct DueEvents {
     word: WordEvents,
-    /// The place of the kind that is due first: as many as there are kinds, if none is due.
-    at: usize,
+    /// How many of its events were given.
+    given: usize,
 }
 
 impl Model for DueEvents {
-    ghost use Rattle.std.specs.Prelude.{◌≡◌, ◌<◌, ◌≤◌, true, List, get_or};
+    ghost use Rattle.std.specs.Prelude.{◌≤◌, List, length};
     ghost use Rattle.lane_events.specs.declared.types.LaneEvent.{LaneEvent as Event};
-    ghost use Rattle.lane_events.specs.declared.types.EventKind.TheVariants.{Bad};
-    ghost use Rattle.lane_events.specs.Events.{all_kinds};
-    ghost use Rattle.lane_events.specs.Inspection.{due_from, has_kind};
+    ghost use Rattle.lane_events.specs.Inspection.{due_from};
 
     ghost Value = { List Event };
 
-    ghost view = { λ a. due_from a.word a.at };
+    ghost view = { λ a. due_from a.word a.given };
 
-    ghost invariant = { λ a. (a.at ≤ 12) × (a.at < 12 → has_kind a.word (get_or all_kinds a.at Bad) ≡ true) };
+    ghost invariant = { λ a. a.given ≤ length a.word.kinds.items };
 }
 
 impl DueEvents {
-    /// The events of the word that showed some, if one did.
+    /// Creates the events of the word that showed some, if one did.
     pub fn of(shown: Option<WordEvents>) -> DueEvents
         ensures { result ≡ shown_in shown }
     {
         match shown {
-            Some(word) => DueEvents::from(word, 0),
+            Some(word) => DueEvents { word, given: 0 },
             None => DueEvents {
-                word: WordEvents::none(0),
-                at: KINDS.len(),
+                word: WordEvents::new(0),
+                given: 0,
             },
         }
     }
 
-    // The events of a word of the kinds from this place on.
-    #[tactic(auto, using(crate::proofs::Dues::due_later))]
-    fn from(word: WordEvents, first: usize) -> DueEvents
-        requires { first ≤ 12 }
-        ensures { result ≡ due_from word first }
-    {
-        for at in first..KINDS.len() {
-            let has = word.has(KINDS[at]);
-            if has {
-                return DueEvents { word, at };
-            }
-        }
-        DueEvents {
-            word,
-            at: KINDS.len(),
-        }
-    }
-
-    /// Whether none is due.
+    /// True if none is due.
     #[inline]
+    #[tactic(auto, using(crate::proofs::Dues::all_given))]
     pub fn is_empty(&self) -> bool
         ensures { result ≡ (length self.now == 0) }
     {
-        self.at == KINDS.len()
+        self.given == self.word.kinds.len()
     }
 
-    /// The next event, if one is due: it is due no longer.
+    /// Returns the next event, if one is due: it is due no longer.
+    #[tactic(auto, using(crate::proofs::Dues::none_due))]
     pub fn next(&mut self) -> Option<LaneEvent>
         ensures given { self.old ≡ cons_option result self.new }
         ensures none { IfNone result (self.old ≡ []) }
     {
-        if self.at == KINDS.len() {
+        if self.given == self.word.kinds.len() {
             return None;
         }
         let bit = self.word.bit;
-        let kind = KINDS[self.at];
-        *self = DueEvents::from(self.word, self.at + 1);
+        let kind = self.word.kinds.as_slice()[self.given];
+        self.given += 1;
         Some(LaneEvent { bit, kind })
     }
 }

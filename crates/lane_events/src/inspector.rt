@@ -74,12 +74,12 @@ impl LaneInspector {
         ensures events { (s : Settings) (so_far : List Bool) (events : List Event) → Inspects self.old s so_far → AreLaneEvents s so_far events →
             AreLaneEvents s (so_far ++ bits_of (8 * count) bits) (events ++ events_in result) }
     {
-        let mut events = WordEvents::none(0);
+        let mut events = WordEvents::new(0);
         let shows = self.next_events(bits, count, &mut events);
         if shows {
             return events;
         }
-        WordEvents::none(0)
+        WordEvents::new(0)
     }
 
     // Takes the next bytes, at most seven, and gives the word that ends within them. Its step is neither told nor passed over yet.
@@ -225,7 +225,7 @@ impl LaneInspector {
         if left == 0 {
             return (at, None);
         }
-        let mut events = WordEvents::none(0);
+        let mut events = WordEvents::new(0);
         let shows = self.next_events(number_at(bytes, at, left), left as u32, &mut events);
         if shows {
             return (bytes.len(), Some(events));
@@ -244,7 +244,7 @@ impl LaneInspector {
         ensures rest { IfNone result.1 (length bytes.now ≤ result.0 + 7) }
         ensures soon { (n : ℕ) → n + 7 ≤ result.0 → ShowsNone self.old (bits_of_bytes (take n bytes.now)) }
     {
-        let mut events = WordEvents::none(0);
+        let mut events = WordEvents::new(0);
         let mut at = 0;
         while bytes.len() - at > PIECE {
             let shows = self.next_events(number_at(bytes, at, PIECE), PIECE as u32, &mut events);

@@ -1,21 +1,25 @@
-ghost use Rattle.std.specs.Prelude.{◌≡◌, ◌<◌, ◌^◌, ◌≤ℤ◌, ◌==◌, not, pos, negsuc, IfSome};
+ghost use Rattle.std.specs.Prelude.{◌≡◌, ◌<◌, ◌≤◌, ◌+◌, ◌^◌, ◌≤ℤ◌, [], ◌∷◌, ◌++◌, pos, negsuc, IfSome, if◌then◌else◌};
 ghost use Rattle.std.specs.Int.Count.{ones_in};
 ghost use Rattle.lane_model.specs.Coding.{excess};
-ghost use Rattle.lane_events.specs.Events.{is_no_skip as no_skip, is_unhealthy as unhealthy};
-ghost use Rattle.lane_events.specs.Steps.{balance_before as before_step, balance_behind, covered_word, is_plain_word as plain_word, losing_word, told as told_of};
+ghost use Rattle.arrayvec.specs.ArrayVec.{array_vec_len};
+ghost use Rattle.lane_events.specs.Events.{is_no_skip as no_skip, is_unhealthy as unhealthy, loss_kind as kind_of_loss};
+ghost use Rattle.lane_events.specs.Inspection.{events_in};
+ghost use Rattle.lane_events.specs.Steps.{balance_before as before_step, balance_behind, covered_has, event_of, events_at, is_plain_word as plain_word, told as told_of};
 
 use crate::balance::balance_with;
+use crate::types::EventKind;
 use crate::word_events::WordEvents;
+use arrayvec::ArrayVec;
 use lane_model::{Role, SKIP, SYNC};
 use lk_base::RxWord;
 use lock_model::{LaneReport, LaneStep, LostWhy};
 
-/// The events of the word of a step, given the reports before and after it, and whether its code unbalances its lock.
+/// Returns the events of the word of a step, given the reports before and after it, and whether its code unbalances its lock.
 pub fn told(step: LaneStep, before: &LaneReport, after: &LaneReport, unbalances: bool) -> WordEvents
-    ensures { result ≡ told_of step before.now after.now unbalances }
+    ensures { events_in result ≡ told_of step before.now after.now unbalances }
 {
     match step {
-        LaneStep::Nothing => WordEvents::none(0),
+        LaneStep::Nothing => WordEvents::new(0),
         LaneStep::Word(word, role, at) => covered(at, word, role, before, after, unbalances),
         LaneStep::Locked(at) => covered(
             at,
@@ -25,8 +29,8 @@ pub fn told(step: LaneStep, before: &LaneReport, after: &LaneReport, unbalances:
             after,
             unbalances,
         ),
-        LaneStep::Lost(why, at) => lost(at, why, after.unframed != before.unframed),
-        LaneStep::Ended => WordEvents::none(0),
+        LaneStep::Lost(why, at) => lost(at, loss_kind(after.unframed == before.unframed, why)),
+        LaneStep::Ended => WordEvents::new(0),
     }
 }
 
@@ -73,58 +77,64 @@ pub fn balance_after(step: LaneStep, balance: Option<i32>, code: u128) -> Option
 
 // The events of a covered word.
 fn covered(
-    at: u64,
+    bit: u64,
     word: RxWord,
     role: Role,
     before: &LaneReport,
     after: &LaneReport,
     unbalances: bool,
 ) -> WordEvents
-    ensures { result ≡ covered_word at word role before.now after.now unbalances }
+    ensures { events_in result ≡ events_at bit (covered_has word role before.now after.now unbalances) }
 {
     let diag = after.diag != before.diag;
     let skips = matches!(role, Role::Skip);
     let checks = matches!(role, Role::Diagnostic);
     let no_skip = is_no_skip(word);
     let unhealthy = is_unhealthy(word);
-    WordEvents {
-        bit: at,
-        bad: after.bad != before.bad,
-        sync: after.sync != before.sync,
-        state: after.state != before.state,
-        skip: skips && no_skip,
-        diag,
-        health: checks && !diag && unhealthy,
-        balance: unbalances,
-        lock: after.locks != before.locks,
-        lost_headers: false,
-        lost_sync: false,
-        lost_state: false,
-        unframed: false,
+    let mut kinds = ArrayVec::new();
+    push_if(&mut kinds, after.bad != before.bad, EventKind::Bad);
+    push_if(&mut kinds, after.sync != before.sync, EventKind::Sync);
+    push_if(&mut kinds, after.state != before.state, EventKind::State);
+    push_if(&mut kinds, skips && no_skip, EventKind::Skip);
+    push_if(&mut kinds, diag, EventKind::Diagnostic);
+    push_if(&mut kinds, checks && !diag && unhealthy, EventKind::Health);
+    push_if(&mut kinds, unbalances, EventKind::Balance);
+    push_if(&mut kinds, after.locks != before.locks, EventKind::Lock);
+    WordEvents { bit, kinds }
+}
+
+// Appends `kind` if the word has an event of it. There must be room.
+fn push_if(kinds: &mut ArrayVec<EventKind, 12>, has: bool, kind: EventKind)
+    requires { array_vec_len kinds.old < 12 }
+    ensures kinds { kinds.new.items ≡ kinds.old.items ++ (if has then kind ∷ [] else []) }
+    ensures room { array_vec_len kinds.new ≤ array_vec_len kinds.old + 1 }
+{
+    if has {
+        kinds.push(kind);
     }
 }
 
-// The events of a losing word, of a declared lock or before a declaration.
-fn lost(at: u64, why: LostWhy, unframed: bool) -> WordEvents
-    ensures { result ≡ losing_word at why unframed }
+// The event of a losing word.
+fn lost(bit: u64, kind: EventKind) -> WordEvents
+    ensures { events_in result ≡ event_of bit kind ∷ [] }
 {
-    let headers = matches!(why, LostWhy::Headers);
-    let sync = matches!(why, LostWhy::Sync);
-    let state = matches!(why, LostWhy::State);
-    WordEvents {
-        bit: at,
-        bad: false,
-        sync: false,
-        state: false,
-        skip: false,
-        diag: false,
-        health: false,
-        balance: false,
-        lock: false,
-        lost_headers: !unframed && headers,
-        lost_sync: !unframed && sync,
-        lost_state: !unframed && state,
-        unframed,
+    let mut kinds = ArrayVec::new();
+    kinds.push(kind);
+    WordEvents { bit, kinds }
+}
+
+// The kind of the loss of a declared lock, or of a search.
+fn loss_kind(declared: bool, why: LostWhy) -> EventKind
+    ensures { result ≡ kind_of_loss declared why }
+{
+    if !declared {
+        return EventKind::Unframed;
+    }
+    match why {
+        LostWhy::Headers => EventKind::LostHeaders,
+        LostWhy::Sync => EventKind::LostSync,
+        LostWhy::State => EventKind::LostState,
+        LostWhy::Unframed => EventKind::Unframed,
     }
 }
 

@@ -41,6 +41,18 @@ pub struct LaneEvent {
     pub kind: EventKind,
 }
 
+impl Default for EventKind {
+    ghost use Rattle.std.specs.Prelude.{◌≡◌};
+    ghost use Rattle.lane_events.specs.declared.types.EventKind.{EventKind};
+
+    ghost is_default = { λ kind. kind ≡ EventKind.Bad };
+
+    /// The first kind: what a list of kinds contains where it has no kind yet.
+    fn default() -> Self {
+        EventKind::Bad
+    }
+}
+
 impl EventKind {
     /// The kind's name, as it stands in the table of events.
     pub fn name(self) -> &'static str

@@ -1,8 +1,10 @@
 -- The lines of a report. Each ends in the byte 0A, and its numbers are plain decimal.
-use Rattle.std.specs.Prelude.{ℕ, List, [], ◌∷◌, ◌++◌, Option, Some, None, slice_index}
+use Rattle.std.specs.Prelude.{ℕ, List, [], ◌∷◌, ◌++◌, Option, Some, None, slice_index, flat_map}
 use Rattle.std.specs.Fmt.{decimal}
 use lib.Chars.{codes}
+use Rattle.lk_base.specs.declared.fault.DropWhy.{DropWhy}
 use Rattle.lock_model.specs.declared.types.LaneReport.{LaneReport}
+use Rattle.link_reports.specs.Drops.{all_drops, drop_name, drop_place}
 use Rattle.link_reports.specs.declared.replay.Missing.{Missing}
 
 -- a name of a value, its number, and what comes after it
@@ -35,24 +37,17 @@ got_line channel packets bytes =
 abbrev pub spans_line : ℕ → List ℕ
 spans_line spans = told (codes "spans ") spans line_end
 
--- how many pieces were dropped for each of the eight reasons, given their counts in the order of the reasons: the first four
-abbrev pub first_drops : List ℕ → List ℕ
-first_drops counts =
-    told (codes "dropped bad=") (slice_index counts 0)
-    (told (codes " crc=") (slice_index counts 1)
-    (told (codes " protocol=") (slice_index counts 2)
-    (codes " lost=" ++ decimal (slice_index counts 3))))
+-- how many pieces were dropped for a reason
+abbrev pub drop_text : DropWhy → ℕ → List ℕ
+drop_text why count = codes " " ++ (drop_name why ++ (codes "=" ++ decimal count))
 
--- the other four
-abbrev pub other_drops : List ℕ → List ℕ
-other_drops counts =
-    told (codes " end=") (slice_index counts 4)
-    (told (codes " toolong=") (slice_index counts 5)
-    (told (codes " unlisted=") (slice_index counts 6)
-    (told (codes " sender=") (slice_index counts 7) line_end)))
+-- by the counts of all reasons in their order
+abbrev pub drop_text_of : List ℕ → DropWhy → List ℕ
+drop_text_of counts why = drop_text why (slice_index counts (drop_place why))
 
+-- how many pieces were dropped for each of the reasons, given their counts in the order of the reasons
 abbrev pub dropped_line : List ℕ → List ℕ
-dropped_line counts = first_drops counts ++ other_drops counts
+dropped_line counts = (codes "dropped" ++ flat_map (drop_text_of counts) all_drops) ++ line_end
 
 -- the least listed channel that has bytes left at the finish
 abbrev pub held_line : ℕ → List ℕ

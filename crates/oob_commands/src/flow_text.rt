@@ -1,5 +1,5 @@
 //! The text of a flow file's rows.
-ghost use Rattle.std.specs.Prelude.{◌≡◌, [], ◌∷◌, Some, OnOk, IfOk, string_bytes};
+ghost use Rattle.std.specs.Prelude.{◌≡◌, [], ◌∷◌, Some, OnOk, IfOk};
 ghost use Rattle.std.specs.Fmt.{decimal};
 ghost use Rattle.std.specs.Io.KnownBytes.{Appends};
 ghost use Rattle.csv.specs.Writing.{text_written, row_text};
@@ -10,9 +10,9 @@ ghost use Rattle.oob_commands.specs.FlowFile.{flow_file};
 ghost use Rattle.lk_base.specs.Hex.{hex};
 
 use csv::Writer;
-use link_reports::{row_writer, write_row, written_rows};
+use link_reports::{number_text, row_writer, write_row, written_rows};
 use lk_base::{OutOfMemory, put_hex};
-use std::alloc::{AllocError, Global};
+use std::alloc::Global;
 
 // A word in 16 digits.
 fn word_text(alloc: Global, word: u64) -> Result<Vec<u8>, OutOfMemory>
@@ -21,13 +21,6 @@ fn word_text(alloc: Global, word: u64) -> Result<Vec<u8>, OutOfMemory>
     let mut text = Vec::new(alloc);
     put_hex(&mut text, 16, word)?;
     Ok(text)
-}
-
-// A slot in decimal digits.
-fn slot_text(alloc: Global, slot: u64) -> Result<String, AllocError>
-    ensures { IfOk result (λ text. string_bytes text ≡ decimal slot) }
-{
-    format!(in alloc; "{slot}")
 }
 
 // Writes the row of a word.
@@ -42,7 +35,7 @@ fn write_word(
     ensures text { OnOk result (Appends (text_written (λ v. Some v.items) writer.old) (text_written (λ v. Some v.items) writer.new)
         (row_text rows_writer (decimal slot ∷ hex 16 word ∷ []))) }
 {
-    let slot = slot_text(alloc, slot)?;
+    let slot = number_text(alloc, slot)?;
     let word = word_text(alloc, word)?;
     let fields = [slot.as_bytes(), word.as_slice()];
     write_row(writer, &fields)

@@ -5,6 +5,7 @@ ghost use Rattle.run_shell.specs.Outputs.{Differ};
 
 use link_reports::count_line;
 use lk_base::OutOfMemory;
+use run_shell::only_name;
 use std::alloc::{AllocError, Global};
 
 // The name of the output.
@@ -19,9 +20,7 @@ pub fn output_names(alloc: Global, out: &str, ending: &str) -> Result<Vec<String
     ensures names { IfOk result (λ v. map string_bytes v.items ≡ (out.now ++ ending.now) ∷ []) }
     ensures differ { IfOk result (λ v. Differ (map string_bytes v.items)) }
 {
-    let mut names = Vec::new(alloc);
-    names.push(output_name(alloc, out, ending)?)?;
-    Ok(names)
+    only_name(alloc, output_name(alloc, out, ending)?)
 }
 
 /// The line of the count.

@@ -1,10 +1,8 @@
 //! The words file of a stream that is carried by events, made as its pieces are accepted.
-ghost use Rattle.std.specs.Prelude.{◌≡◌, ◌≤◌, ◌^◌, [], ◌∷◌, false, map, string_bytes, IfOk};
+ghost use Rattle.std.specs.Prelude.{◌≡◌, ◌≤◌, ◌^◌, [], ◌∷◌, false, IfOk};
 ghost use Rattle.link_plan.specs.Listing.{numbers_of};
 ghost use Rattle.plan_inputs.specs.Values.{inputs_value, reading_value, FitPlan};
 ghost use Rattle.resend_events.specs.Events.{count_of};
-ghost use Rattle.run_shell.specs.Names.{words_name};
-ghost use Rattle.run_shell.specs.Outputs.{Differ};
 ghost use Rattle.resend_commands.specs.Carried.{IsBegun, line_of};
 ghost use Rattle.resend_commands.specs.Making.{GaveWords};
 ghost use Rattle.resend_commands.specs.Values.{reading_with};
@@ -16,19 +14,9 @@ use lk_base::OutOfMemory;
 use plan_inputs::PlanReading;
 use resend_events::EventRow;
 use retransmit::Resend;
-use run_shell::{Finished, Maker, Outputs, Step, words_name};
+use run_shell::{Finished, Maker, Outputs, Step, only_name, words_name};
 use std::alloc::Global;
 use stream_commands::plan_stream;
-
-// The name of the words file, as the only one.
-fn output_names(alloc: Global, out: &str) -> Result<Vec<String>, OutOfMemory>
-    ensures names { IfOk result (λ v. map string_bytes v.items ≡ words_name out.now ∷ []) }
-    ensures differ { IfOk result (λ v. Differ (map string_bytes v.items)) }
-{
-    let mut names = Vec::new(alloc);
-    names.push(words_name(alloc, out)?)?;
-    Ok(names)
-}
 
 // The stream of a plan and its inputs, of which nothing was sent yet.
 fn begin(alloc: Global, reading: &PlanReading, window: u32) -> Result<Resend, OutOfMemory>
@@ -123,7 +111,7 @@ impl Maker for ResendMaker<'_> {
     fn lawful(&self) {}
 
     fn names(&self, alloc: Global) -> Result<Vec<String>, OutOfMemory> {
-        output_names(alloc, self.reading.plan.out.as_str())
+        only_name(alloc, words_name(alloc, self.reading.plan.out.as_str())?)
     }
 
     fn step(&mut self, alloc: Global, outputs: &mut Outputs) -> Result<Step, OutOfMemory> {

@@ -1,9 +1,20 @@
-//! The names of a stream's files: its words file, and those of its lanes.
-ghost use Rattle.std.specs.Prelude.{◌≡◌, IfOk, map, string_bytes};
+//! The names of outputs: of a command's only one, of a stream's words file, and of its lanes.
+ghost use Rattle.std.specs.Prelude.{◌≡◌, ◌∷◌, [], IfOk, map, string_bytes};
 ghost use Rattle.run_shell.specs.Outputs.{Differ};
 ghost use Rattle.run_shell.specs.Names.{words_name, lane_name, lane_names};
 
+use lk_base::OutOfMemory;
 use std::alloc::{AllocError, Global};
+
+/// Returns a list that has `name` alone.
+pub fn only_name(alloc: Global, name: String) -> Result<Vec<String>, OutOfMemory>
+    ensures names { IfOk result (λ v. map string_bytes v.items ≡ string_bytes name ∷ []) }
+    ensures differ { IfOk result (λ v. Differ (map string_bytes v.items)) }
+{
+    let mut names = Vec::new(alloc);
+    names.push(name)?;
+    Ok(names)
+}
 
 /// The name of the words file of a capture, or of a plan's prefix.
 pub fn words_name(alloc: Global, prefix: &str) -> Result<String, AllocError>

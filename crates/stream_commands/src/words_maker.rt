@@ -1,17 +1,16 @@
 //! The words file of a stream, made as its words are.
-ghost use Rattle.std.specs.Prelude.{◌≡◌, ◌*◌, ◌≤◌, [], ◌∷◌, List, length, map, string_bytes, vec_len, IfOk, OnOk, Some};
+ghost use Rattle.std.specs.Prelude.{◌≡◌, ◌*◌, ◌≤◌, [], ◌∷◌, List, length, vec_len, IfOk, OnOk, Some};
 ghost use Rattle.lk_base.specs.declared.word.Word.{Word as SentWord};
 ghost use Rattle.stream_model.specs.BurstStream.{IsBurstStream};
 ghost use Rattle.words_files.specs.WordsFile.{words_file};
 ghost use Rattle.tx_words.specs.Streaming.{Streams};
-ghost use Rattle.run_shell.specs.Names.{words_name};
-ghost use Rattle.run_shell.specs.Outputs.{more, open_names, Differ};
+ghost use Rattle.run_shell.specs.Outputs.{more, open_names};
 ghost use Rattle.run_shell.specs.Rests.{rests_of};
 ghost use Rattle.stream_commands.specs.Making.{words_inputs, GaveWordsFile, IsEndOf};
 
 use crate::text::reported;
 use lk_base::{OutOfMemory, Word};
-use run_shell::{Finished, Maker, Outputs, Step, words_name};
+use run_shell::{Finished, Maker, Outputs, Step, only_name, words_name};
 use std::alloc::Global;
 use tx_words::{StreamSource, StreamWords};
 use words_files::{WORD_BYTES, write_words};
@@ -19,16 +18,6 @@ use words_files::{WORD_BYTES, write_words};
 // The words that are made at a time. With their bytes they have 25 KiB, which stay in a processor's first cache, and what a block
 // costs besides its words is nothing beside them.
 const BLOCK: usize = 1024;
-
-// The name of the words file, as the only one.
-fn one_name(alloc: Global, prefix: &str) -> Result<Vec<String>, OutOfMemory>
-    ensures names { IfOk result (λ v. map string_bytes v.items ≡ words_name prefix.now ∷ []) }
-    ensures differ { IfOk result (λ v. Differ (map string_bytes v.items)) }
-{
-    let mut names = Vec::new(alloc);
-    names.push(words_name(alloc, prefix)?)?;
-    Ok(names)
-}
 
 // What is reported of a stream whose words were all made.
 fn end_of(alloc: Global, source: &StreamSource, words: StreamWords) -> Result<Finished, OutOfMemory>
@@ -124,7 +113,7 @@ impl Maker for WordsMaker<'_> {
     fn lawful(&self) {}
 
     fn names(&self, alloc: Global) -> Result<Vec<String>, OutOfMemory> {
-        one_name(alloc, self.prefix)
+        only_name(alloc, words_name(alloc, self.prefix)?)
     }
 
     fn step(&mut self, alloc: Global, outputs: &mut Outputs) -> Result<Step, OutOfMemory> {

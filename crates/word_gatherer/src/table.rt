@@ -1,6 +1,5 @@
 //! The text of the table of places.
-ghost use Rattle.std.specs.Prelude.{◌≡◌, [], ◌∷◌, Some, OnOk, IfOk, string_bytes};
-ghost use Rattle.std.specs.Fmt.{decimal};
+ghost use Rattle.std.specs.Prelude.{◌≡◌, [], ◌∷◌, Some, OnOk, IfOk};
 ghost use Rattle.std.specs.Io.KnownBytes.{Appends};
 ghost use Rattle.csv.specs.Writing.{text_written, row_text};
 ghost use Rattle.csv_rows.specs.Written.{rows_text, rows_writer};
@@ -9,9 +8,9 @@ ghost use Rattle.word_gatherer.specs.Table.{heading, place_fields, place_rows, w
 
 use csv::Writer;
 use lane_words::PlaceRow;
-use link_reports::{row_writer, write_row, written_rows};
+use link_reports::{number_text, row_writer, why_name, write_row, written_rows};
 use lk_base::{OutOfMemory, Why};
-use std::alloc::{AllocError, Global};
+use std::alloc::Global;
 
 /// The heading, as it stands in the table.
 pub fn heading() -> &'static [u8]
@@ -20,25 +19,13 @@ pub fn heading() -> &'static [u8]
     b"word,group,index,why\n"
 }
 
-// A number.
-fn number_text(alloc: Global, number: u64) -> Result<String, AllocError>
-    ensures { IfOk result (λ text. string_bytes text ≡ decimal number) }
-{
-    format!(in alloc; "{number}")
-}
-
 // Why an epoch ended, or a stroke for a group.
 fn why_text(why: Option<Why>) -> &'static [u8]
     ensures { result.now ≡ why_or_stroke why }
 {
     match why {
         None => b"-",
-        Some(Why::Start) => b"start",
-        Some(Why::Bad) => b"bad",
-        Some(Why::Crc) => b"crc",
-        Some(Why::Protocol) => b"protocol",
-        Some(Why::Lost) => b"lost",
-        Some(Why::End) => b"end",
+        Some(why) => why_name(why),
     }
 }
 

@@ -1,6 +1,6 @@
 //! The rules of a sender's words, by name.
-ghost use Rattle.std.specs.Prelude.{◌≡◌};
-ghost use Rattle.word_rules.specs.Names.{name_of};
+ghost use Rattle.std.specs.Prelude.{◌≡◌, ◌<◌};
+ghost use Rattle.word_rules.specs.Names.{name_of, rule_place};
 
 use std::fmt;
 
@@ -48,6 +48,38 @@ pub enum WordRule {
 }
 
 impl WordRule {
+    /// All rules, in the order in which the faults of one word are told.
+    pub const ALL: [WordRule; 19] = [
+        WordRule::Bad,
+        WordRule::Control,
+        WordRule::Crc,
+        WordRule::Data,
+        WordRule::Max,
+        WordRule::Empty,
+        WordRule::Short,
+        WordRule::End,
+        WordRule::Fill,
+        WordRule::Part,
+        WordRule::Min,
+        WordRule::Sop,
+        WordRule::Open,
+        WordRule::Channel,
+        WordRule::Long,
+        WordRule::Idle,
+        WordRule::Multi,
+        WordRule::Calendar,
+        WordRule::Off,
+    ];
+
+    /// Returns the rule's place in `ALL`, from 0.
+    #[inline]
+    pub fn place(self) -> usize
+        ensures place { result ≡ rule_place self }
+        ensures bound { result < 19 }
+    {
+        self as usize
+    }
+
     /// The rule's name, as it stands in the table of faults.
     pub fn name(self) -> &'static str
         ensures { result.now ≡ name_of self }
