@@ -26,9 +26,10 @@ done
 # The wrong bodies are all known as refused, unless a file says otherwise.
 printf '%s\n' 'import os, sys' "print('edits', *sys.argv[2:])" "sys.exit(os.path.exists('$folder/untried'))" >"$tree/checks/edits.py"
 
-# A program that prints who it is, and its words one a line.
+# A program that prints who it is, and its words one a line. With the word `limited` it writes past a limit on the size of files.
 program_of() { # NAME
-  printf '%s\n' '#!/bin/sh' '[ $# -gt 0 ] || { echo usage: none; exit 2; }' "printf '%s\n' '$1' \"\$@\"" "echo odd >&2" 'exit 5'
+  printf '%s\n' '#!/bin/sh' '[ $# -gt 0 ] || { echo usage: none; exit 2; }' \
+    '[ "$1" != limited ] || { ulimit -f 1; head -c 4096 /dev/zero >"$2"; exit; }' "printf '%s\n' '$1' \"\$@\"" "echo odd >&2" 'exit 5'
 }
 
 # The rt that is tried with: a crate whose source says wrong is not proved. A file `meanwhile` names one that is changed during the build.
@@ -95,6 +96,8 @@ before=$(cd "$tree" && find . -printf '%p %T@ %s\n' | sort)
 ran 'the release' '5 release' without one 'two words' ''
 holds 'words' "$text" "$(printf '%s\n' release one 'two words' '' && echo)"
 holds 'the error output' "$errors" odd
+launch without limited "$folder/large"
+holds 'a file beyond the limit on its size: no signal ends the program' "$status" 1
 ln -s "$tree/interlaken" "$folder/link"
 holds 'through a link, with no home' "$(cd / && env -i PATH=/usr/bin:/bin "$folder/link" x 2>/dev/null)" "$(printf 'release\nx')"
 settings=(INTERLAKEN_WHICH=1)

@@ -9,7 +9,8 @@ the text among them. A run in which one call failed has to end by itself
 
     with status 6 where memory was refused, 1 where an open or a read failed, 1 or 7 where a write failed; then each file that
     is not as it was holds a prefix of what the undisturbed run leaves there, no file is gone, and the text is the line of the
-    fault or nothing (after status 7 a prefix of the undisturbed text);
+    fault or nothing (after status 7 a prefix of the undisturbed text); where an input cannot be opened or read, no file has changed,
+    except for lanes, which receive, gather and inspect read during the work;
     or, where memory was refused, as the undisturbed run does: status, text and files; but not after each refusal of a case;
 
 and with nothing on standard error. The time is bounded: where a case has more calls than its share of the time allows, some of
@@ -40,6 +41,12 @@ CASES = {
     "generate": ["generate", "7", "g"],
 }
 KINDS = ("malloc", "read", "write", "open")
+# What a case reads before it creates an output, besides what made_inputs makes.
+INPUTS = {
+    "join": ["one.pcap.words"], "join with a plan": ["p.words"], "stripe": ["p.words"], "check": ["p.words"], "damage": ["p.lane.0", "p.lane.1"],
+    "list": ["one.pcap.words"], "list of a lane": ["p.lane.0"],
+}
+FAULT = b"store fault: "
 # What each case makes of calls at least: a file is written, and the text.
 FEWEST = {"malloc": 1, "read": 1, "write": 2, "open": 1}
 STATUSES = {"malloc": (6,), "read": (1,), "write": (1, 7), "open": (1,)}
@@ -64,8 +71,8 @@ def made_inputs():
     }
 
 
-def wrong(got, right, before, kind):
-    """What a run with a failing call of a kind did that it must not, or nothing."""
+def wrong(got, right, before, kind, inputs):
+    """What a run with a failing call of a kind did that it must not, or nothing. It has these inputs."""
     if got.error:
         return "standard error %r" % got.error[:80]
     if (got.status, got.text) == (right.status, right.text):
@@ -74,8 +81,10 @@ def wrong(got, right, before, kind):
         return "" if got.files == right.files else "it answers, and its files differ"
     if got.status not in STATUSES[kind]:
         return "status %s" % got.status
-    if got.status == 1 and not (got.text.startswith(b"store fault: ") and got.text.find(b"\n") == len(got.text) - 1):
+    if got.status == 1 and not (got.text.startswith(FAULT) and got.text.find(b"\n") == len(got.text) - 1):
         return "text %r" % got.text
+    if got.status == 1 and got.text[len(FAULT) : -1].decode() in inputs and got.files != before:
+        return "an output was created before %r was read" % got.text[len(FAULT) : -1]
     if got.status == 6 and got.text not in (b"out of memory\n", b""):
         return "text %r" % got.text
     if got.status == 7 and not right.text.startswith(got.text):
@@ -91,7 +100,8 @@ class Case:
     def __init__(self, given, tally, name, before):
         self.program, self.library, self.tally = given.program, given.library, tally
         self.name, self.words, self.before = name, CASES[name], before
-        self.refused = 0
+        self.inputs = [*made_inputs(), *INPUTS.get(name, [])]
+        self.refused = self.unread = 0
 
     def run(self, **more):
         """A run with the library loaded, and these words for it."""
@@ -122,7 +132,8 @@ class Case:
     def fail_one(self, kind, at, right):
         got = self.run(FAIL_KIND=kind, FAIL_AT=str(at))
         self.refused += got.status == 6
-        self.tally.count("%s, %s %d" % (self.name, kind, at), wrong(got, right, self.before, kind))
+        self.unread += got.files == self.before and got.status == 1
+        self.tally.count("%s, %s %d" % (self.name, kind, at), wrong(got, right, self.before, kind, self.inputs))
 
     def fail_all(self, until):
         right = self.undisturbed()
@@ -139,6 +150,8 @@ class Case:
             tried += 1
         if not self.refused:
             self.tally.count(self.name, "no refusal of memory changes anything")
+        if not self.unread and tried == len(calls) and self.words[0] != "generate":
+            self.tally.count(self.name, "no input fails before an output is created")
         print("%s: %d of %d calls tried" % (self.name, tried, len(calls)), flush=True)
 
 

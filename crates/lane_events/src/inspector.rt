@@ -261,7 +261,8 @@ impl LaneInspector {
     ///
     /// # Errors
     ///
-    /// `OutOfMemory` if memory ran out for the events: then some of the bytes were taken, and some of their events appended.
+    /// `OutOfMemory` if memory ran out for the events. Then some of the bytes were taken and some of their events appended, and the
+    /// inspector and `found` are of no more use.
     pub fn inspect(&mut self, bytes: &[u8], found: &mut Vec<LaneEvent>) -> Result<(), OutOfMemory>
         requires few { self.old.taken + 8 * length bytes.now ≤ 2 ^ 60 }
         ensures taken { OnOk result (self.new.taken ≡ self.old.taken + 8 * length bytes.now) }

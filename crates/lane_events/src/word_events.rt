@@ -39,7 +39,7 @@ impl WordEvents {
     ///
     /// # Errors
     ///
-    /// `OutOfMemory` if memory ran out for the events: then some of them were appended.
+    /// `OutOfMemory` if memory ran out for the events. Then some of them may be appended, and `found` is of no more use.
     pub fn append_to(&self, found: &mut Vec<LaneEvent>) -> Result<(), OutOfMemory>
         ensures appended { OnOk result (found.new.items ≡ found.old.items ++ events_in self.now) }
         ensures few { OnOk result (length found.new.items ≤ length found.old.items + 12) }

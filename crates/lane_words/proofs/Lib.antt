@@ -5,6 +5,7 @@ pub mod GivenBack
 mod Examples
 mod Reading
 mod Epochs
+mod PlaceRows
 mod Clean
 mod Delivered
 mod Placeless

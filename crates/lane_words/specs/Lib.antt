@@ -3,3 +3,4 @@ pub mod Gathered
 pub mod WordsFile
 pub mod Items
 pub mod GatheredLaws
+pub mod PlaceRows

@@ -1,5 +1,6 @@
 //! Laws on gathered words and places.
 ghost use Rattle.lane_words.specs.GatheredLaws.{CleanLanesGiveStream, LanesAreGivenBack, WordsAreOfEpochs, WordsDeliverAsEpochs, WordsGrow, WorkedWords, WrittenIsRead};
+ghost use Rattle.lane_words.specs.PlaceRows.{RowsAreOfEpochs};
 
 /// The words of more items begin with those of the first. A words file is read as the words that were written, the Bad ones among
 /// them.
@@ -13,6 +14,12 @@ pub fn words_grow()
 pub fn words_are_of_epochs()
     ensures epochs { WordsAreOfEpochs }
     ensures clean { CleanLanesGiveStream }
+{}
+
+/// The rows of places of all items of lanes that are over are those of the epochs of the lanes: for each epoch one for each of its
+/// groups, with the number of the group's first word, and one for its break, with the number of the word that stands for it.
+pub fn rows_are_of_epochs()
+    ensures { RowsAreOfEpochs }
 {}
 
 /// The words of epochs, one Bad word between each two, deliver on each channel the packets that the epochs deliver, in order, where

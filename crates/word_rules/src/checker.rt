@@ -98,7 +98,7 @@ impl Checker {
     ///
     /// # Errors
     ///
-    /// `OutOfMemory`. What the checker gives after it means nothing. Where there is room for 16 rows more, it is not returned.
+    /// `OutOfMemory`, after which the checker and `faults` are of no more use. If there is room for 16 rows more, it is not returned.
     pub fn step(
         &mut self,
         word: RxWord,
