@@ -1,9 +1,9 @@
 """Tries the inspector, the gatherer and the checker of the C library on random links of 1 to 64 lanes, in random pieces, beside the tables
 of `inspect`, `gather` and `check`.
 
-    python3 handles.py PROGRAM DRIVER [--cases N] [--first N] [--jobs N]
+    python3 handles.py PROGRAM DRIVER [--together PROGRAM]... [--cases N] [--first N] [--jobs N]
 
-DRIVER is live/handles.c with the library. A case is a plan with its lanes, as live.py makes them: damaged, some of them of something else,
+DRIVER is live/handles.c with the library, and each PROGRAM of --together live/together.c, perhaps with a sanitizer. A case is a plan with its lanes, as live.py makes them: damaged, some of them of something else,
 or with the words of another sender. The checker gets the gathered words, and rows of flow control between them.
 """
 
@@ -118,10 +118,21 @@ def tried(work):
         return number, lanes, case.wrong, case.seen
 
 
+def try_together(given, tally):
+    """Threads with handles of their own, and allocations that fail, on a link of some lanes."""
+    with tempfile.TemporaryDirectory() as folder:
+        case = Case(given, 5, folder)
+        made_link(case, case.r, 5, folder, lambda folder, plan, out: True)
+        for path in given.together:
+            done = run([path, "p.plan", "o", "5"], folder)
+            tally.expect(os.path.basename(path), (done.returncode, done.stdout, done.stderr[:500]), (0, b"4 threads alike\n", b""))
+
+
 def main():
     parser = argparse.ArgumentParser()
     parser.add_argument("program", type=os.path.abspath)
     parser.add_argument("driver", type=os.path.abspath)
+    parser.add_argument("--together", type=os.path.abspath, action="append", default=[])
     parser.add_argument("--cases", type=int, default=1000)
     parser.add_argument("--first", type=int, default=1)
     parser.add_argument("--jobs", type=int, default=1)
@@ -129,6 +140,7 @@ def main():
     for number, lanes, wrong, came in each(tried, [(given, given.first + n) for n in range(given.cases)], given.jobs):
         tally.count("case %d of %d lanes" % (number, lanes), "; ".join(wrong))
         seen += came
+    try_together(given, tally)
     rules = sum(name.startswith("rule ") for name in seen)
     missing = [name for name in WANTED if not seen[name]] if given.cases >= MANY else [name for name in ("words", "event lock") if not seen[name]]
     tally.count("what came", "nothing of " + ", ".join(missing) if missing else "")
