@@ -74,8 +74,8 @@ def other_lane(r, data, lane):
     return whole[:cut] + r.choice([b"", r.randbytes(r.randint(1, 60))]) + whole[cut + r.randint(0, 60):]
 
 
-def made_link(bench, r, lanes, folder):
-    """A random link whose lanes `link` makes; sometimes one or two of them are then of something else."""
+def made_link(bench, r, lanes, folder, link=Link):
+    """A random link whose lanes `link` makes; sometimes one or two of them are then of something else. It is shown as what `link` makes of it."""
     rows, channels = chosen_plan(r, lanes)
     rows += [("channel", channel, "%d.pcap" % channel) for channel in channels] + [("max_packet", r.choice([300, 600, 262_144]))]
     for channel in channels:
@@ -103,7 +103,7 @@ def made_link(bench, r, lanes, folder):
     if r.randrange(2) == 0:
         cut_lanes(r, plan, folder)
     write(folder, "p.plan", text_of(receiver_rows(r, rows, channels)))
-    return Link(folder, "p.plan", "o")
+    return link(folder, "p.plan", "o")
 
 
 def cut_lanes(r, plan, folder):

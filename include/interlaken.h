@@ -103,8 +103,21 @@
  * `dark` do; of the calls on a transmitter `new` and `packet` do. `interlaken_plan_read` and
  * `interlaken_plan_channels` allocate memory, and free it before they return. A receiver keeps room
  * for the longest packet of the plan (`max_packet`) on each channel, so a smaller `max_packet`
- * saves memory. Give a thread that calls a `new` with a plan, or one of these two calls, a stack of
- * 128 KiB or more. */
+ * saves memory.
+ *
+ * What a handle keeps in memory, in units of 1,000 bytes. The first three plans have a metaframe of
+ * 2,048 words, and the others one of 8,192. Each has the default calendar:
+ *
+ *     lanes channels max_packet receiver transmitter inspector checker gatherer
+ *         1        1       1518      484         141        10    1639      404
+ *        12       64       9600     1888         193       119    1640      928
+ *        24      256       9600     5106         262       237    1640     1503
+ *        64     1024       9600    28573         502      2181    1642    11261
+ *        64     1024     262144   417202         502      2181    1642    11261
+ *
+ * Each `new` with a plan, `interlaken_plan_read` and `interlaken_plan_channels` use up to 64 KiB of
+ * stack. All other calls use up to 8 KiB. A thread that calls one of the first should have a stack
+ * of 128 KiB or more. */
 #ifndef INTERLAKEN_H
 #define INTERLAKEN_H
 

@@ -2,12 +2,12 @@
  *
  *     monitor PLAN PREFIX PIECE WHAT [FLOW]
  *
- * PLAN is a plan file, and PREFIX.lane.0, PREFIX.lane.1, .. are the files of its lanes. They come in pieces of PIECE bytes. WHAT names what
- * is asked for, with commas between: of lanes, rules, packets, drops and spans. Each has a line as soon as it is known. Of one piece, lane
- * events come first, then rules, and then what the receiver returns.
+ * PREFIX.lane.0, PREFIX.lane.1, .. are the files of the lanes of PLAN. They come in pieces of PIECE bytes. WHAT names what is asked for,
+ * with commas between: of lanes, rules, packets, drops and spans. Each has a line as soon as it is known; of one piece, first lane events,
+ * then rules, and then what the receiver returns. If bursts came before all lanes had locked, the first rules may be told falsely.
  *
- * What the far end has turned off is not in these lanes. Each row of the file FLOW is a control word of the far end that was verified, as
- * `412,81ffff0000188177`: it counts from word 412 on. Without FLOW all channels are on, and no word breaks the rule `off`. */
+ * Each row of the file FLOW is a control word of the far end that was verified, as `412,81ffff0000188177`: it counts from word 412 on.
+ * Without FLOW all channels are on, and no word breaks the rule `off`. */
 #include "files.h"
 
 struct lane {
@@ -60,7 +60,7 @@ static void check(const interlaken_gathered *word) {
   }
 }
 
-/* Words, each checked. Where an epoch follows another one, a bad word stands for what is missing between. */
+/* Words, each checked. Between epochs a bad word stands for what is missing; its bit may be by the skew of an earlier epoch. */
 static void take_gathered(void) {
   interlaken_gathered found;
   uint32_t lane;

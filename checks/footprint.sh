@@ -1,0 +1,66 @@
+#!/usr/bin/env bash
+# What calls of the C library cost beside what the header says: the stack of each `new` and of all other calls, painted before, and the
+# memory that each handle keeps, by functions of interlaken_alloc.h that count. Needs an archive as checks/clib.sh does.
+set -u
+top=$(cd "$(dirname "${BASH_SOURCE[0]}")/.." && pwd)
+. "$top/checks/tally.bash"
+wants_cc
+[ -d "$top/crates/interlaken_c" ] || gives_up 'there is no library to try'
+. "$top/tools/archive.bash"
+if ! archive=$(find_archive "$top"); then
+  echo "$name: skipped, no archive of these sources (rt lib in crates/interlaken_c makes it)"
+  exit 77
+fi
+folder=$(mktemp -d)
+trap 'rm -rf "$folder"' EXIT
+cd "$folder" || exit 1
+header=$top/include/interlaken.h
+cc -std=c99 -D_POSIX_C_SOURCE=200809L -Wall -Wextra -Werror -pedantic -O1 "-I$top/include" -o footprint "$top/checks/clib/footprint.c" "$archive" -pthread ||
+  gives_up 'the driver is not compiled'
+
+# The text of the header's first comment, as one line.
+said=$(sed -n '1,/\*\//{ s/^ \* \{0,1\}//; p; }' "$header" | paste -sd ' ')
+
+# The KiB in the header's sentence that fits.
+limit() { # PATTERN
+  sed -nE "s/.*$1 up to ([0-9]+) KiB.*/\1/p" <<<"$said"
+}
+of_new=$(limit 'Each `new` with a plan, [^.]* use')
+of_others=$(limit 'All other calls use')
+[ -n "$of_new" ] && [ -n "$of_others" ] || gives_up 'the header says no KiB of stack'
+
+write_plan() { # LANES CHANNELS MAX_PACKET METAFRAME
+  printf 'lanes,%d\nmax_packet,%d\nmetaframe,%d\nwide,%d\n' "$1" "$3" "$4" "$(($2 > 256))"
+  seq -f 'channel,%.0f' 0 $(($2 - 1))
+  echo 'out,o'
+}
+
+# Passes if a call succeeds and uses no more stack, and leaves its memory in `memory`.
+fits() { # CALL KIB PLAN
+  local stack _
+  read -r stack memory _ < <(./footprint "$1" "$3")
+  holds "stack of $1 of $3: ${stack:-none} bytes, at most $2 KiB" "$((${stack:-1 << 30} <= 1024 * $2 && ${stack:-0} > 1000))" 1
+}
+
+rows=0
+while read -r lanes channels most kept; do
+  metaframe=$((rows < 3 ? 2048 : 8192))
+  rows=$((rows + 1))
+  write_plan "$lanes" "$channels" "$most" "$metaframe" >"$rows.plan"
+  found=()
+  for handle in receiver transmitter inspector checker gatherer; do
+    fits "$handle" "$of_new" "$rows.plan"
+    found+=($(((${memory:-0} + 999) / 1000)))
+  done
+  # The numbers of a row are several words.
+  # shellcheck disable=SC2086
+  holds "memory of the handles of plan $rows" "${found[*]}" "$(echo $kept)"
+  fits plan_read "$of_new" "$rows.plan"
+  fits plan_channels "$of_new" "$rows.plan"
+  fits damage "$of_others" "$rows.plan"
+done < <(sed -nE 's/^ \* +([0-9]+) +([0-9]+) +([0-9]+)(( +[0-9]+){5})$/\1 \2 \3 \4/p' "$header")
+holds 'rows of memory in the header' "$rows" 5
+fits calls "$of_others" 1.plan
+fits calls "$of_others" 2.plan
+fits calls "$of_others" "$top/examples/wide.plan"
+ends

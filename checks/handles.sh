@@ -1,0 +1,33 @@
+#!/usr/bin/env bash
+# Tries the inspector, the gatherer and the checker of the C library beside `inspect`, `gather` and `check`: 1,000 random links of 1 to 64
+# lanes, damaged, in random pieces. Four threads with handles of their own find the same, and each allocation of each `new` fails. Needs
+# an archive as checks/clib.sh does. Words are those of handles.py, as --cases 5000 --jobs 4.
+set -u
+. "$(dirname "$0")/program.bash"
+wants_cc
+wants python3 python3
+. "$top/tools/archive.bash"
+if ! archive=$(find_archive "$top"); then
+  echo "$name: skipped, no archive of these sources (rt lib in crates/interlaken_c makes it)"
+  exit 77
+fi
+folder=$(mktemp -d)
+trap 'rm -rf "$folder"' EXIT
+
+# Links a program of checks/live with the library.
+linked() { # NAME SOURCE WORD..
+  local out=$1 source=$2
+  shift 2
+  cc -std=c99 -Wall -Wextra -Werror -pedantic -O1 "-I$top/include" -o "$folder/$out" "$top/checks/live/$source" "$@" "$archive" -pthread
+}
+linked handles handles.c "$top/examples/c/alloc.c" && linked together together.c || gives_up 'the drivers are not compiled'
+programs=(--together "$folder/together")
+echo 'int main(void) { return 0; }' >"$folder/empty.c"
+for sanitizer in thread address,undefined; do
+  if cc "-fsanitize=$sanitizer" -o "$folder/empty" "$folder/empty.c" 2>/dev/null && "$folder/empty" >/dev/null 2>&1; then
+    linked "together-$sanitizer" together.c "-fsanitize=$sanitizer" && programs+=(--together "$folder/together-$sanitizer")
+  else
+    echo "$name: not tried, no sanitizers of cc (Debian package gcc): threads under $sanitizer"
+  fi
+done
+python3 -B "$top/checks/handles.py" "$program" "$folder/handles" "${programs[@]}" "$@"
