@@ -1,6 +1,6 @@
 -- A run of Data words that shows no fault.
-use Rattle.std.proofs.Common.{ℕ, suc, ◌+◌, ◌^◌, ◌≡◌, ◌≤◌, ◌<◌, refl, sym, ap, ap₂, ◌∙◌, subst, List, [], ◌∷◌, ◌++◌, length, map, reverse, None, append_assoc, append-nil, cond, nat_lt, Option, Some, Bool, true, false, ◌&&◌, arith}
-use Rattle.std.proofs.lemmas.List.{length-append, length-reverse, reverse-append}
+use Rattle.std.proofs.Common.{ℕ, suc, ◌+◌, ◌^◌, ◌≡◌, ◌<◌, refl, sym, ap, ap₂, ◌∙◌, subst, List, [], ◌∷◌, ◌++◌, length, map, reverse, None, append_assoc, append-nil, cond, nat_lt, Some, Bool, true, false, ◌&&◌, arith}
+use Rattle.std.proofs.lemmas.List.{length-append, reverse-append}
 use Rattle.lk_base.specs.declared.word.RxWord.{RxWord}
 use Rattle.lk_base.specs.declared.word.RxWord.TheVariants.{Data, Control, Bad}
 use Rattle.lk_base.specs.Fields.{channel_number}
@@ -10,13 +10,12 @@ use Rattle.word_rules.specs.Checks.{Keeps}
 use Rattle.word_rules.specs.declared.limits.WordLimits.{WordLimits}
 use Rattle.word_rules.specs.declared.rule.WordRule.TheVariants as rules
 use Rattle.word_rules.specs.Places.{is_burst_word}
-use Rattle.word_rules.specs.Faults.{Plan, data_rows, empty_rows, faults_from, row}
+use Rattle.word_rules.specs.Faults.{data_rows, empty_rows, faults_from, row}
 use Rattle.word_rules.specs.Runs.{run_after}
-use Rattle.live_checker.specs.Calls.{AreTaken, flow_refusal, is_waiting, word_refusal}
-use Rattle.live_checker.specs.Live.{live_faults, live_from, shown_at}
+use Rattle.live_checker.specs.Calls.{AreTaken, flow_refusal, word_refusal}
+use Rattle.live_checker.specs.Live.{live_faults}
 use Rattle.live_checker.specs.Standing.{Checked, Checks, with_word, with_words}
-use Rattle.live_checker.specs.States.{State, state}
-use Rattle.live_checker.specs.declared.misuse.Misuse.{Misuse}
+use Rattle.live_checker.specs.States.{state}
 use Rattle.live_checker.specs.declared.misuse.Misuse.TheVariants as misuses
 use Rattle.live_checker.proofs.Standing.{all_given, all_out, not_many, word_free}
 use Rattle.live_checker.proofs.Words.{live_push, none_later_more, reverse_push}

@@ -1,5 +1,5 @@
 -- The numbers of a run of Data words.
-use Rattle.std.proofs.Common.{◌≡◌, ◌<◌, ◌+◌, ◌∙◌, ℕ, List, length, slice_index_or, refl, arith}
+use Rattle.std.proofs.Common.{◌≡◌, ◌+◌, ◌∙◌, ℕ, slice_index_or, refl, arith}
 use Rattle.std.proofs.lemmas.List.{length-set}
 use Rattle.c_checker.specs.declared.many.CWord.{CWord}
 use Rattle.c_checker.proofs.Taken.{run_more}

@@ -1,4 +1,4 @@
-use Rattle.std.proofs.Common.{◌≡◌, ℕ, List, length, map, take, drop, Some}
+use Rattle.std.proofs.Common.{◌≡◌, ℕ, length, map, take, drop, Some}
 use Rattle.lk_base.specs.declared.word.RxWord.TheVariants.{Data}
 use Rattle.c_checker.specs.Many.{asked}
 use Rattle.c_checker.proofs.many.copy_data.Given as goal

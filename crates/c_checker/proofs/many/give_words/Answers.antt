@@ -1,5 +1,5 @@
 -- The result of many words.
-use Rattle.std.proofs.Common.{◌≡◌, ◌∙◌, ◌<◌, Option, None, ap, sym, subst, refl, length, arith}
+use Rattle.std.proofs.Common.{◌∙◌, Option, ap, sym, subst, refl, arith}
 use Rattle.live_checker.specs.declared.misuse.Misuse.{Misuse}
 use Rattle.live_checker.specs.Standing.{Checked, Checks}
 use Rattle.c_checker.specs.Many.{asked, words_code}

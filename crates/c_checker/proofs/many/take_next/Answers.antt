@@ -3,7 +3,7 @@ use Rattle.std.proofs.Common.{◌≡◌, ◌+◌, ◌∷◌, ◌∙◌, ℕ, Lis
 use Rattle.lk_base.specs.declared.word.RxWord.{RxWord}
 use Rattle.lk_base.specs.declared.word.RxWord.TheVariants.{Data}
 use Rattle.live_checker.specs.States.{State}
-use Rattle.live_checker.specs.Standing.{Checked, Checks, with_word, with_words}
+use Rattle.live_checker.specs.Standing.{Checks, with_word, with_words}
 use Rattle.c_checker.specs.Many.{LeadsTo, asked}
 use Rattle.c_checker.specs.declared.many.CWord.{CWord}
 use Rattle.c_checker.proofs.Taken.{asked_at, leads_run, leads_word, stuck_kind, stuck_word, take_long}

@@ -1,5 +1,5 @@
 -- Words are taken up to the first that is not.
-use Rattle.std.proofs.Common.{◌≡◌, ◌≤◌, ◌∙◌, ℕ, length, sym, subst, refl, arith}
+use Rattle.std.proofs.Common.{◌≤◌, ◌∙◌, length, sym, subst, refl, arith}
 use Rattle.live_checker.specs.States.{State}
 use Rattle.live_checker.specs.Standing.{Checked, Checks}
 use Rattle.c_checker.specs.Many.{asked}

@@ -1,5 +1,5 @@
 -- The run shows no fault, and is not refused.
-use Rattle.std.proofs.Common.{ℕ, ◌+◌, ◌^◌, ◌<◌, ◌≡◌, ◌∙◌, List, [], length, reverse, subst, sym, arith}
+use Rattle.std.proofs.Common.{◌+◌, ◌^◌, ◌<◌, ◌∙◌, List, [], length, reverse, subst, sym, arith}
 use Rattle.std.proofs.lemmas.List.{length-reverse}
 use Rattle.word_rules.specs.declared.fault.Fault.{Fault}
 use Rattle.live_checker.specs.States.{State, state}

@@ -1,5 +1,5 @@
 -- The run is taken without faults, or word by word.
-use Rattle.std.proofs.Common.{◌≡◌, ◌++◌, ◌∙◌, ap, sym, append-nil, List}
+use Rattle.std.proofs.Common.{◌++◌, ◌∙◌, ap, sym, append-nil, List}
 use Rattle.word_rules.specs.declared.fault.Fault.{Fault}
 use Rattle.word_rules.proofs.checker.Checker.data_run.Goals as goal
 
