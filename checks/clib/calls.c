@@ -509,29 +509,61 @@ static void try_checker_finish(struct judged *k) {
   if (k->has) k->over = 1;
 }
 
-static void try_word(struct judged *k) {
+/* A word that may come next; one of no kind now and then. */
+static interlaken_word drawn_word(const struct judged *k) {
   static const uint32_t no_kind[] = {0, 4, 5, 0xffffffff};
-  uint32_t drawn = k->burst && k->data > 12 && below(8) > 0 ? 19 : below(20), wanted = checker_result(k), kind = INTERLAKEN_WORD_CONTROL, result;
-  uint64_t number = 0;
-  if (drawn == 0) {
-    if (wanted == INTERLAKEN_DONE) wanted = INTERLAKEN_OUT_OF_RANGE;
-    want("no kind of a word", interlaken_checker_word(&k->checker, no_kind[below(4)], number) == wanted);
-    return;
-  }
-  if (drawn == 1) kind = INTERLAKEN_WORD_BAD, number = below(1000);
-  else if (drawn == 2) number = 0;
-  else if (drawn < 5) number = sealed(k, IDLE);
-  else if (drawn < 7) number = sealed(k, BURST);
-  else kind = INTERLAKEN_WORD_DATA, number = (uint64_t)below(0x7fffffff) << 33 | below(0x7fffffff);
-  result = interlaken_checker_word(&k->checker, kind, number);
-  want("word", result == wanted);
-  if (result != INTERLAKEN_DONE) return;
+  uint32_t drawn = k->burst && k->data > 12 && below(8) > 0 ? 19 : below(20);
+  interlaken_word word = {0, INTERLAKEN_WORD_CONTROL, 0};
+  word.reserved = below(3);
+  if (drawn == 0) word.kind = no_kind[below(4)];
+  else if (drawn == 1) word.kind = INTERLAKEN_WORD_BAD, word.number = below(1000);
+  else if (drawn == 2) word.number = 0;
+  else if (drawn < 5) word.number = sealed(k, IDLE);
+  else if (drawn < 7) word.number = sealed(k, BURST);
+  else word.kind = INTERLAKEN_WORD_DATA, word.number = (uint64_t)below(0x7fffffff) << 33 | below(0x7fffffff);
+  return word;
+}
+
+static int has_kind(const interlaken_word *word) {
+  return word->kind >= INTERLAKEN_WORD_DATA && word->kind <= INTERLAKEN_WORD_BAD;
+}
+
+/* What a word that is taken makes due. */
+static void judge(struct judged *k, const interlaken_word *word) {
   k->count = k->given = 0;
-  if (kind == INTERLAKEN_WORD_DATA) judge_data(k, number);
-  else if (kind == INTERLAKEN_WORD_BAD) judge_bad(k);
-  else if (number == 0) judge_zero(k);
-  else judge_control(k, drawn >= 5);
+  if (word->kind == INTERLAKEN_WORD_DATA) judge_data(k, word->number);
+  else if (word->kind == INTERLAKEN_WORD_BAD) judge_bad(k);
+  else if (word->number == 0) judge_zero(k);
+  else judge_control(k, (int)(word->number >> 62 & 1));
   k->words++;
+}
+
+static void try_word(struct judged *k) {
+  interlaken_word word = drawn_word(k);
+  uint32_t wanted = checker_result(k), result;
+  if (wanted == INTERLAKEN_DONE && !has_kind(&word)) wanted = INTERLAKEN_OUT_OF_RANGE;
+  result = interlaken_checker_word(&k->checker, word.kind, word.number);
+  want("word", result == wanted);
+  if (result == INTERLAKEN_DONE) judge(k, &word);
+}
+
+/* Many words at once: as many are taken as one after another. */
+static void try_words(struct judged *k) {
+  interlaken_word words[100];
+  struct judged after = *k;
+  size_t count = below(3) == 0 ? below(100) : below(12), taken = 77, foretold = 0, n;
+  uint32_t wanted = checker_result(k), result;
+  for (n = 0; n < count; n++) {
+    words[n] = drawn_word(&after);
+    if (foretold == n && has_kind(&words[n]) && checker_result(&after) == INTERLAKEN_DONE) judge(&after, &words[n]), foretold++;
+  }
+  if (wanted == INTERLAKEN_DONE && count > 0 && foretold == 0) wanted = INTERLAKEN_OUT_OF_RANGE;
+  result = interlaken_checker_words(&k->checker, count > 0 ? words : NULL, count, &taken);
+  want("words", result == wanted);
+  want("words that are taken", taken == (result == INTERLAKEN_DONE ? foretold : 0));
+  if (result != INTERLAKEN_DONE) return;
+  after.checker = k->checker;
+  *k = after;
 }
 
 /* The word's checksum is not looked at. Without Reset Calendar it tells of no channel here. */
@@ -564,6 +596,7 @@ static void checker_sequence(void) {
       case 2: if (below(10) == 0) try_checker_free(&one); break;
       case 3: if (below(10) == 0) try_checker_finish(&one); break;
       case 4: case 5: case 6: case 7: try_heard(&one); break;
+      case 8: case 9: case 10: case 11: case 12: try_words(&one); break;
       default: if (below(5) < 3) try_word(&one); else try_fault(&one); break;
     }
     want("no allocation but of checker new", takes_memory || allocations == before);

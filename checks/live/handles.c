@@ -14,7 +14,9 @@ static size_t fed[LANES];
 static int over[LANES];
 static interlaken_checker checker;
 static FILE *words, *faults, *flow;
-static uint64_t flow_number, flow_word, count; /* the next row of FLOW, and words so far */
+static uint64_t flow_number, flow_word, count, checked; /* the next row of FLOW; words so far, and those that were checked */
+static interlaken_word batch[300];                       /* words that are not checked yet */
+static size_t waiting;                                   /* how many these are */
 
 /* A random number below n. */
 static uint64_t drawn(uint64_t n) {
@@ -75,14 +77,31 @@ static void inspect(interlaken_inspector *inspector, FILE *out) {
   for (lane = 0; lane < lanes; lane++) must("report", interlaken_inspector_report(inspector, lane, &report)), put_report(out, lane, &report);
 }
 
-/* The faults that are due. */
-static void put_faults(void) {
+/* The faults that are due: of the last word that was taken, or `empty` of the word before it. How many. */
+static uint32_t put_faults(void) {
   interlaken_rule_fault fault;
-  while (must("fault", interlaken_checker_next(&checker, &fault)), fault.rule != INTERLAKEN_RULE_NONE) {
+  uint32_t found = 0;
+  for (; must("fault", interlaken_checker_next(&checker, &fault)), fault.rule != INTERLAKEN_RULE_NONE; found++) {
+    if (fault.word + 1 + (fault.rule == INTERLAKEN_RULE_EMPTY) != checked) fail("checker", "a fault with a later word");
     fprintf(faults, "%" PRIu64 ",%" PRIu32 ",%s,", fault.word, fault.rule, interlaken_rule_text(fault.rule));
     if (fault.has_channel) fprintf(faults, "%" PRIu32 "\n", fault.channel);
     else fputs("-\n", faults);
   }
+  return found;
+}
+
+/* Checks the words that wait, one at a time or many. */
+static void check_waiting(void) {
+  size_t at = 0, most, taken = 1;
+  for (; at < waiting; at += taken) {
+    most = 1 + (size_t)drawn(waiting - at);
+    if (drawn(4) == 0) most = taken = 1, must("word", interlaken_checker_word(&checker, batch[at].kind, batch[at].number));
+    else must("words", interlaken_checker_words(&checker, batch + at, most, &taken));
+    checked += taken;
+    if (put_faults() == 0 && taken < most) fail("words", "it stops at a word without a fault");
+    if (taken == 0) fail("words", "none is taken");
+  }
+  waiting = 0;
 }
 
 static void next_flow(void) {
@@ -94,9 +113,9 @@ static void put_word(uint32_t kind, uint64_t number, uint64_t told) {
   if (told != count) fail("gatherer", "a wrong number");
   fputc((int)kind, words);
   for (int place = 56; place >= 0; place -= 8) fputc((int)(number >> place & 255), words);
+  if (flow_number <= count || waiting == sizeof batch / sizeof *batch) check_waiting();
   for (; flow_number <= count; next_flow()) must("flow", interlaken_checker_flow(&checker, flow_word));
-  must("word", interlaken_checker_word(&checker, kind, number));
-  put_faults(), count++;
+  batch[waiting].number = number, batch[waiting].kind = kind, waiting++, count++;
 }
 
 /* Takes up to so many words and breaks: 0 if none is left. */
@@ -150,7 +169,8 @@ int main(int argc, char **argv) {
   must_open(argv[1], interlaken_checker_new(&checker, plan.at, plan.count, &why), &why);
   inspect(&inspector, out = created(argv[5], "inspected")), finish_file(out, "inspected");
   gather(&gatherer, out = created(argv[5], "gathered")), finish_file(out, "gathered");
-  must("finish", interlaken_checker_finish(&checker)), put_faults();
+  check_waiting(), must("finish", interlaken_checker_finish(&checker));
+  if (put_faults() != 0) fail("checker", "faults after the last word");
   finish_file(words, "words"), finish_file(faults, "faults");
   must("free", interlaken_inspector_free(&inspector)), must("free", interlaken_gatherer_free(&gatherer));
   must("free", interlaken_checker_free(&checker));

@@ -1,1 +1,2 @@
 mod CheckerBox
+mod Taken

@@ -20,7 +20,9 @@ use Rattle.c_parts.specs.Refusals.{IsRefused, of_row, refusal_of}
 use Rattle.c_parts.specs.declared.refusal.Refusal.{Refusal}
 use Rattle.c_checker.specs.Codes.{misuse_code, word_of}
 use Rattle.c_checker.specs.Faults.{fault_told, no_fault}
+use Rattle.c_checker.specs.Many.{GivesWords, asked}
 use Rattle.c_checker.specs.declared.fault.CFault.{CFault}
+use Rattle.c_checker.specs.declared.many.CWord.{CWord}
 
 -- the numbers of a plan that the rules read
 abbrev pub limits_of : Plan → WordLimits
@@ -70,6 +72,9 @@ GivesKind t u None code = (u ≡ t) × ((x : Checked) → Checks t x → code �
 
 abbrev pub GivesWord : Option State → Option State → ℕ → ℕ → ℕ → Type 0
 GivesWord old new kind number code = OnHeld (code ≡ no_checker) (λ (t u : State). GivesKind t u (word_of kind number) code) old new
+
+abbrev pub GivesMany : Option State → Option State → List CWord → ℕ → ℕ → Type 0
+GivesMany old new words code taken = OnHeld ((code ≡ no_checker) × (taken ≡ 0)) (λ (t u : State). GivesWords t u (asked words) code taken) old new
 
 -- the word is one that the caller has verified: it tells what it says, with the checksum of itself alone
 abbrev pub HearsFlow : Option State → Option State → ℕ → ℕ → Type 0

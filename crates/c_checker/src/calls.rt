@@ -3,11 +3,12 @@ ghost use Rattle.std.specs.Prelude.{◌≡◌, IfOk, IfErr};
 ghost use Rattle.c_parts.specs.Refusals.{IsRefused};
 ghost use Rattle.c_checker.specs.Codes.{word_of};
 ghost use Rattle.c_checker.specs.Faults.{fault_told};
-ghost use Rattle.c_checker.specs.Held.{FinishesWords, FreesChecker, GivesFault, GivesKind, GivesResult, GivesWord, HearsFlow, IsCheckerOf, IsCheckerOfPlan, MakesChecker, limits_of};
+ghost use Rattle.c_checker.specs.Held.{FinishesWords, FreesChecker, GivesFault, GivesKind, GivesMany, GivesResult, GivesWord, HearsFlow, IsCheckerOf, IsCheckerOfPlan, MakesChecker, limits_of};
 
 use crate::codes::{misuse_code, word_of};
 use crate::fault::{CFault, as_fault, no_fault};
 use crate::handle::CheckerHandle;
+use crate::many::{CWord, give_words};
 use c_parts::codes::{DONE, IN_USE, NO_CHECKER, OUT_OF_RANGE, plan_code};
 use c_parts::refusal::{Refusal, no_refusal, refusal_of};
 use duplex::heard;
@@ -131,6 +132,20 @@ pub fn word(alloc: Global, checker: &mut CheckerHandle, kind: u32, number: u64) 
         return NO_CHECKER;
     };
     let result = give(&mut there, word_of(kind, number));
+    checker.put(there);
+    result
+}
+
+/// Gives words one after another, up to the first that shows a fault and with it, and writes how many are taken. It is `DONE`, `FINISHED`,
+/// `WAITING`, `TOO_MANY`, `OUT_OF_RANGE` or `NO_CHECKER`.
+pub fn words(alloc: Global, checker: &mut CheckerHandle, words: &[CWord], taken: &mut usize) -> u32
+    ensures { GivesMany checker.old.at.checker checker.new.at.checker words.now result taken.new }
+{
+    *taken = 0;
+    let Some(mut there) = checker.take(alloc) else {
+        return NO_CHECKER;
+    };
+    let result = give_words(&mut there, words, taken);
     checker.put(there);
     result
 }

@@ -6,7 +6,9 @@ mod calls;
 mod codes;
 mod fault;
 mod handle;
+mod many;
 
-pub use calls::{finish, flow, free, new, next, word};
+pub use calls::{finish, flow, free, new, next, word, words};
 pub use fault::CFault;
 pub use handle::CheckerHandle;
+pub use many::CWord;

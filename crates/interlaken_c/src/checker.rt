@@ -1,7 +1,7 @@
 //! The calls on a checker.
-ghost use Rattle.c_checker.specs.Held.{FinishesWords, FreesChecker, GivesFault, GivesWord, HearsFlow, MakesChecker};
+ghost use Rattle.c_checker.specs.Held.{FinishesWords, FreesChecker, GivesFault, GivesMany, GivesWord, HearsFlow, MakesChecker};
 
-use c_checker::{CFault, CheckerHandle};
+use c_checker::{CFault, CWord, CheckerHandle};
 use c_parts::Refusal;
 use std::alloc::Global;
 
@@ -38,6 +38,20 @@ pub extern "C" fn interlaken_checker_word(
     ensures { GivesWord checker.old.at.checker checker.new.at.checker kind number result }
 {
     c_checker::word(alloc, checker, kind, number)
+}
+
+/// Gives words one after another, up to the first that shows a fault and with it, and writes how many are taken. It is `DONE`, `FINISHED`,
+/// `WAITING`, `TOO_MANY`, `OUT_OF_RANGE` or `NO_CHECKER`.
+#[unsafe(no_mangle)]
+pub extern "C" fn interlaken_checker_words(
+    alloc: Global,
+    checker: &mut CheckerHandle,
+    words: &[CWord],
+    taken: &mut usize,
+) -> u32
+    ensures { GivesMany checker.old.at.checker checker.new.at.checker words.now result taken.new }
+{
+    c_checker::words(alloc, checker, words, taken)
 }
 
 /// Gives a control word of the far end that was verified: its checksum may cover data before it. It is `DONE`, `FINISHED`, `WAITING` or

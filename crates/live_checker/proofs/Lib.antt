@@ -4,3 +4,4 @@ mod Words
 mod Standing
 mod SameRows
 mod Called
+mod Runs

@@ -101,7 +101,7 @@ module _ (c : Checker) (found : List Fault) (given : ℕ) (finished : Bool) (x :
     ended = k.ended;
   }
 
-  all_given : length found ≤ given → x.given ≡ live_faults x.plan x.words
+  pub all_given : length found ≤ given → x.given ≡ live_faults x.plan x.words
   all_given le = sym (append-nil x.given) ∙ ap (λ (rows : List Fault). x.given ++ rows) (sym (drop_all given found le)) ∙ k.told
 
   pub word_kept : (new : Checker) (shown : List Fault) (word : RxWord) → length found ≤ given → length x.words < 2 ^ 57 → Keeps new x.plan (word ∷ reverse x.words) → shown ≡ shown_at x.plan (reverse x.words) word

@@ -31,6 +31,11 @@ nothing_checked limits channels entries = record {
 abbrev pub with_word : RxWord → Checked → Checked
 with_word word x = record { plan = x.plan; words = x.words ++ word ∷ []; given = x.given; finished = x.finished }
 
+-- these words more came
+abbrev pub with_words : List RxWord → Checked → Checked
+with_words [] x = x
+with_words (word ∷ words) x = with_words words (with_word word x)
+
 -- a word of flow control more was heard: it counts from the next word on
 abbrev pub with_heard : ℕ → Checked → Checked
 with_heard word x = record { plan = with_flow x.plan (with_row x.plan.flow (length x.words) word); words = x.words; given = x.given; finished = x.finished }

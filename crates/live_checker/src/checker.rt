@@ -5,7 +5,7 @@ ghost use Rattle.word_rules.specs.Faults.{Plan};
 ghost use Rattle.word_rules.specs.Flows.{InOrder};
 ghost use Rattle.live_checker.specs.Live.{shown_at};
 ghost use Rattle.live_checker.specs.Standing.{Checked, Checks, nothing_checked};
-ghost use Rattle.live_checker.specs.Calls.{IsFinish, IsFlow, IsNext, IsWord, flow_refusal, word_refusal};
+ghost use Rattle.live_checker.specs.Calls.{IsFinish, IsFlow, IsNext, IsRun, IsWord, flow_refusal, word_refusal};
 
 use crate::misuse::Misuse;
 use lk_base::{OutOfMemory, RxWord};
@@ -134,6 +134,26 @@ impl LiveChecker {
         find(&mut self.checker, word, &mut self.found);
         self.given = 0;
         Ok(())
+    }
+
+    /// Takes Data words of these numbers, one after another as `word` does, if none of them can show a fault and they are not too many.
+    /// Otherwise takes none, and nothing changes. True if they were taken.
+    pub fn data_run(&mut self, run: &[u64]) -> bool
+        ensures { IsRun self.old self.new run.now result }
+    {
+        if let Some(_why) = self.refusal() {
+            return false;
+        }
+        let count = self.checker.count().saturating_add(run.len() as u64);
+        if count >= MOST_WORDS {
+            return false;
+        }
+        if !self.checker.faultless_run(run) {
+            return false;
+        }
+        self.found.clear();
+        self.given = 0;
+        true
     }
 
     /// Takes a word of flow control of the far end. It counts from the next word on, if it is valid.

@@ -1,5 +1,6 @@
 //! The pass over a sender's words.
 ghost use Rattle.std.specs.Prelude.{◌≡◌, ◌≤◌, ◌<◌, ◌+◌, ◌^◌, ◌++◌, ◌∷◌, [], ℕ, List, map, Option, true, slice_get, slice_set, IfOk, IsOk, OnOk, length, vec_capacity, vec_len};
+ghost use Rattle.std.specs.Bool.{OnFalse, OnTrue};
 ghost use Rattle.std.specs.Option.{option_to_list};
 ghost use Rattle.lk_base.specs.declared.word.RxWord.{RxWord};
 ghost use Rattle.lk_base.specs.declared.word.RxWord.TheVariants.{Data, Control, Bad};
@@ -170,6 +171,21 @@ impl Checker {
         Ok(())
     }
 
+    /// Takes Data words of these numbers, one after another, if none of them can break a rule; otherwise it takes none. True if they were
+    /// taken.
+    pub fn faultless_run(&mut self, run: &[u64]) -> bool
+        requires { (p : Plan) × (earlier : List RxWord) × Keeps self.old p earlier × (length earlier + length run.now < 2 ^ 57) }
+        ensures rows { (p : Plan) (earlier : List RxWord) → Keeps self.old p earlier → OnTrue result (faults_from p earlier (map (λ (x : ℕ). Data x) run.now) ≡ []) }
+        ensures keeps { (p : Plan) (earlier : List RxWord) → Keeps self.old p earlier → OnTrue result (Keeps self.new p (run_after earlier run.now)) }
+        ensures same { OnFalse result (self.new ≡ self.old) }
+    {
+        if self.before.may_break(self.limits, run.len() as u64) {
+            return false;
+        }
+        self.before = self.before.after_run(run);
+        true
+    }
+
     /// Takes Data words of these numbers, one after another, and puts the rows of their faults after the others, as `step` for each.
     ///
     /// # Errors
@@ -180,11 +196,10 @@ impl Checker {
         ensures rows { (p : Plan) (earlier : List RxWord) → Keeps self.old p earlier → OnOk result (faults.new.items ≡ faults.old.items ++ faults_from p earlier (map (λ (x : ℕ). Data x) run.now)) }
         ensures keeps { (p : Plan) (earlier : List RxWord) → Keeps self.old p earlier → OnOk result (Keeps self.new p (run_after earlier run.now)) }
     {
-        if self.before.may_break(self.limits, run.len() as u64) {
-            return self.each_data(run, faults);
+        if self.faultless_run(run) {
+            return Ok(());
         }
-        self.before = self.before.after_run(run);
-        Ok(())
+        self.each_data(run, faults)
     }
 
     // Takes a Bad word.

@@ -420,6 +420,10 @@ class _RuleFault(ctypes.Structure):
     _fields_ = [(name, ctypes.c_uint32) for name in ("rule", "has_channel", "channel", "reserved")] + [("word", ctypes.c_uint64)]
 
 
+class _Word(ctypes.Structure):
+    _fields_ = [("number", ctypes.c_uint64), ("kind", ctypes.c_uint32), ("reserved", ctypes.c_uint32)]
+
+
 class _Report(ctypes.Structure):
     _fields_ = [
         (name, ctypes.c_uint64)
@@ -503,6 +507,7 @@ _CHECKER_CALLS = {
     "new": (_handle, ctypes.c_char_p, _size, ctypes.POINTER(_Refusal)),
     "free": (_handle,),
     "word": (_handle, _u32, _u64),
+    "words": (_handle, ctypes.POINTER(_Word), _size, ctypes.POINTER(_size)),
     "flow": (_handle, _u64),
     "finish": (_handle,),
     "next": (_handle, ctypes.POINTER(_RuleFault)),
@@ -931,6 +936,14 @@ class Checker(_OfPlan):
     def word(self, kind: int, number: int = 0) -> None:
         """Gives the next word: a WordKind and its 64 bits. While faults are due it raises Misuse, of WAITING."""
         self._call("word", _within(kind, 32, "kind of a word"), _within(number, 64, "word"))
+
+    def words(self, words: Sequence[tuple[int, int]]) -> int:
+        """Gives the next words, each a WordKind and its 64 bits, up to the first that shows a fault, and returns how many it takes. Then take
+        the faults, and give the other words. A first word that `word` would refuse raises Misuse."""
+        pairs = ((_within(number, 64, "word"), _within(kind, 32, "kind of a word")) for kind, number in words)
+        taken = _size()
+        self._call("words", (_Word * len(words))(*pairs), len(words), taken)
+        return taken.value
 
     def flow(self, word: int) -> None:
         """Gives a control word of the far end, as a receiver's Flow has it: it counts from the next word on, as for a transmitter. While faults
