@@ -52,6 +52,9 @@ waiting = 17
 abbrev pub no_gatherer : ℕ
 no_gatherer = 18
 
+abbrev pub part_byte : ℕ
+part_byte = 19
+
 -- ---- the states of a lane
 
 abbrev pub state_code : LaneState → ℕ

@@ -39,7 +39,7 @@ pub const IN_USE: u32 = 8;
 /// There is no damage behind the handle.
 pub const NO_DAMAGE: u32 = 9;
 
-/// There are no such numbers of lanes or of bits.
+/// There are no such numbers of lanes or of bits; or a call has more than 64 bits.
 pub const OUT_OF_RANGE: u32 = 10;
 
 /// All bits that a row names have passed.
@@ -65,6 +65,9 @@ pub const WAITING: u32 = 17;
 
 /// There is no gatherer behind the handle.
 pub const NO_GATHERER: u32 = 18;
+
+/// A part of a byte of the lane is left: a call on whole bytes must wait for the rest of its bits.
+pub const PART_BYTE: u32 = 19;
 
 // ---- kinds of events
 
