@@ -126,6 +126,11 @@ cp "$top/examples/one.pcap" . && "$program" send one.plan >/dev/null || gives_up
 holds "the header's example" "$(./example one.plan one.lane.0)" $'packet of 300 bytes\npacket of 40 bytes'
 
 cp "$top"/examples/{damaged.plan,damaged.schedule,one.pcap,two.pcap} . && "$program" link damaged.plan >/dev/null || gives_up 'link fails'
+# Lanes in drawn pieces of bits, beside bytes.
+cc -std=c99 "${strict[@]}" -o by_bits "$top/checks/clib/by_bits.c" "$archive" "$top/examples/c/alloc.c" || gives_up 'checks/clib/by_bits.c is not compiled'
+for seed in 1 2 3; do
+  holds "bits beside bytes, seed $seed" "$(./by_bits damaged.plan $seed damaged.lane.*)" 'calls on bits: many'
+done
 same_as_receive 'examples/damaged.plan' damaged.plan damaged '' 1 2
 for made in by_words by_cmake/by_interlaken by_cmake/by_shared; do
   [ ! -x "$made" ] ||

@@ -86,12 +86,14 @@
  * returns the first of
  * - NO_RECEIVER, NO_DAMAGE, NO_TRANSMITTER, NO_INSPECTOR, NO_CHECKER or NO_GATHERER: the handle has
  *   none,
- * - IN_USE, NO_LANE, FINISHED, WAITING, NO_CHANNEL, BAD_LENGTH, TOO_MANY, OUT_OF_RANGE, PASSED,
+ * - IN_USE, NO_LANE, FINISHED, PART_BYTE, WAITING, NO_CHANNEL, BAD_LENGTH, TOO_MANY, OUT_OF_RANGE,
+ *   PASSED,
  * - OUT_OF_MEMORY.
  *
- * IN_USE also precedes BAD_PLAN, and NO_RECEIVER precedes NO_PACKET. The results of a call are
- * listed in the order of their numbers. What a call only writes need not be initialised, and is
- * written whatever the result is.
+ * IN_USE also precedes BAD_PLAN, and NO_RECEIVER precedes NO_PACKET. Of `feed_bits` and `take_bits`
+ * OUT_OF_RANGE precedes NO_LANE, FINISHED and TOO_MANY. The results of a call are listed in the
+ * order of their numbers. What a call only writes need not be initialised, and is written whatever
+ * the result is.
  *
  * A later version with the same first number may have further results, kinds of events, reasons and
  * causes. Pass over an event of an unknown kind, and take an unknown result for a failure. The
@@ -161,7 +163,9 @@ enum interlaken_result {
   INTERLAKEN_NO_INSPECTOR = 15,   /* the handle has no inspector: it is all zeros, or was freed */
   INTERLAKEN_NO_CHECKER = 16,     /* the handle has no checker: it is all zeros, or was freed */
   INTERLAKEN_WAITING = 17,        /* faults wait that `next` has not returned: nothing was taken */
-  INTERLAKEN_NO_GATHERER = 18     /* the handle has no gatherer: it is all zeros, or was freed */
+  INTERLAKEN_NO_GATHERER = 18,    /* the handle has no gatherer: it is all zeros, or was freed */
+  INTERLAKEN_PART_BYTE = 19       /* a part of a byte of the lane is left: the call is on whole
+                                     bytes, or ends the lane */
 };
 
 /* A handle of a receiver, or of none. All zeros is a handle of none, as in
@@ -402,12 +406,29 @@ uint32_t interlaken_receiver_free(interlaken_receiver *receiver);
  * prefix of `bytes` for which the lane's ring of 4,096 bytes has room, and writes its length to
  * `taken`. Feed the other bytes again after `next` has made room. `next` makes room only as far as
  * the other lanes were fed.
- * Results: DONE, NO_LANE, FINISHED, TOO_MANY, NO_RECEIVER; `taken` is 0 if it is not DONE. */
+ * The result is PART_BYTE while `feed_bits` has left a part of a byte of the lane.
+ * Results: DONE, NO_LANE, FINISHED, TOO_MANY, NO_RECEIVER, PART_BYTE; `taken` is 0 if it is not
+ * DONE. */
 uint32_t interlaken_receiver_feed(interlaken_receiver *receiver, uint32_t lane,
                                   const uint8_t *bytes, size_t count, size_t *taken);
 
+/* Feeds a lane, counted from 0, with its next `count` bits, 0 to 64: the lowest of `bits`, the
+ * highest of them first. The bits of a lane so far are those of the bytes that it took, and then a
+ * part of a byte: at most seven bits, which wait for the rest of their byte. The whole bytes that
+ * `bits` completes are fed. As `feed`, it takes the longest prefix of these
+ * bytes for which the ring has room. `taken` is how many of
+ * the bits are taken: all, or those that complete the bytes that are taken. Feed the others again.
+ * If there are whole bytes and none of them is taken, no bit is.
+ * The result is OUT_OF_RANGE if `count` is above 64.
+ * Results: DONE, NO_LANE, FINISHED, TOO_MANY, NO_RECEIVER, OUT_OF_RANGE; `taken` is 0 if it is not
+ * DONE. */
+uint32_t interlaken_receiver_feed_bits(interlaken_receiver *receiver, uint32_t lane,
+                                       uint64_t bits, uint32_t count, uint32_t *taken);
+
 /* Ends a lane: no further byte of it follows.
- * Results: DONE, NO_LANE, FINISHED, NO_RECEIVER. */
+ * The result is PART_BYTE while a part of a byte of the lane is left, and nothing changes: feed the
+ * missing bits first, or zeros, with which a lane file fills its last byte.
+ * Results: DONE, NO_LANE, FINISHED, NO_RECEIVER, PART_BYTE. */
 uint32_t interlaken_receiver_finish(interlaken_receiver *receiver, uint32_t lane);
 
 /* Writes the next event, or INTERLAKEN_NONE if there is none yet, or if the end was returned
@@ -511,9 +532,20 @@ uint32_t interlaken_transmitter_local(interlaken_transmitter *transmitter, uint1
  * transmitter ends. Fewer bytes alone never mean the end: `status_of` says whether the lanes have
  * ended. At least one byte is taken of a lane with waiting bytes, if `count` is not 0. The rest of
  * `bytes` stays unchanged.
- * Results: DONE, NO_LANE, NO_TRANSMITTER; `taken` is 0 if it is not DONE. */
+ * The result is PART_BYTE while `take_bits` has left a part of a byte of the lane.
+ * Results: DONE, NO_LANE, NO_TRANSMITTER, PART_BYTE; `taken` is 0 if it is not DONE. */
 uint32_t interlaken_transmitter_take(interlaken_transmitter *transmitter, uint32_t lane,
                                      uint8_t *bytes, size_t count, size_t *taken);
+
+/* Takes the next `count` bits of a lane, counted from 0: 0 to 64 of them. They are the lowest bits
+ * of `bits`, the first of them highest, and the bits above them are 0. `taken` is how many they
+ * are. Bytes are taken as by `take`, as many as complete the bits. What is left of the last byte,
+ * at most seven bits, waits for the next call. Fewer than `count` bits are taken if and only if too
+ * few bytes are. The result is OUT_OF_RANGE if `count` is above 64.
+ * Results: DONE, NO_LANE, OUT_OF_RANGE, NO_TRANSMITTER; `bits` and `taken` are 0 if it is not
+ * DONE. */
+uint32_t interlaken_transmitter_take_bits(interlaken_transmitter *transmitter, uint32_t lane,
+                                          uint32_t count, uint64_t *bits, uint32_t *taken);
 
 /* Closes the packets: none may follow. `flow` and `local` count as before, and the lanes go on. So
  * what waits on a channel that is off can still be sent. Go on until `status_of` says that no
@@ -749,12 +781,29 @@ uint32_t interlaken_inspector_free(interlaken_inspector *inspector);
  * or those up to the end of a word that shows events, and at most six more. It writes to `taken`
  * how many it takes. While events of the lane are due, it takes none: call `next`, and feed the
  * other bytes again. Events of other lanes hold back no byte.
- * Results: DONE, NO_LANE, FINISHED, TOO_MANY, NO_INSPECTOR; `taken` is 0 if it is not DONE. */
+ * The result is PART_BYTE while `feed_bits` has left a part of a byte of the lane.
+ * Results: DONE, NO_LANE, FINISHED, TOO_MANY, NO_INSPECTOR, PART_BYTE; `taken` is 0 if it is not
+ * DONE. */
 uint32_t interlaken_inspector_feed(interlaken_inspector *inspector, uint32_t lane,
                                    const uint8_t *bytes, size_t count, size_t *taken);
 
+/* Feeds a lane, counted from 0, with its next `count` bits, 0 to 64: the lowest of `bits`, the
+ * highest of them first. The bits of a lane so far are those of the bytes that it took, and then a
+ * part of a byte: at most seven bits, which wait for the rest of their byte. The whole bytes that
+ * `bits` completes are fed. As `feed`, it takes these bytes up to a word that
+ * shows events, and none while events of the lane are due. `taken` is how many of
+ * the bits are taken: all, or those that complete the bytes that are taken. Feed the others again.
+ * If there are whole bytes and none of them is taken, no bit is.
+ * The result is OUT_OF_RANGE if `count` is above 64.
+ * Results: DONE, NO_LANE, FINISHED, TOO_MANY, OUT_OF_RANGE, NO_INSPECTOR; `taken` is 0 if it is not
+ * DONE. */
+uint32_t interlaken_inspector_feed_bits(interlaken_inspector *inspector, uint32_t lane,
+                                        uint64_t bits, uint32_t count, uint32_t *taken);
+
 /* Ends a lane: no further byte of it follows. Its events that are due are still returned.
- * Results: DONE, NO_LANE, FINISHED, NO_INSPECTOR. */
+ * The result is PART_BYTE while a part of a byte of the lane is left, and nothing changes: feed the
+ * missing bits first, or zeros, with which a lane file fills its last byte.
+ * Results: DONE, NO_LANE, FINISHED, NO_INSPECTOR, PART_BYTE. */
 uint32_t interlaken_inspector_finish(interlaken_inspector *inspector, uint32_t lane);
 
 /* Writes the next event that is due: of the lowest lane that has one, the first. It writes
@@ -813,12 +862,29 @@ uint32_t interlaken_gatherer_free(interlaken_gatherer *gatherer);
 /* Feeds a lane, counted from 0, with the next of its bytes, first bit first, and writes to `taken`
  * how many its ring of 4,096 bytes takes: all of them, or as many as it has room for. If it takes
  * fewer, call `next` until it writes INTERLAKEN_GATHERED_NONE, and feed the lanes that lack bytes.
- * Results: DONE, NO_LANE, FINISHED, TOO_MANY, NO_GATHERER; `taken` is 0 if it is not DONE. */
+ * The result is PART_BYTE while `feed_bits` has left a part of a byte of the lane.
+ * Results: DONE, NO_LANE, FINISHED, TOO_MANY, NO_GATHERER, PART_BYTE; `taken` is 0 if it is not
+ * DONE. */
 uint32_t interlaken_gatherer_feed(interlaken_gatherer *gatherer, uint32_t lane,
                                   const uint8_t *bytes, size_t count, size_t *taken);
 
+/* Feeds a lane, counted from 0, with its next `count` bits, 0 to 64: the lowest of `bits`, the
+ * highest of them first. The bits of a lane so far are those of the bytes that it took, and then a
+ * part of a byte: at most seven bits, which wait for the rest of their byte. The whole bytes that
+ * `bits` completes are fed. As `feed`, it takes the longest prefix of these
+ * bytes for which the ring has room. `taken` is how many of
+ * the bits are taken: all, or those that complete the bytes that are taken. Feed the others again.
+ * If there are whole bytes and none of them is taken, no bit is.
+ * The result is OUT_OF_RANGE if `count` is above 64.
+ * Results: DONE, NO_LANE, FINISHED, TOO_MANY, OUT_OF_RANGE, NO_GATHERER; `taken` is 0 if it is not
+ * DONE. */
+uint32_t interlaken_gatherer_feed_bits(interlaken_gatherer *gatherer, uint32_t lane,
+                                       uint64_t bits, uint32_t count, uint32_t *taken);
+
 /* Ends a lane: no further byte of it follows.
- * Results: DONE, NO_LANE, FINISHED, NO_GATHERER. */
+ * The result is PART_BYTE while a part of a byte of the lane is left, and nothing changes: feed the
+ * missing bits first, or zeros, with which a lane file fills its last byte.
+ * Results: DONE, NO_LANE, FINISHED, NO_GATHERER, PART_BYTE. */
 uint32_t interlaken_gatherer_finish(interlaken_gatherer *gatherer, uint32_t lane);
 
 /* Writes the next word or break, or INTERLAKEN_GATHERED_ENDED once after all others, if all lanes

@@ -20,7 +20,7 @@ static inline const char *interlaken_result_text(uint32_t result) {
       "too many bytes", "the last event was no packet", "no receiver", "the handle is open already",
       "no damage", "out of range", "the bits have passed", "no transmitter",
       "the plan does not list the channel", "the packet has no bytes or too many", "no inspector",
-      "no checker", "faults wait to be taken", "no gatherer"};
+      "no checker", "faults wait to be taken", "no gatherer", "a part of a byte is left"};
   return interlaken_text_of(texts, sizeof texts / sizeof *texts, result);
 }
 

@@ -13,11 +13,10 @@
 #define LONGEST 262144 /* bytes of a packet */
 #define NO_ROOM 100    /* one result more than those of interlaken.h: INTERLAKEN_NO_ROOM of the package */
 
-/* The bits of a lane that the library has not taken: whole bytes, and fewer than eight bits after these. */
+/* The bits of a lane that the library has not taken: the lowest `count` of a number, the first of them highest. */
 struct lane {
-  uint8_t bytes[8];
+  unsigned long long bits;
   unsigned count;
-  unsigned bits, bit_count;
   int finished;
 };
 
@@ -32,10 +31,10 @@ struct live {
 
 static struct live *all; /* the handles of this simulation */
 
-/* Bytes of a lane that were taken, and not all passed on: of the first, so many bits were. */
+/* Bits of a lane that were taken and not passed on, since fewer came than were asked for: the lowest `count` of a number. */
 struct ahead {
-  uint8_t bytes[9];
-  unsigned count, passed;
+  unsigned long long bits;
+  unsigned count;
 };
 
 /* A transmitter, and the bytes of the packet that is put together for it. */
@@ -187,26 +186,15 @@ static uint8_t *read_array(const svOpenArrayHandle array, uint8_t *room, size_t 
   return room;
 }
 
-/* Puts bits at the end of a lane that has no whole byte. */
+/* Puts bits on a lane on which none wait. */
 static void put_bits(struct lane *lane, unsigned long long bits, unsigned int count) {
-  while (count-- > 0) {
-    lane->bits = lane->bits << 1 | (unsigned)(bits >> count & 1);
-    if (++lane->bit_count == 8) {
-      lane->bytes[lane->count++] = (uint8_t)lane->bits;
-      lane->bits = lane->bit_count = 0;
-    }
-  }
+  lane->bits = bits;
+  lane->count = count;
 }
 
-/* Fills the last byte of a lane up with zeros, if it has begun. */
-static void fill_byte(struct lane *lane) {
-  if (lane->bit_count > 0) put_bits(lane, 0, 8 - lane->bit_count);
-}
-
-/* Drops the first bytes of a lane: NO_ROOM if some are left. */
-static int drop_bytes(struct lane *lane, size_t taken) {
-  lane->count -= (unsigned)taken;
-  memmove(lane->bytes, lane->bytes + taken, lane->count);
+/* Keeps the bits that were not taken: NO_ROOM if there are some. */
+static int keep_rest(struct lane *lane, uint32_t taken) {
+  lane->count -= taken;
   return lane->count == 0 ? INTERLAKEN_DONE : NO_ROOM;
 }
 
@@ -265,13 +253,12 @@ static int find_lane(struct live *live, unsigned int number, struct lane **lane)
   return (*lane)->finished ? INTERLAKEN_FINISHED : INTERLAKEN_DONE;
 }
 
-/* Has the receiver take the whole bytes: NO_ROOM where it does not take all. */
+/* Has the receiver take the bits: NO_ROOM where it does not take all. */
 static int push(struct live *live, unsigned int number, struct lane *lane) {
-  size_t taken = 0;
-  uint32_t result;
+  uint32_t taken = 0, result;
   if (lane->count == 0) return INTERLAKEN_DONE;
-  result = interlaken_receiver_feed(&live->receiver, number, lane->bytes, lane->count, &taken);
-  return result == INTERLAKEN_DONE ? drop_bytes(lane, taken) : (int)result;
+  result = interlaken_receiver_feed_bits(&live->receiver, number, lane->bits, lane->count, &taken);
+  return result == INTERLAKEN_DONE ? keep_rest(lane, taken) : (int)result;
 }
 
 int interlaken_dpi_feed(void *receiver, unsigned int number, unsigned long long bits, unsigned int count) {
@@ -292,8 +279,10 @@ int interlaken_dpi_finish(void *receiver, unsigned int number) {
   struct lane *lane;
   int result = find_lane(live, number, &lane);
   if (result == INTERLAKEN_DONE) result = push(live, number, lane);
-  if (result == INTERLAKEN_DONE) fill_byte(lane), result = push(live, number, lane);
-  if (result == INTERLAKEN_DONE) result = (int)interlaken_receiver_finish(&live->receiver, number);
+  while (result == INTERLAKEN_DONE && (result = (int)interlaken_receiver_finish(&live->receiver, number)) == INTERLAKEN_PART_BYTE) {
+    put_bits(lane, 0, 1); /* fills the last byte up with zeros */
+    result = push(live, number, lane);
+  }
   if (result == INTERLAKEN_DONE) lane->finished = 1;
   return result;
 }
@@ -498,24 +487,21 @@ int interlaken_dpi_take_byte(void *transmitter, unsigned int lane, unsigned char
 int interlaken_dpi_take_bits(void *transmitter, unsigned int number, unsigned int count, unsigned long long *bits) {
   struct drive *drive = (struct drive *)transmitter;
   struct ahead *lane;
-  uint8_t none;
-  size_t taken = 0;
-  uint32_t result = INTERLAKEN_NO_TRANSMITTER;
+  uint64_t more = 0;
+  uint32_t taken = 0, result = INTERLAKEN_NO_TRANSMITTER;
   *bits = 0;
-  if (drive != NULL) result = interlaken_transmitter_take(&drive->transmitter, number, &none, 0, &taken);
+  if (drive != NULL) result = interlaken_transmitter_take_bits(&drive->transmitter, number, 0, &more, &taken);
   if (result != INTERLAKEN_DONE) return (int)result;
   if (count > 64) return INTERLAKEN_TOO_MANY;
   lane = &drive->lanes[number];
-  if (lane->passed + count > 8 * lane->count) {
-    size_t bytes = (lane->passed + count + 7) / 8 - lane->count;
-    result = interlaken_transmitter_take(&drive->transmitter, number, lane->bytes + lane->count, bytes, &taken);
-    lane->count += (unsigned)taken;
+  if (count > lane->count) {
+    result = interlaken_transmitter_take_bits(&drive->transmitter, number, count - lane->count, &more, &taken);
+    lane->bits = taken == 64 ? more : lane->bits << taken | more;
+    lane->count += taken;
   }
-  if (result != INTERLAKEN_DONE || lane->passed + count > 8 * lane->count) return result != INTERLAKEN_DONE ? (int)result : NO_ROOM;
-  for (; count > 0; count--, lane->passed++) *bits = *bits << 1 | (unsigned)(lane->bytes[lane->passed / 8] >> (7 - lane->passed % 8) & 1);
-  lane->count -= lane->passed / 8;
-  memmove(lane->bytes, lane->bytes + lane->passed / 8, lane->count);
-  lane->passed %= 8;
+  if (result != INTERLAKEN_DONE || count > lane->count) return result != INTERLAKEN_DONE ? (int)result : NO_ROOM;
+  lane->count -= count;
+  *bits = lane->bits >> lane->count & (count == 64 ? ~0ull : (1ull << count) - 1);
   return INTERLAKEN_DONE;
 }
 
@@ -613,13 +599,12 @@ static int find_inspected(struct look *look, unsigned int number, struct lane **
   return (*lane)->finished ? INTERLAKEN_FINISHED : INTERLAKEN_DONE;
 }
 
-/* Has the inspector take the whole bytes: NO_ROOM if it does not take all, since events are due. */
+/* Has the inspector take the bits: NO_ROOM if it does not take all, since events are due. */
 static int push_inspected(struct look *look, unsigned int number, struct lane *lane) {
-  size_t taken = 0;
-  uint32_t result;
+  uint32_t taken = 0, result;
   if (lane->count == 0) return INTERLAKEN_DONE;
-  result = interlaken_inspector_feed(&look->inspector, number, lane->bytes, lane->count, &taken);
-  return result == INTERLAKEN_DONE ? drop_bytes(lane, taken) : (int)result;
+  result = interlaken_inspector_feed_bits(&look->inspector, number, lane->bits, lane->count, &taken);
+  return result == INTERLAKEN_DONE ? keep_rest(lane, taken) : (int)result;
 }
 
 int interlaken_dpi_inspect_bits(void *inspector, unsigned int number, unsigned long long bits, unsigned int count) {
@@ -653,8 +638,10 @@ int interlaken_dpi_finish_inspection(void *inspector, unsigned int number) {
   struct lane *lane;
   int result = find_inspected(look, number, &lane);
   if (result == INTERLAKEN_DONE) result = push_inspected(look, number, lane);
-  if (result == INTERLAKEN_DONE) fill_byte(lane), result = push_inspected(look, number, lane);
-  if (result == INTERLAKEN_DONE) result = (int)interlaken_inspector_finish(&look->inspector, number);
+  while (result == INTERLAKEN_DONE && (result = (int)interlaken_inspector_finish(&look->inspector, number)) == INTERLAKEN_PART_BYTE) {
+    put_bits(lane, 0, 1); /* fills the last byte up with zeros */
+    result = push_inspected(look, number, lane);
+  }
   if (result == INTERLAKEN_DONE) lane->finished = 1;
   return result;
 }
@@ -666,7 +653,7 @@ int interlaken_dpi_next_lane_event(void *inspector, unsigned int *kind, unsigned
   unsigned i;
   memset(&event, 0, sizeof event);
   if (look != NULL) result = interlaken_inspector_next(&look->inspector, &event);
-  if (result == INTERLAKEN_DONE && event.kind == INTERLAKEN_NO_LANE_EVENT) { /* bytes that wait may show one */
+  if (result == INTERLAKEN_DONE && event.kind == INTERLAKEN_NO_LANE_EVENT) { /* bits that wait may show one */
     for (i = 0; i < look->count; i++) (void)push_inspected(look, i, &look->lanes[i]);
     result = interlaken_inspector_next(&look->inspector, &event);
   }
@@ -769,13 +756,12 @@ static int find_gathered(struct crop *crop, unsigned int number, struct lane **l
   return (*lane)->finished ? INTERLAKEN_FINISHED : INTERLAKEN_DONE;
 }
 
-/* Has the gatherer take the whole bytes: NO_ROOM if it does not take all. */
+/* Has the gatherer take the bits: NO_ROOM if it does not take all. */
 static int push_gathered(struct crop *crop, unsigned int number, struct lane *lane) {
-  size_t taken = 0;
-  uint32_t result;
+  uint32_t taken = 0, result;
   if (lane->count == 0) return INTERLAKEN_DONE;
-  result = interlaken_gatherer_feed(&crop->gatherer, number, lane->bytes, lane->count, &taken);
-  return result == INTERLAKEN_DONE ? drop_bytes(lane, taken) : (int)result;
+  result = interlaken_gatherer_feed_bits(&crop->gatherer, number, lane->bits, lane->count, &taken);
+  return result == INTERLAKEN_DONE ? keep_rest(lane, taken) : (int)result;
 }
 
 int interlaken_dpi_gather_bits(void *gatherer, unsigned int number, unsigned long long bits, unsigned int count) {
@@ -796,8 +782,10 @@ int interlaken_dpi_finish_gathering(void *gatherer, unsigned int number) {
   struct lane *lane;
   int result = find_gathered(crop, number, &lane);
   if (result == INTERLAKEN_DONE) result = push_gathered(crop, number, lane);
-  if (result == INTERLAKEN_DONE) fill_byte(lane), result = push_gathered(crop, number, lane);
-  if (result == INTERLAKEN_DONE) result = (int)interlaken_gatherer_finish(&crop->gatherer, number);
+  while (result == INTERLAKEN_DONE && (result = (int)interlaken_gatherer_finish(&crop->gatherer, number)) == INTERLAKEN_PART_BYTE) {
+    put_bits(lane, 0, 1); /* fills the last byte up with zeros */
+    result = push_gathered(crop, number, lane);
+  }
   if (result == INTERLAKEN_DONE) lane->finished = 1;
   return result;
 }

@@ -14,8 +14,8 @@ use Rattle.std_alloc.proofs.BoxSteps.Form.{Bx, B}
 use Rattle.std_heap.specs.contracts.Global as Heap
 use Rattle.std_heap.specs.contracts.GlobalAllocator.TheImpl.{ghosts, dict}
 use Rattle.std_heap.proofs.Global.TheLaws as heap
-use Rattle.live_gatherer.specs.contracts.gatherer.LiveGatherer as Gatherer
-use Rattle.live_gatherer.proofs.gatherer.LiveGatherer.TheLaws as gatherer
+use Rattle.c_gatherer.specs.contracts.bit_gatherer.BitGatherer as Gatherer
+use Rattle.c_gatherer.proofs.bit_gatherer.BitGatherer.TheLaws as gatherer
 use Rattle.c_parts.specs.contracts.parts.Parts as Parts
 use Rattle.c_gatherer.specs.contracts.block.GathererBlock as Block
 

@@ -7,7 +7,7 @@ use Rattle.std.specs.Box.Ownership.{box_owns}
 use Rattle.std.specs.Coded.{coded_option}
 use Rattle.std.specs.Global.{Global}
 use Rattle.std_heap.specs.contracts.GlobalAllocator.TheImpl.{ghosts}
-use Rattle.live_gatherer.specs.contracts.gatherer.LiveGatherer.{the_row}
+use Rattle.c_gatherer.specs.contracts.bit_gatherer.BitGatherer.{the_row}
 
 abbrev pub block_owns : Global → Ptr → Option the_row.Denot → Fml
 block_owns alloc ptr None = ftrue

@@ -1,10 +1,10 @@
 //! The pointer that C holds to a gatherer, or to none.
 ghost use Rattle.std.specs.Prelude.{◌≡◌, true, is_some, Option, Some, None};
-ghost use Rattle.live_gatherer.specs.declared.gatherer.LiveGatherer.{LiveGatherer};
+ghost use Rattle.c_gatherer.specs.declared.bit_gatherer.BitGatherer.{BitGatherer};
 ghost use Rattle.c_gatherer.specs.Owned.{block_owns, gatherer_coded};
 
+use crate::bit_gatherer::BitGatherer;
 use c_parts::Parts;
-use live_gatherer::LiveGatherer;
 use std::alloc::Global;
 use std::marker::Model;
 use std::ptr;
@@ -16,7 +16,7 @@ use std::ptr;
 pub struct GathererBlock {
     ptr: *mut u8,
     alloc: Global,
-    pub ghost gatherer: { Option LiveGatherer } by { gatherer_coded },
+    pub ghost gatherer: { Option BitGatherer } by { gatherer_coded },
 }
 
 impl Model for GathererBlock {
@@ -33,7 +33,7 @@ impl GathererBlock {
     }
 
     /// The block of the gatherer of these parts.
-    pub fn of(parts: Parts<LiveGatherer, Global>) -> GathererBlock
+    pub fn of(parts: Parts<BitGatherer, Global>) -> GathererBlock
         ensures { result.gatherer ≡ Some parts.value }
     {
         let Parts { ptr, alloc } = parts;
@@ -42,12 +42,12 @@ impl GathererBlock {
     }
 
     /// The parts of the gatherer's box.
-    pub fn into_parts(self) -> Parts<LiveGatherer, Global>
+    pub fn into_parts(self) -> Parts<BitGatherer, Global>
         requires { is_some self.gatherer ≡ true }
         ensures { self.gatherer ≡ Some result.value }
     {
         let GathererBlock { ptr, alloc } = self;
-        let ptr = ptr as *mut LiveGatherer;
+        let ptr = ptr as *mut BitGatherer;
         Parts { ptr, alloc }
     }
 }

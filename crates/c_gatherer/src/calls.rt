@@ -1,13 +1,16 @@
 //! The calls on a gatherer.
 ghost use Rattle.std.specs.Prelude.{◌≡◌, IfOk, IfErr};
+ghost use Rattle.c_bits.specs.Bits.{no_parts};
 ghost use Rattle.c_parts.specs.Refusals.{IsRefused};
 ghost use Rattle.c_parts.specs.Reports.{no_report};
-ghost use Rattle.c_gatherer.specs.Held.{Feeds, Finishes, Frees, GivesCode, GivesCount, GivesNext, GivesReport, IsOfPlan, Makes, Reports};
+ghost use Rattle.c_gatherer.specs.Held.{Feeds, FeedsBits, FeedsCompleted, FeedsWhole, Finishes, FinishesWhole, Frees, GivesCode, GivesCount, GivesNext, GivesReport, IsMade, IsOfPlan, Makes, Reports};
 
+use crate::bit_gatherer::BitGatherer;
 use crate::codes::misuse_code;
 use crate::gathered::{CGathered, shown};
 use crate::handle::GathererHandle;
-use c_parts::codes::{DONE, IN_USE, NO_GATHERER, plan_code};
+use c_bits::MOST_BITS;
+use c_parts::codes::{DONE, IN_USE, NO_GATHERER, OUT_OF_RANGE, PART_BYTE, plan_code};
 use c_parts::refusal::{Refusal, no_refusal, refusal_of};
 use c_parts::report::{Report, as_report, no_report};
 use link_plan::{PlanError, read_plan};
@@ -26,17 +29,18 @@ fn opened(alloc: Global, plan: &[u8]) -> Result<LiveGatherer, PlanError>
     Ok(gatherer)
 }
 
-// A gatherer in a box.
-fn in_box(alloc: Global, gatherer: LiveGatherer) -> Result<Box<LiveGatherer, Global>, OutOfMemory>
-    ensures { IfOk result (λ b. b.value ≡ gatherer) }
+// A gatherer in a box, with no part of a byte.
+fn in_box(alloc: Global, lanes: LiveGatherer) -> Result<Box<BitGatherer, Global>, OutOfMemory>
+    ensures lanes { IfOk result (λ b. b.value.lanes ≡ lanes) }
+    ensures whole { IfOk result (λ b. b.value.parts ≡ no_parts) }
 {
-    let held = Box::new(alloc, gatherer)?;
+    let held = Box::new(alloc, BitGatherer::of(lanes))?;
     Ok(held)
 }
 
 // A gatherer of the lanes of the plan of these bytes, in a box.
-fn boxed(alloc: Global, plan: &[u8]) -> Result<Box<LiveGatherer, Global>, PlanError>
-    ensures made { IfOk result (λ b. IsOfPlan plan.now b.value) }
+fn boxed(alloc: Global, plan: &[u8]) -> Result<Box<BitGatherer, Global>, PlanError>
+    ensures made { IfOk result (λ b. IsMade plan.now b.value) }
     ensures refused { IfErr result (IsRefused plan.now) }
 {
     let gatherer = opened(alloc, plan)?;
@@ -90,8 +94,21 @@ fn counted(answer: Result<usize, Misuse>, count: &mut usize) -> u32
     }
 }
 
+// Feeds a lane with bytes, unless a part of a byte of it is left; none are taken so far.
+fn feed_whole(gatherer: &mut BitGatherer, lane: u32, bytes: &[u8], taken: &mut usize) -> u32
+    requires { taken.old ≡ 0 }
+    ensures { FeedsWhole gatherer.old gatherer.new lane bytes.now result taken.new }
+{
+    let whole = gatherer.parts.is_whole(lane);
+    if !whole {
+        return PART_BYTE;
+    }
+    let answer = gatherer.lanes.feed(lane, bytes);
+    counted(answer, taken)
+}
+
 /// Feeds a lane with the longest prefix of these bytes that its ring has room for, and writes how many that is. It is
-/// `DONE`, `NO_LANE`, `FINISHED`, `TOO_MANY` or `NO_GATHERER`.
+/// `DONE`, `NO_LANE`, `FINISHED`, `TOO_MANY`, `PART_BYTE` if a part of a byte of the lane is left, or `NO_GATHERER`.
 pub fn feed(
     alloc: Global,
     gatherer: &mut GathererHandle,
@@ -105,9 +122,55 @@ pub fn feed(
     let Some(mut there) = gatherer.take(alloc) else {
         return NO_GATHERER;
     };
-    let answer = there.feed(lane, bytes);
+    let result = feed_whole(&mut there, lane, bytes, taken);
     gatherer.put(there);
-    counted(answer, taken)
+    result
+}
+
+// Feeds a lane with the bytes that bits complete; none are taken so far.
+fn feed_completed(
+    gatherer: &mut BitGatherer,
+    lane: u32,
+    bits: u64,
+    count: u32,
+    taken: &mut u32,
+) -> u32
+    requires { taken.old ≡ 0 }
+    ensures { FeedsCompleted gatherer.old gatherer.new lane bits count result taken.new }
+{
+    if count > MOST_BITS {
+        return OUT_OF_RANGE;
+    }
+    let cut = gatherer.parts.cut(lane, bits, count);
+    match gatherer.lanes.feed(lane, cut.bytes()) {
+        Ok(bytes) => {
+            *taken = gatherer.parts.settle(lane, &cut, count, bytes);
+            DONE
+        }
+        Err(why) => misuse_code(why),
+    }
+}
+
+/// Feeds a lane with the lowest `count` bits of a number, at most 64, the highest of them first, and writes how many are taken: all, or
+/// those that complete the bytes that its ring has room for. It is `DONE`, `NO_LANE`, `FINISHED`, `TOO_MANY`, `OUT_OF_RANGE` or
+/// `NO_GATHERER`.
+pub fn feed_bits(
+    alloc: Global,
+    gatherer: &mut GathererHandle,
+    lane: u32,
+    bits: u64,
+    count: u32,
+    taken: &mut u32,
+) -> u32
+    ensures { FeedsBits gatherer.old.at.gatherer gatherer.new.at.gatherer lane bits count result taken.new }
+{
+    *taken = 0;
+    let Some(mut there) = gatherer.take(alloc) else {
+        return NO_GATHERER;
+    };
+    let result = feed_completed(&mut there, lane, bits, count, taken);
+    gatherer.put(there);
+    result
 }
 
 // The result of a call that gives nothing.
@@ -120,16 +183,29 @@ fn ended(answer: Result<(), Misuse>) -> u32
     }
 }
 
-/// No further byte of this lane comes. It is `DONE`, `NO_LANE`, `FINISHED` or `NO_GATHERER`.
+// Ends a lane, unless a part of a byte of it is left.
+fn finish_whole(gatherer: &mut BitGatherer, lane: u32) -> u32
+    ensures { FinishesWhole gatherer.old gatherer.new lane result }
+{
+    let whole = gatherer.parts.is_whole(lane);
+    if !whole {
+        return PART_BYTE;
+    }
+    let answer = gatherer.lanes.finish(lane);
+    ended(answer)
+}
+
+/// No further byte of this lane comes. It is `DONE`, `NO_LANE`, `FINISHED`, `PART_BYTE` if a part of a byte of the lane is left, or
+/// `NO_GATHERER`.
 pub fn finish(alloc: Global, gatherer: &mut GathererHandle, lane: u32) -> u32
     ensures { Finishes gatherer.old.at.gatherer gatherer.new.at.gatherer lane result }
 {
     let Some(mut there) = gatherer.take(alloc) else {
         return NO_GATHERER;
     };
-    let answer = there.finish(lane);
+    let result = finish_whole(&mut there, lane);
     gatherer.put(there);
-    ended(answer)
+    result
 }
 
 /// Writes the next word or break, the end, or none if a lane that is not finished lacks bytes, or after the end. It is `DONE` or
@@ -141,7 +217,7 @@ pub fn next(alloc: Global, gatherer: &mut GathererHandle, given: &mut CGathered)
     let Some(mut there) = gatherer.take(alloc) else {
         return NO_GATHERER;
     };
-    let next = there.next();
+    let next = there.lanes.next();
     gatherer.put(there);
     *given = shown(next);
     DONE
@@ -169,7 +245,7 @@ pub fn report(alloc: Global, gatherer: &mut GathererHandle, lane: u32, report: &
     let Some(there) = gatherer.take(alloc) else {
         return NO_GATHERER;
     };
-    let answer = there.report(lane);
+    let answer = there.lanes.report(lane);
     gatherer.put(there);
     reported(answer, report)
 }

@@ -1,9 +1,9 @@
 //! What C holds: a gatherer of lanes, or none.
 ghost use Rattle.std.specs.Prelude.{◌≡◌, is_some, Some, None, IfSome, IfNone};
 
+use crate::bit_gatherer::BitGatherer;
 use crate::block::GathererBlock;
 use c_parts::Parts;
-use live_gatherer::LiveGatherer;
 use std::alloc::Global;
 use std::mem;
 
@@ -28,7 +28,7 @@ impl GathererHandle {
     }
 
     /// Gives the gatherer away, if there is one. There is none afterwards.
-    pub fn take(&mut self, alloc: Global) -> Option<Box<LiveGatherer, Global>>
+    pub fn take(&mut self, alloc: Global) -> Option<Box<BitGatherer, Global>>
         ensures gone { self.new.at.gatherer ≡ None }
         ensures some { IfSome result (λ b. self.old.at.gatherer ≡ Some b.value) }
         ensures none { IfNone result (self.old.at.gatherer ≡ None) }
@@ -41,7 +41,7 @@ impl GathererHandle {
     }
 
     /// Holds this gatherer from now on.
-    pub fn put(&mut self, gatherer: Box<LiveGatherer, Global>)
+    pub fn put(&mut self, gatherer: Box<BitGatherer, Global>)
         ensures { self.new.at.gatherer ≡ Some gatherer.value }
     {
         *self = GathererHandle {

@@ -1,12 +1,13 @@
 //! A gatherer of the lanes of a link behind a handle for C, and the calls on it.
 #![tactic(auto)]
 
+mod bit_gatherer;
 mod block;
 mod calls;
 mod codes;
 mod gathered;
 mod handle;
 
-pub use calls::{feed, finish, free, new, next, report};
+pub use calls::{feed, feed_bits, finish, free, new, next, report};
 pub use gathered::CGathered;
 pub use handle::GathererHandle;

@@ -14,8 +14,8 @@ use Rattle.std_alloc.proofs.BoxSteps.Form.{Bx, B}
 use Rattle.std_heap.specs.contracts.Global as Heap
 use Rattle.std_heap.specs.contracts.GlobalAllocator.TheImpl.{ghosts, dict}
 use Rattle.std_heap.proofs.Global.TheLaws as heap
-use Rattle.live_inspector.specs.contracts.inspector.LiveInspector as Inspector
-use Rattle.live_inspector.proofs.inspector.LiveInspector.TheLaws as inspector
+use Rattle.c_inspector.specs.contracts.bit_inspector.BitInspector as Inspector
+use Rattle.c_inspector.proofs.bit_inspector.BitInspector.TheLaws as inspector
 use Rattle.c_parts.specs.contracts.parts.Parts as Parts
 use Rattle.c_inspector.specs.contracts.block.InspectorBlock as Block
 

@@ -10,7 +10,10 @@ use Rattle.live_inspector.specs.Calls.{AreFresh, FeedsLane, FinishesLane, IsNext
 use Rattle.live_inspector.specs.Lanes.{Lane}
 use Rattle.live_inspector.specs.declared.misuse.Misuse.{Misuse}
 use Rattle.live_inspector.specs.declared.types.LiveEvent.{LiveEvent}
-use Rattle.c_parts.specs.Codes.{done, in_use, no_inspector, plan_code}
+use Rattle.lk_base.specs.Checksum.{bits_of}
+use Rattle.c_bits.specs.Bits.{AreFed, OfBits, OfWhole, no_parts}
+use Rattle.c_inspector.specs.declared.bit_inspector.BitInspector.{BitInspector}
+use Rattle.c_parts.specs.Codes.{done, in_use, no_inspector, out_of_range, part_byte, plan_code}
 use Rattle.c_parts.specs.OnHeld.{OnHeld}
 use Rattle.c_parts.specs.Refusals.{IsRefused, of_row, refusal_of}
 use Rattle.c_parts.specs.Reports.{as_report, no_report}
@@ -39,33 +42,54 @@ GivesReport (Err why) code report = (code ≡ misuse_code why) × (report ≡ no
 abbrev pub IsOfPlan : List ℕ → List Lane → Type 0
 IsOfPlan bytes lanes = (plan : Plan) × GivesPlan (Ok plan) (plan_of (rows_of bytes)) × AreFresh plan.link lanes
 
+-- an inspector of the plan of these bytes, with no part of a byte
+abbrev pub IsMade : List ℕ → BitInspector → Type 0
+IsMade plan s = IsOfPlan plan s.lanes × (s.parts ≡ no_parts)
+
 -- an inspector of the plan is made, or the plan is refused so, or memory ran out
-abbrev pub Opens : List ℕ → Option (List Lane) → ℕ → Refusal → Type 0
-Opens plan (Some lanes) code refusal = IsOfPlan plan lanes × (code ≡ done) × (refusal ≡ of_row 0 0)
+abbrev pub Opens : List ℕ → Option BitInspector → ℕ → Refusal → Type 0
+Opens plan (Some s) code refusal = IsMade plan s × (code ≡ done) × (refusal ≡ of_row 0 0)
 Opens plan None code refusal = (why : PlanError) × IsRefused plan why × (code ≡ plan_code why) × (refusal ≡ refusal_of why)
 
 -- a handle that has an inspector keeps it
-abbrev pub Makes : Option (List Lane) → Option (List Lane) → List ℕ → ℕ → Refusal → Type 0
+abbrev pub Makes : Option BitInspector → Option BitInspector → List ℕ → ℕ → Refusal → Type 0
 Makes None new plan code refusal = Opens plan new code refusal
-Makes (Some lanes) new plan code refusal = (new ≡ Some lanes) × (code ≡ in_use) × (refusal ≡ of_row 0 0)
+Makes (Some s) new plan code refusal = (new ≡ Some s) × (code ≡ in_use) × (refusal ≡ of_row 0 0)
 
 -- afterwards there is no inspector
-abbrev pub Frees : Option (List Lane) → Option (List Lane) → ℕ → Type 0
+abbrev pub Frees : Option BitInspector → Option BitInspector → ℕ → Type 0
 Frees None new code = (new ≡ None) × (code ≡ no_inspector)
-Frees (Some lanes) new code = (new ≡ None) × (code ≡ done)
+Frees (Some s) new code = (new ≡ None) × (code ≡ done)
 
-abbrev pub Feeds : Option (List Lane) → Option (List Lane) → ℕ → List ℕ → ℕ → ℕ → Type 0
-Feeds old new lane bytes code taken =
-    OnHeld ((code ≡ no_inspector) × (taken ≡ 0)) (λ (before after : List Lane). (result : Result ℕ Misuse) × FeedsLane before after lane bytes result × GivesCount result code taken) old new
+-- a lane with a part of a byte takes no whole byte, and nothing changes
+abbrev pub FeedsWhole : BitInspector → BitInspector → ℕ → List ℕ → ℕ → ℕ → Type 0
+FeedsWhole s t lane bytes code taken = OfWhole lane s.parts ((code ≡ part_byte) × (taken ≡ 0) × (t ≡ s))
+    ((result : Result ℕ Misuse) × FeedsLane s.lanes t.lanes lane bytes result × GivesCount result code taken × (t.parts ≡ s.parts))
 
-abbrev pub Finishes : Option (List Lane) → Option (List Lane) → ℕ → ℕ → Type 0
-Finishes old new lane code =
-    OnHeld (code ≡ no_inspector) (λ (before after : List Lane). (result : Result (Unit {0}) Misuse) × FinishesLane before after lane result × GivesCode result code) old new
+abbrev pub Feeds : Option BitInspector → Option BitInspector → ℕ → List ℕ → ℕ → ℕ → Type 0
+Feeds old new lane bytes code taken = OnHeld ((code ≡ no_inspector) × (taken ≡ 0)) (λ (s t : BitInspector). FeedsWhole s t lane bytes code taken) old new
 
-abbrev pub GivesEvent : Option (List Lane) → Option (List Lane) → ℕ → CLaneEvent → Type 0
+-- a lane is fed with bits: with the bytes that they complete; more than 64 are refused, and nothing changes
+abbrev pub FeedsCompleted : BitInspector → BitInspector → ℕ → ℕ → ℕ → ℕ → ℕ → Type 0
+FeedsCompleted s t lane bits count code taken = OfBits count ((code ≡ out_of_range) × (taken ≡ 0) × (t ≡ s))
+    ((result : Result ℕ Misuse) × AreFed (λ bytes answer. FeedsLane s.lanes t.lanes lane bytes answer) s.parts t.parts lane (bits_of count bits) result × GivesCount result code taken)
+
+abbrev pub FeedsBits : Option BitInspector → Option BitInspector → ℕ → ℕ → ℕ → ℕ → ℕ → Type 0
+FeedsBits old new lane bits count code taken =
+    OnHeld ((code ≡ no_inspector) × (taken ≡ 0)) (λ (s t : BitInspector). FeedsCompleted s t lane bits count code taken) old new
+
+-- a lane with a part of a byte is not finished, and nothing changes
+abbrev pub FinishesWhole : BitInspector → BitInspector → ℕ → ℕ → Type 0
+FinishesWhole s t lane code = OfWhole lane s.parts ((code ≡ part_byte) × (t ≡ s))
+    ((result : Result (Unit {0}) Misuse) × FinishesLane s.lanes t.lanes lane result × GivesCode result code × (t.parts ≡ s.parts))
+
+abbrev pub Finishes : Option BitInspector → Option BitInspector → ℕ → ℕ → Type 0
+Finishes old new lane code = OnHeld (code ≡ no_inspector) (λ (s t : BitInspector). FinishesWhole s t lane code) old new
+
+abbrev pub GivesEvent : Option BitInspector → Option BitInspector → ℕ → CLaneEvent → Type 0
 GivesEvent old new code event =
-    OnHeld ((code ≡ no_inspector) × (event ≡ shown None)) (λ (before after : List Lane). (result : Option LiveEvent) × IsNext before after result × (code ≡ done) × (event ≡ shown result)) old new
+    OnHeld ((code ≡ no_inspector) × (event ≡ shown None)) (λ (s t : BitInspector). (result : Option LiveEvent) × IsNext s.lanes t.lanes result × (code ≡ done) × (event ≡ shown result) × (t.parts ≡ s.parts)) old new
 
-abbrev pub Reports : Option (List Lane) → Option (List Lane) → ℕ → ℕ → Report → Type 0
+abbrev pub Reports : Option BitInspector → Option BitInspector → ℕ → ℕ → Report → Type 0
 Reports old new lane code report =
-    OnHeld ((code ≡ no_inspector) × (report ≡ no_report)) (λ (before after : List Lane). (result : Result LaneReport Misuse) × IsReportOf before lane result × GivesReport result code report × (after ≡ before)) old new
+    OnHeld ((code ≡ no_inspector) × (report ≡ no_report)) (λ (s t : BitInspector). (result : Result LaneReport Misuse) × IsReportOf s.lanes lane result × GivesReport result code report × (t ≡ s)) old new

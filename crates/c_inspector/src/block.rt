@@ -1,10 +1,10 @@
 //! The pointer that C holds to an inspector, or to none.
-ghost use Rattle.std.specs.Prelude.{◌≡◌, true, is_some, List, Option, Some, None};
-ghost use Rattle.live_inspector.specs.Lanes.{Lane};
+ghost use Rattle.std.specs.Prelude.{◌≡◌, true, is_some, Option, Some, None};
+ghost use Rattle.c_inspector.specs.declared.bit_inspector.BitInspector.{BitInspector};
 ghost use Rattle.c_inspector.specs.Owned.{block_owns, inspector_coded};
 
+use crate::bit_inspector::BitInspector;
 use c_parts::Parts;
-use live_inspector::LiveInspector;
 use std::alloc::Global;
 use std::marker::Model;
 use std::ptr;
@@ -16,7 +16,7 @@ use std::ptr;
 pub struct InspectorBlock {
     ptr: *mut u8,
     alloc: Global,
-    pub ghost inspector: { Option (List Lane) } by { inspector_coded },
+    pub ghost inspector: { Option BitInspector } by { inspector_coded },
 }
 
 impl Model for InspectorBlock {
@@ -33,7 +33,7 @@ impl InspectorBlock {
     }
 
     /// The block of the inspector of these parts.
-    pub fn of(parts: Parts<LiveInspector, Global>) -> InspectorBlock
+    pub fn of(parts: Parts<BitInspector, Global>) -> InspectorBlock
         ensures { result.inspector ≡ Some parts.value }
     {
         let Parts { ptr, alloc } = parts;
@@ -42,12 +42,12 @@ impl InspectorBlock {
     }
 
     /// The parts of the inspector's box.
-    pub fn into_parts(self) -> Parts<LiveInspector, Global>
+    pub fn into_parts(self) -> Parts<BitInspector, Global>
         requires { is_some self.inspector ≡ true }
         ensures { self.inspector ≡ Some result.value }
     {
         let InspectorBlock { ptr, alloc } = self;
-        let ptr = ptr as *mut LiveInspector;
+        let ptr = ptr as *mut BitInspector;
         Parts { ptr, alloc }
     }
 }

@@ -1,9 +1,9 @@
 //! What C holds: an inspector of lanes, or none.
 ghost use Rattle.std.specs.Prelude.{◌≡◌, is_some, Some, None, IfSome, IfNone};
 
+use crate::bit_inspector::BitInspector;
 use crate::block::InspectorBlock;
 use c_parts::Parts;
-use live_inspector::LiveInspector;
 use std::alloc::Global;
 use std::mem;
 
@@ -28,7 +28,7 @@ impl InspectorHandle {
     }
 
     /// Gives the inspector away, if there is one. There is none afterwards.
-    pub fn take(&mut self, alloc: Global) -> Option<Box<LiveInspector, Global>>
+    pub fn take(&mut self, alloc: Global) -> Option<Box<BitInspector, Global>>
         ensures gone { self.new.at.inspector ≡ None }
         ensures some { IfSome result (λ b. self.old.at.inspector ≡ Some b.value) }
         ensures none { IfNone result (self.old.at.inspector ≡ None) }
@@ -41,7 +41,7 @@ impl InspectorHandle {
     }
 
     /// Holds this inspector from now on.
-    pub fn put(&mut self, inspector: Box<LiveInspector, Global>)
+    pub fn put(&mut self, inspector: Box<BitInspector, Global>)
         ensures { self.new.at.inspector ≡ Some inspector.value }
     {
         *self = InspectorHandle {

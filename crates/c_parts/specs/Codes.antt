@@ -32,6 +32,7 @@ number_of results.NoInspector = 15
 number_of results.NoChecker = 16
 number_of results.Waiting = 17
 number_of results.NoGatherer = 18
+number_of results.PartByte = 19
 
 -- the number of a cause of a refusal, as in the header
 abbrev pub cause_number : Cause → ℕ
@@ -91,6 +92,9 @@ waiting = number_of results.Waiting
 
 abbrev pub no_gatherer : ℕ
 no_gatherer = number_of results.NoGatherer
+
+abbrev pub part_byte : ℕ
+part_byte = number_of results.PartByte
 
 -- ---- the states of a lane
 

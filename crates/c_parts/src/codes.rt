@@ -33,7 +33,7 @@ pub enum Code {
     InUse,
     /// There is no damage behind the handle.
     NoDamage,
-    /// There are no such numbers of lanes or of bits.
+    /// There are no such numbers of lanes or of bits; or a call has more than 64 bits.
     OutOfRange,
     /// All bits that a row names have passed.
     Passed,
@@ -51,6 +51,8 @@ pub enum Code {
     Waiting,
     /// There is no gatherer behind the handle.
     NoGatherer,
+    /// A part of a byte of the lane is left: a call on whole bytes must wait for the rest of its bits.
+    PartByte,
 }
 
 impl Code {
@@ -118,6 +120,9 @@ pub const WAITING: u32 = Code::Waiting as u32;
 
 /// `Code::NoGatherer`.
 pub const NO_GATHERER: u32 = Code::NoGatherer as u32;
+
+/// `Code::PartByte`.
+pub const PART_BYTE: u32 = Code::PartByte as u32;
 
 // ---- causes of refusals
 

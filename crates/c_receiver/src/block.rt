@@ -1,9 +1,9 @@
 //! The pointer that C holds to a session, or to none.
 ghost use Rattle.std.specs.Prelude.{◌≡◌, true, is_some, Option, Some, None};
 ghost use Rattle.c_receiver.specs.Owned.{block_owns, session_coded};
-ghost use Rattle.c_receiver.specs.declared.session.Session.{Session};
+ghost use Rattle.c_receiver.specs.declared.bit_receiver.BitReceiver.{BitReceiver};
 
-use crate::session::Session;
+use crate::bit_receiver::BitReceiver;
 use c_parts::Parts;
 use std::alloc::Global;
 use std::marker::Model;
@@ -16,7 +16,7 @@ use std::ptr;
 pub struct ReceiverBlock {
     ptr: *mut u8,
     alloc: Global,
-    pub ghost session: { Option Session } by { session_coded },
+    pub ghost session: { Option BitReceiver } by { session_coded },
 }
 
 impl Model for ReceiverBlock {
@@ -33,7 +33,7 @@ impl ReceiverBlock {
     }
 
     /// The handle of the session of these parts.
-    pub fn of(parts: Parts<Session, Global>) -> ReceiverBlock
+    pub fn of(parts: Parts<BitReceiver, Global>) -> ReceiverBlock
         ensures { result.session ≡ Some parts.value }
     {
         let Parts { ptr, alloc } = parts;
@@ -42,12 +42,12 @@ impl ReceiverBlock {
     }
 
     /// The parts of the session's box.
-    pub fn into_parts(self) -> Parts<Session, Global>
+    pub fn into_parts(self) -> Parts<BitReceiver, Global>
         requires { is_some self.session ≡ true }
         ensures { self.session ≡ Some result.value }
     {
         let ReceiverBlock { ptr, alloc } = self;
-        let ptr = ptr as *mut Session;
+        let ptr = ptr as *mut BitReceiver;
         Parts { ptr, alloc }
     }
 }

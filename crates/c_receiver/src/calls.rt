@@ -1,15 +1,19 @@
 //! The calls on a receiver.
 ghost use Rattle.std.specs.Prelude.{◌≡◌, IfOk, IfErr};
-ghost use Rattle.c_receiver.specs.Held.{Feeds, Finishes, Frees, GivesCode, GivesCount, GivesEvent, GivesOn, GivesReport, GivesState, Makes, Reads, Reports, TellsChannel, TellsState};
+ghost use Rattle.c_receiver.specs.Held.{Feeds, FeedsBits, FeedsCompleted, FeedsWhole, Finishes, FinishesWhole, Frees, GivesCode, GivesCount, GivesEvent, GivesOn, GivesReport, GivesState, IsMade, Makes, Reads, Reports, TellsChannel, TellsState};
+ghost use Rattle.c_bits.specs.Bits.{no_parts};
 ghost use Rattle.c_parts.specs.Reports.{no_report};
 ghost use Rattle.c_parts.specs.Refusals.{IsRefused};
 ghost use Rattle.c_receiver.specs.Opens.{IsOfPlan};
 
+use crate::bit_receiver::BitReceiver;
 use crate::event::{CEvent, shown};
 use crate::handle::ReceiverHandle;
 use crate::session::Session;
+use c_bits::MOST_BITS;
 use c_parts::codes::{
-    DONE, IN_USE, LANE_SEARCHING, NO_CHANNEL, NO_RECEIVER, code_of, plan_code, state_code,
+    DONE, IN_USE, LANE_SEARCHING, NO_CHANNEL, NO_RECEIVER, OUT_OF_RANGE, PART_BYTE, code_of,
+    plan_code, state_code,
 };
 use c_parts::misuse::Misuse;
 use c_parts::refusal::{Refusal, no_refusal, refusal_of};
@@ -29,17 +33,18 @@ fn opened(alloc: Global, plan: &[u8]) -> Result<Session, PlanError>
     Ok(session)
 }
 
-// A receiver in a box.
-fn in_box(alloc: Global, session: Session) -> Result<Box<Session, Global>, OutOfMemory>
-    ensures { IfOk result (λ b. b.value ≡ session) }
+// A receiver in a box, with no part of a byte.
+fn in_box(alloc: Global, session: Session) -> Result<Box<BitReceiver, Global>, OutOfMemory>
+    ensures session { IfOk result (λ b. b.value.session ≡ session) }
+    ensures whole { IfOk result (λ b. b.value.parts ≡ no_parts) }
 {
-    let held = Box::new(alloc, session)?;
+    let held = Box::new(alloc, BitReceiver::of(session))?;
     Ok(held)
 }
 
 // A receiver of the plan of these bytes, in a box.
-fn boxed(alloc: Global, plan: &[u8]) -> Result<Box<Session, Global>, PlanError>
-    ensures made { IfOk result (λ b. IsOfPlan plan.now b.value) }
+fn boxed(alloc: Global, plan: &[u8]) -> Result<Box<BitReceiver, Global>, PlanError>
+    ensures made { IfOk result (λ b. IsMade plan.now b.value) }
     ensures refused { IfErr result (IsRefused plan.now) }
 {
     let session = opened(alloc, plan)?;
@@ -53,13 +58,13 @@ pub fn new(alloc: Global, receiver: &mut ReceiverHandle, plan: &[u8], refusal: &
     ensures { Makes receiver.old.at.session receiver.new.at.session plan.now result refusal.new }
 {
     *refusal = no_refusal();
-    if let Some(session) = receiver.take(alloc) {
-        receiver.put(session);
+    if let Some(there) = receiver.take(alloc) {
+        receiver.put(there);
         return IN_USE;
     }
     match boxed(alloc, plan) {
-        Ok(session) => {
-            receiver.put(session);
+        Ok(made) => {
+            receiver.put(made);
             DONE
         }
         Err(why) => {
@@ -93,8 +98,21 @@ fn counted(answer: Result<usize, Misuse>, count: &mut usize) -> u32
     }
 }
 
+// Feeds a lane with bytes, unless a part of a byte of it is left; none are taken so far.
+fn feed_whole(receiver: &mut BitReceiver, lane: u32, bytes: &[u8], taken: &mut usize) -> u32
+    requires { taken.old ≡ 0 }
+    ensures { FeedsWhole receiver.old receiver.new lane bytes.now result taken.new }
+{
+    let whole = receiver.parts.is_whole(lane);
+    if !whole {
+        return PART_BYTE;
+    }
+    let answer = receiver.session.feed(lane, bytes);
+    counted(answer, taken)
+}
+
 /// Feeds a lane with the longest prefix of these bytes that its ring has room for, and writes how many that is. It is `DONE`,
-/// `NO_LANE`, `FINISHED`, `TOO_MANY` or `NO_RECEIVER`.
+/// `NO_LANE`, `FINISHED`, `TOO_MANY`, `PART_BYTE` if a part of a byte of the lane is left, or `NO_RECEIVER`.
 pub fn feed(
     alloc: Global,
     receiver: &mut ReceiverHandle,
@@ -105,12 +123,58 @@ pub fn feed(
     ensures { Feeds receiver.old.at.session receiver.new.at.session lane bytes.now result taken.new }
 {
     *taken = 0;
-    let Some(mut session) = receiver.take(alloc) else {
+    let Some(mut there) = receiver.take(alloc) else {
         return NO_RECEIVER;
     };
-    let answer = session.feed(lane, bytes);
-    receiver.put(session);
-    counted(answer, taken)
+    let result = feed_whole(&mut there, lane, bytes, taken);
+    receiver.put(there);
+    result
+}
+
+// Feeds a lane with the bytes that bits complete; none are taken so far.
+fn feed_completed(
+    receiver: &mut BitReceiver,
+    lane: u32,
+    bits: u64,
+    count: u32,
+    taken: &mut u32,
+) -> u32
+    requires { taken.old ≡ 0 }
+    ensures { FeedsCompleted receiver.old receiver.new lane bits count result taken.new }
+{
+    if count > MOST_BITS {
+        return OUT_OF_RANGE;
+    }
+    let cut = receiver.parts.cut(lane, bits, count);
+    match receiver.session.feed(lane, cut.bytes()) {
+        Ok(bytes) => {
+            *taken = receiver.parts.settle(lane, &cut, count, bytes);
+            DONE
+        }
+        Err(why) => code_of(why),
+    }
+}
+
+/// Feeds a lane with the lowest `count` bits of a number, at most 64, the highest of them first, and writes how many are taken: all, or
+/// those that complete the bytes that its ring has room for. It is `DONE`, `NO_LANE`, `FINISHED`, `TOO_MANY`, `OUT_OF_RANGE` or
+/// `NO_RECEIVER`.
+pub fn feed_bits(
+    alloc: Global,
+    receiver: &mut ReceiverHandle,
+    lane: u32,
+    bits: u64,
+    count: u32,
+    taken: &mut u32,
+) -> u32
+    ensures { FeedsBits receiver.old.at.session receiver.new.at.session lane bits count result taken.new }
+{
+    *taken = 0;
+    let Some(mut there) = receiver.take(alloc) else {
+        return NO_RECEIVER;
+    };
+    let result = feed_completed(&mut there, lane, bits, count, taken);
+    receiver.put(there);
+    result
 }
 
 // The result of a call that gives nothing.
@@ -123,16 +187,29 @@ fn ended(answer: Result<(), Misuse>) -> u32
     }
 }
 
-/// No further byte of this lane comes. It is `DONE`, `NO_LANE`, `FINISHED` or `NO_RECEIVER`.
+// Ends a lane, unless a part of a byte of it is left.
+fn finish_whole(receiver: &mut BitReceiver, lane: u32) -> u32
+    ensures { FinishesWhole receiver.old receiver.new lane result }
+{
+    let whole = receiver.parts.is_whole(lane);
+    if !whole {
+        return PART_BYTE;
+    }
+    let answer = receiver.session.finish(lane);
+    ended(answer)
+}
+
+/// No further byte of this lane comes. It is `DONE`, `NO_LANE`, `FINISHED`, `PART_BYTE` if a part of a byte of the lane is left, or
+/// `NO_RECEIVER`.
 pub fn finish(alloc: Global, receiver: &mut ReceiverHandle, lane: u32) -> u32
     ensures { Finishes receiver.old.at.session receiver.new.at.session lane result }
 {
-    let Some(mut session) = receiver.take(alloc) else {
+    let Some(mut there) = receiver.take(alloc) else {
         return NO_RECEIVER;
     };
-    let answer = session.finish(lane);
-    receiver.put(session);
-    ended(answer)
+    let result = finish_whole(&mut there, lane);
+    receiver.put(there);
+    result
 }
 
 /// Writes the next event, or none where a lane that is not finished lacks bytes, or after the end. It is `DONE` or `NO_RECEIVER`.
@@ -140,11 +217,11 @@ pub fn next(alloc: Global, receiver: &mut ReceiverHandle, event: &mut CEvent) ->
     ensures { GivesEvent receiver.old.at.session receiver.new.at.session result event.new }
 {
     *event = shown(None);
-    let Some(mut session) = receiver.take(alloc) else {
+    let Some(mut there) = receiver.take(alloc) else {
         return NO_RECEIVER;
     };
-    let next = session.next();
-    receiver.put(session);
+    let next = there.session.next();
+    receiver.put(there);
     *event = shown(next);
     DONE
 }
@@ -161,11 +238,11 @@ pub fn read(
     ensures { Reads receiver.old.at.session receiver.new.at.session offset bytes.old bytes.new result count.new }
 {
     *count = 0;
-    let Some(session) = receiver.take(alloc) else {
+    let Some(there) = receiver.take(alloc) else {
         return NO_RECEIVER;
     };
-    let answer = session.read(offset, bytes);
-    receiver.put(session);
+    let answer = there.session.read(offset, bytes);
+    receiver.put(there);
     counted(answer, count)
 }
 
@@ -188,11 +265,11 @@ pub fn report(alloc: Global, receiver: &mut ReceiverHandle, lane: u32, report: &
     ensures { Reports receiver.old.at.session receiver.new.at.session lane result report.new }
 {
     *report = no_report();
-    let Some(session) = receiver.take(alloc) else {
+    let Some(there) = receiver.take(alloc) else {
         return NO_RECEIVER;
     };
-    let answer = session.report(lane);
-    receiver.put(session);
+    let answer = there.session.report(lane);
+    receiver.put(there);
     reported(answer, report)
 }
 
@@ -216,11 +293,11 @@ pub fn lane_state(alloc: Global, receiver: &mut ReceiverHandle, lane: u32, state
     ensures { TellsState receiver.old.at.session receiver.new.at.session lane result state.new }
 {
     *state = LANE_SEARCHING;
-    let Some(session) = receiver.take(alloc) else {
+    let Some(there) = receiver.take(alloc) else {
         return NO_RECEIVER;
     };
-    let answer = session.lane_state(lane);
-    receiver.put(session);
+    let answer = there.session.lane_state(lane);
+    receiver.put(there);
     told(answer, state)
 }
 
@@ -244,10 +321,10 @@ pub fn is_on(alloc: Global, receiver: &mut ReceiverHandle, channel: u16, on: &mu
     ensures { TellsChannel receiver.old.at.session receiver.new.at.session channel result on.new }
 {
     *on = 0;
-    let Some(session) = receiver.take(alloc) else {
+    let Some(there) = receiver.take(alloc) else {
         return NO_RECEIVER;
     };
-    let answer = session.is_on(channel);
-    receiver.put(session);
+    let answer = there.session.is_on(channel);
+    receiver.put(there);
     shown_on(answer, on)
 }

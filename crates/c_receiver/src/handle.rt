@@ -1,8 +1,8 @@
 //! What C holds: a receiver, or none.
 ghost use Rattle.std.specs.Prelude.{◌≡◌, is_some, Some, None, IfSome, IfNone};
 
+use crate::bit_receiver::BitReceiver;
 use crate::block::ReceiverBlock;
-use crate::session::Session;
 use c_parts::Parts;
 use std::alloc::Global;
 use std::mem;
@@ -28,7 +28,7 @@ impl ReceiverHandle {
     }
 
     /// Gives the session away, if there is one. There is none afterwards.
-    pub fn take(&mut self, alloc: Global) -> Option<Box<Session, Global>>
+    pub fn take(&mut self, alloc: Global) -> Option<Box<BitReceiver, Global>>
         ensures gone { self.new.at.session ≡ None }
         ensures some { IfSome result (λ b. self.old.at.session ≡ Some b.value) }
         ensures none { IfNone result (self.old.at.session ≡ None) }
@@ -41,7 +41,7 @@ impl ReceiverHandle {
     }
 
     /// Holds a session from now on.
-    pub fn put(&mut self, session: Box<Session, Global>)
+    pub fn put(&mut self, session: Box<BitReceiver, Global>)
         ensures { self.new.at.session ≡ Some session.value }
     {
         *self = ReceiverHandle {

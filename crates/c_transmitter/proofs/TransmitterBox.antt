@@ -14,8 +14,8 @@ use Rattle.std_alloc.proofs.BoxSteps.Form.{Bx, B}
 use Rattle.std_heap.specs.contracts.Global as Heap
 use Rattle.std_heap.specs.contracts.GlobalAllocator.TheImpl.{ghosts, dict}
 use Rattle.std_heap.proofs.Global.TheLaws as heap
-use Rattle.live_end.specs.contracts.transmitter.LiveTransmitter as Live
-use Rattle.live_end.proofs.transmitter.LiveTransmitter.TheLaws as live
+use Rattle.c_transmitter.specs.contracts.bit_transmitter.BitTransmitter as Live
+use Rattle.c_transmitter.proofs.bit_transmitter.BitTransmitter.TheLaws as live
 use Rattle.c_parts.specs.contracts.parts.Parts as Parts
 use Rattle.c_transmitter.specs.contracts.block.TransmitterBlock as Block
 

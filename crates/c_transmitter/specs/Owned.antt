@@ -7,7 +7,7 @@ use Rattle.std.specs.Box.Ownership.{box_owns}
 use Rattle.std.specs.Coded.{coded_option}
 use Rattle.std.specs.Global.{Global}
 use Rattle.std_heap.specs.contracts.GlobalAllocator.TheImpl.{ghosts}
-use Rattle.live_end.specs.contracts.transmitter.LiveTransmitter.{the_row}
+use Rattle.c_transmitter.specs.contracts.bit_transmitter.BitTransmitter.{the_row}
 
 abbrev pub block_owns : Global → Ptr → Option the_row.Denot → Fml
 block_owns alloc ptr None = ftrue

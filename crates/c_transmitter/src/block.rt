@@ -1,10 +1,10 @@
 //! The pointer that C holds to a transmitter, or to none.
 ghost use Rattle.std.specs.Prelude.{◌≡◌, true, is_some, Option, Some, None};
-ghost use Rattle.live_end.specs.States.{State};
+ghost use Rattle.c_transmitter.specs.declared.bit_transmitter.BitTransmitter.{BitTransmitter};
 ghost use Rattle.c_transmitter.specs.Owned.{block_owns, transmitter_coded};
 
+use crate::bit_transmitter::BitTransmitter;
 use c_parts::Parts;
-use live_end::LiveTransmitter;
 use std::alloc::Global;
 use std::marker::Model;
 use std::ptr;
@@ -16,7 +16,7 @@ use std::ptr;
 pub struct TransmitterBlock {
     ptr: *mut u8,
     alloc: Global,
-    pub ghost transmitter: { Option State } by { transmitter_coded },
+    pub ghost transmitter: { Option BitTransmitter } by { transmitter_coded },
 }
 
 impl Model for TransmitterBlock {
@@ -33,7 +33,7 @@ impl TransmitterBlock {
     }
 
     /// The block of the transmitter of these parts.
-    pub fn of(parts: Parts<LiveTransmitter, Global>) -> TransmitterBlock
+    pub fn of(parts: Parts<BitTransmitter, Global>) -> TransmitterBlock
         ensures { result.transmitter ≡ Some parts.value }
     {
         let Parts { ptr, alloc } = parts;
@@ -42,12 +42,12 @@ impl TransmitterBlock {
     }
 
     /// The parts of the transmitter's box.
-    pub fn into_parts(self) -> Parts<LiveTransmitter, Global>
+    pub fn into_parts(self) -> Parts<BitTransmitter, Global>
         requires { is_some self.transmitter ≡ true }
         ensures { self.transmitter ≡ Some result.value }
     {
         let TransmitterBlock { ptr, alloc } = self;
-        let ptr = ptr as *mut LiveTransmitter;
+        let ptr = ptr as *mut BitTransmitter;
         Parts { ptr, alloc }
     }
 }

@@ -1,13 +1,18 @@
 //! The calls on a transmitter.
-ghost use Rattle.std.specs.Prelude.{◌≡◌, IfOk, IfErr};
+ghost use Rattle.std.specs.Prelude.{◌≡◌, ◌≤◌, ◌<◌, IfOk, IfErr, length};
+ghost use Rattle.c_bits.specs.Bits.{no_parts};
 ghost use Rattle.c_parts.specs.Refusals.{IsRefused};
-ghost use Rattle.c_transmitter.specs.Held.{ClosesPackets, ClosesTransmitter, FreesTransmitter, GivesCounts, GivesFlow, GivesLocal, GivesLocalResult, GivesPacket, GivesPacketResult, GivesRowResult, GivesStatus, IsSenderOf, IsSenderOfPlan, MakesTransmitter, TakesBytes, TakesOf, TellsSent, TellsSlots, TellsStatus, no_counts, no_status};
+ghost use Rattle.c_transmitter.specs.Held.{AreGiven, ClosesPackets, ClosesTransmitter, FreesTransmitter, GivesCounts, GivesFlow, GivesLocal, GivesLocalResult, GivesPacket, GivesPacketResult, GivesRowResult, GivesStatus, IsSenderOf, IsMade, IsSenderOfPlan, MakesTransmitter, TakesBits, TakesBytes, TakesCompleted, TakesOf, TakesWhole, TellsSent, TellsSlots, TellsStatus, no_counts, no_status};
 
+use crate::bit_transmitter::BitTransmitter;
 use crate::codes::{local_code, packet_code};
 use crate::counts::{CCounts, as_counts, no_counts};
 use crate::handle::TransmitterHandle;
 use crate::status::{CStatus, as_status, no_status};
-use c_parts::codes::{DONE, FINISHED, IN_USE, NO_CHANNEL, NO_LANE, NO_TRANSMITTER, plan_code};
+use c_bits::{Given, MOST_BITS};
+use c_parts::codes::{
+    DONE, FINISHED, IN_USE, NO_CHANNEL, NO_LANE, NO_TRANSMITTER, OUT_OF_RANGE, PART_BYTE, plan_code,
+};
 use c_parts::refusal::{Refusal, no_refusal, refusal_of};
 use duplex::heard;
 use link_plan::{Plan, PlanError, channels_in_order, read_plan};
@@ -40,20 +45,18 @@ fn opened(alloc: Global, plan: &[u8]) -> Result<LiveTransmitter, PlanError>
     Ok(transmitter)
 }
 
-// A transmitter in a box.
-fn in_box(
-    alloc: Global,
-    transmitter: LiveTransmitter,
-) -> Result<Box<LiveTransmitter, Global>, OutOfMemory>
-    ensures { IfOk result (λ b. b.value ≡ transmitter) }
+// A transmitter in a box, with no part of a byte.
+fn in_box(alloc: Global, end: LiveTransmitter) -> Result<Box<BitTransmitter, Global>, OutOfMemory>
+    ensures end { IfOk result (λ b. b.value.end ≡ end) }
+    ensures whole { IfOk result (λ b. b.value.parts ≡ no_parts) }
 {
-    let held = Box::new(alloc, transmitter)?;
+    let held = Box::new(alloc, BitTransmitter::of(end))?;
     Ok(held)
 }
 
 // A transmitter of the plan of these bytes, in a box.
-fn boxed(alloc: Global, plan: &[u8]) -> Result<Box<LiveTransmitter, Global>, PlanError>
-    ensures made { IfOk result (λ b. IsSenderOfPlan plan.now b.value) }
+fn boxed(alloc: Global, plan: &[u8]) -> Result<Box<BitTransmitter, Global>, PlanError>
+    ensures made { IfOk result (λ b. IsMade plan.now b.value) }
     ensures refused { IfErr result (IsRefused plan.now) }
 {
     let transmitter = opened(alloc, plan)?;
@@ -116,7 +119,7 @@ pub fn packet(alloc: Global, transmitter: &mut TransmitterHandle, channel: u16, 
     let Some(mut there) = transmitter.take(alloc) else {
         return NO_TRANSMITTER;
     };
-    let answer = there.packet(channel, bytes);
+    let answer = there.end.packet(channel, bytes);
     transmitter.put(there);
     packet_ended(answer)
 }
@@ -139,7 +142,7 @@ pub fn flow(alloc: Global, transmitter: &mut TransmitterHandle, word: u64) -> u3
     let Some(mut there) = transmitter.take(alloc) else {
         return NO_TRANSMITTER;
     };
-    let answer = there.flow(heard(word));
+    let answer = there.end.flow(heard(word));
     transmitter.put(there);
     row_ended(answer)
 }
@@ -162,7 +165,7 @@ pub fn local(alloc: Global, transmitter: &mut TransmitterHandle, channel: u16, o
     let Some(mut there) = transmitter.take(alloc) else {
         return NO_TRANSMITTER;
     };
-    let answer = there.local(channel, on != 0);
+    let answer = there.end.local(channel, on != 0);
     transmitter.put(there);
     local_ended(answer)
 }
@@ -179,8 +182,25 @@ fn take_of(transmitter: &mut LiveTransmitter, lane: u32, bytes: &mut [u8], taken
     DONE
 }
 
+// Takes the next bytes of a lane, unless a part of a byte of it is left; none are taken so far.
+fn take_whole(
+    transmitter: &mut BitTransmitter,
+    lane: u32,
+    bytes: &mut [u8],
+    taken: &mut usize,
+) -> u32
+    requires { taken.old ≡ 0 }
+    ensures { TakesWhole transmitter.old transmitter.new lane bytes.old bytes.new result taken.new }
+{
+    let whole = transmitter.parts.is_whole(lane);
+    if !whole {
+        return PART_BYTE;
+    }
+    take_of(&mut transmitter.end, lane, bytes, taken)
+}
+
 /// Takes the next bytes of a lane, as many as there is room for if no other lane holds them back, and writes how many that is. It is
-/// `DONE`, `NO_LANE` or `NO_TRANSMITTER`.
+/// `DONE`, `NO_LANE`, `PART_BYTE` if a part of a byte of the lane is left, or `NO_TRANSMITTER`.
 pub fn take(
     alloc: Global,
     transmitter: &mut TransmitterHandle,
@@ -194,7 +214,66 @@ pub fn take(
     let Some(mut there) = transmitter.take(alloc) else {
         return NO_TRANSMITTER;
     };
-    let result = take_of(&mut there, lane, bytes, taken);
+    let result = take_whole(&mut there, lane, bytes, taken);
+    transmitter.put(there);
+    result
+}
+
+// Takes the next bits of a lane that is there, 64 at most.
+fn take_there(transmitter: &mut BitTransmitter, lane: u32, count: u32) -> Given
+    requires count { count ≤ 64 }
+    requires there { lane < length transmitter.old.end.lanes.lanes }
+    ensures { AreGiven transmitter.old transmitter.new lane count result.bits result.count }
+{
+    let room = transmitter.parts.bytes_for(lane, count);
+    let mut eight = [0u8; 8];
+    let bytes = &mut eight[..room];
+    let came = transmitter.end.take(lane, bytes);
+    transmitter.parts.give(lane, &bytes[..came], count)
+}
+
+// Takes the next bits of a lane, if it is there; none are taken so far.
+fn take_completed(
+    transmitter: &mut BitTransmitter,
+    lane: u32,
+    count: u32,
+    bits: &mut u64,
+    taken: &mut u32,
+) -> u32
+    requires bits { bits.old ≡ 0 }
+    requires taken { taken.old ≡ 0 }
+    ensures { TakesCompleted transmitter.old transmitter.new lane count result bits.new taken.new }
+{
+    if count > MOST_BITS {
+        return OUT_OF_RANGE;
+    }
+    if lane as usize >= transmitter.end.lane_count() {
+        return NO_LANE;
+    }
+    let given = take_there(transmitter, lane, count);
+    *bits = given.bits;
+    *taken = given.count;
+    DONE
+}
+
+/// Takes the next `count` bits of a lane, 64 at most, or fewer if a ring has no room or the lanes have ended. Writes them as a number,
+/// the first bit highest, and how many they are. It is `DONE`, `NO_LANE`, `OUT_OF_RANGE` or `NO_TRANSMITTER`.
+pub fn take_bits(
+    alloc: Global,
+    transmitter: &mut TransmitterHandle,
+    lane: u32,
+    count: u32,
+    bits: &mut u64,
+    taken: &mut u32,
+) -> u32
+    ensures { TakesBits transmitter.old.at.transmitter transmitter.new.at.transmitter lane count result bits.new taken.new }
+{
+    *bits = 0;
+    *taken = 0;
+    let Some(mut there) = transmitter.take(alloc) else {
+        return NO_TRANSMITTER;
+    };
+    let result = take_completed(&mut there, lane, count, bits, taken);
     transmitter.put(there);
     result
 }
@@ -206,7 +285,7 @@ pub fn close(alloc: Global, transmitter: &mut TransmitterHandle) -> u32
     let Some(mut there) = transmitter.take(alloc) else {
         return NO_TRANSMITTER;
     };
-    there.close_packets();
+    there.end.close_packets();
     transmitter.put(there);
     DONE
 }
@@ -218,7 +297,7 @@ pub fn finish(alloc: Global, transmitter: &mut TransmitterHandle) -> u32
     let Some(mut there) = transmitter.take(alloc) else {
         return NO_TRANSMITTER;
     };
-    there.finish();
+    there.end.finish();
     transmitter.put(there);
     DONE
 }
@@ -250,7 +329,7 @@ pub fn sent(
     let Some(there) = transmitter.take(alloc) else {
         return NO_TRANSMITTER;
     };
-    let answer = there.counts(channel);
+    let answer = there.end.counts(channel);
     transmitter.put(there);
     counted(answer, counts)
 }
@@ -263,7 +342,7 @@ pub fn slots(alloc: Global, transmitter: &mut TransmitterHandle, slots: &mut u64
     let Some(there) = transmitter.take(alloc) else {
         return NO_TRANSMITTER;
     };
-    *slots = there.slots();
+    *slots = there.end.slots();
     transmitter.put(there);
     DONE
 }
@@ -295,7 +374,7 @@ pub fn status_of(
     let Some(there) = transmitter.take(alloc) else {
         return NO_TRANSMITTER;
     };
-    let answer = there.status(lane);
+    let answer = there.end.status(lane);
     transmitter.put(there);
     stands(answer, status)
 }

@@ -1,9 +1,9 @@
 //! What C holds: a transmitter, or none.
 ghost use Rattle.std.specs.Prelude.{◌≡◌, is_some, Some, None, IfSome, IfNone};
 
+use crate::bit_transmitter::BitTransmitter;
 use crate::block::TransmitterBlock;
 use c_parts::Parts;
-use live_end::LiveTransmitter;
 use std::alloc::Global;
 use std::mem;
 
@@ -28,7 +28,7 @@ impl TransmitterHandle {
     }
 
     /// Gives the transmitter away, if there is one. There is none afterwards.
-    pub fn take(&mut self, alloc: Global) -> Option<Box<LiveTransmitter, Global>>
+    pub fn take(&mut self, alloc: Global) -> Option<Box<BitTransmitter, Global>>
         ensures gone { self.new.at.transmitter ≡ None }
         ensures some { IfSome result (λ b. self.old.at.transmitter ≡ Some b.value) }
         ensures none { IfNone result (self.old.at.transmitter ≡ None) }
@@ -41,7 +41,7 @@ impl TransmitterHandle {
     }
 
     /// Holds this transmitter from now on.
-    pub fn put(&mut self, transmitter: Box<LiveTransmitter, Global>)
+    pub fn put(&mut self, transmitter: Box<BitTransmitter, Global>)
         ensures { self.new.at.transmitter ≡ Some transmitter.value }
     {
         *self = TransmitterHandle {

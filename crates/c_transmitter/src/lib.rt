@@ -1,6 +1,7 @@
 //! A transmitter of the lanes of a link behind a handle for C, and the calls on it.
 #![tactic(auto)]
 
+mod bit_transmitter;
 mod block;
 mod calls;
 mod codes;
@@ -8,7 +9,9 @@ mod counts;
 mod handle;
 mod status;
 
-pub use calls::{close, finish, flow, free, local, new, packet, sent, slots, status_of, take};
+pub use calls::{
+    close, finish, flow, free, local, new, packet, sent, slots, status_of, take, take_bits,
+};
 pub use counts::CCounts;
 pub use handle::TransmitterHandle;
 pub use status::CStatus;

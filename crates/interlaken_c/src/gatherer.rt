@@ -1,5 +1,5 @@
 //! The calls on a gatherer.
-ghost use Rattle.c_gatherer.specs.Held.{Feeds, Finishes, Frees, GivesNext, Makes, Reports};
+ghost use Rattle.c_gatherer.specs.Held.{Feeds, FeedsBits, Finishes, Frees, GivesNext, Makes, Reports};
 
 use c_gatherer::{CGathered, GathererHandle};
 use c_parts::{Refusal, Report};
@@ -27,8 +27,8 @@ pub extern "C" fn interlaken_gatherer_free(alloc: Global, gatherer: &mut Gathere
     c_gatherer::free(alloc, gatherer)
 }
 
-/// Feeds a lane with the longest prefix of these bytes that its ring has room for, and writes how many that is. It is
-/// `DONE`, `NO_LANE`, `FINISHED`, `TOO_MANY` or `NO_GATHERER`.
+/// Feeds a lane with the longest prefix of these bytes that its ring has room for, and writes how many that is. It is `DONE`, `NO_LANE`,
+/// `FINISHED`, `TOO_MANY`, `PART_BYTE` if a part of a byte of the lane is left, or `NO_GATHERER`.
 #[unsafe(no_mangle)]
 pub extern "C" fn interlaken_gatherer_feed(
     alloc: Global,
@@ -42,7 +42,25 @@ pub extern "C" fn interlaken_gatherer_feed(
     c_gatherer::feed(alloc, gatherer, lane, bytes, taken)
 }
 
-/// No further byte of this lane comes. It is `DONE`, `NO_LANE`, `FINISHED` or `NO_GATHERER`.
+/// Feeds a lane with the lowest `count` bits of a number, at most 64, the highest of them first, and writes how many are taken: all, or
+/// those that complete the bytes that its ring has room for. It is `DONE`, `NO_LANE`, `FINISHED`, `TOO_MANY`, `OUT_OF_RANGE` or
+/// `NO_GATHERER`.
+#[unsafe(no_mangle)]
+pub extern "C" fn interlaken_gatherer_feed_bits(
+    alloc: Global,
+    gatherer: &mut GathererHandle,
+    lane: u32,
+    bits: u64,
+    count: u32,
+    taken: &mut u32,
+) -> u32
+    ensures { FeedsBits gatherer.old.at.gatherer gatherer.new.at.gatherer lane bits count result taken.new }
+{
+    c_gatherer::feed_bits(alloc, gatherer, lane, bits, count, taken)
+}
+
+/// No further byte of this lane comes. It is `DONE`, `NO_LANE`, `FINISHED`, `PART_BYTE` if a part of a byte of the lane is left, or
+/// `NO_GATHERER`.
 #[unsafe(no_mangle)]
 pub extern "C" fn interlaken_gatherer_finish(
     alloc: Global,

@@ -1,5 +1,5 @@
 //! The calls on an inspector.
-ghost use Rattle.c_inspector.specs.Held.{Feeds, Finishes, Frees, GivesEvent, Makes, Reports};
+ghost use Rattle.c_inspector.specs.Held.{Feeds, FeedsBits, Finishes, Frees, GivesEvent, Makes, Reports};
 
 use c_inspector::{CLaneEvent, InspectorHandle};
 use c_parts::{Refusal, Report};
@@ -27,8 +27,8 @@ pub extern "C" fn interlaken_inspector_free(alloc: Global, inspector: &mut Inspe
     c_inspector::free(alloc, inspector)
 }
 
-/// Takes the first of these bytes of a lane, up to a word that shows events, and writes how many: none, while events of the lane are
-/// due. It is `DONE`, `NO_LANE`, `FINISHED`, `TOO_MANY` or `NO_INSPECTOR`.
+/// Takes the first of these bytes of a lane, up to a word that shows events, and writes how many: none, while events of the lane are due.
+/// It is `DONE`, `NO_LANE`, `FINISHED`, `TOO_MANY`, `PART_BYTE` if a part of a byte of the lane is left, or `NO_INSPECTOR`.
 #[unsafe(no_mangle)]
 pub extern "C" fn interlaken_inspector_feed(
     alloc: Global,
@@ -42,7 +42,25 @@ pub extern "C" fn interlaken_inspector_feed(
     c_inspector::feed(alloc, inspector, lane, bytes, taken)
 }
 
-/// No further byte of this lane comes. It is `DONE`, `NO_LANE`, `FINISHED` or `NO_INSPECTOR`.
+/// Feeds a lane with the lowest `count` bits of a number, at most 64, the highest of them first, and writes how many are taken: all, or
+/// those that complete the bytes that are taken. It is `DONE`, `NO_LANE`, `FINISHED`, `TOO_MANY`, `OUT_OF_RANGE` or
+/// `NO_INSPECTOR`.
+#[unsafe(no_mangle)]
+pub extern "C" fn interlaken_inspector_feed_bits(
+    alloc: Global,
+    inspector: &mut InspectorHandle,
+    lane: u32,
+    bits: u64,
+    count: u32,
+    taken: &mut u32,
+) -> u32
+    ensures { FeedsBits inspector.old.at.inspector inspector.new.at.inspector lane bits count result taken.new }
+{
+    c_inspector::feed_bits(alloc, inspector, lane, bits, count, taken)
+}
+
+/// No further byte of this lane comes. It is `DONE`, `NO_LANE`, `FINISHED`, `PART_BYTE` if a part of a byte of the lane is left, or
+/// `NO_INSPECTOR`.
 #[unsafe(no_mangle)]
 pub extern "C" fn interlaken_inspector_finish(
     alloc: Global,

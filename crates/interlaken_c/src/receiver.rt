@@ -1,5 +1,5 @@
 //! The calls on a receiver.
-ghost use Rattle.c_receiver.specs.Held.{Feeds, Finishes, Frees, GivesEvent, Makes, Reads, Reports, TellsChannel, TellsState};
+ghost use Rattle.c_receiver.specs.Held.{Feeds, FeedsBits, Finishes, Frees, GivesEvent, Makes, Reads, Reports, TellsChannel, TellsState};
 
 use c_parts::{Refusal, Report};
 use c_receiver::{CEvent, ReceiverHandle};
@@ -27,8 +27,8 @@ pub extern "C" fn interlaken_receiver_free(alloc: Global, receiver: &mut Receive
     c_receiver::free(alloc, receiver)
 }
 
-/// Feeds a lane with the longest prefix of these bytes that its ring has room for, and writes how many that is. It is `DONE`,
-/// `NO_LANE`, `FINISHED`, `TOO_MANY` or `NO_RECEIVER`.
+/// Feeds a lane with the longest prefix of these bytes that its ring has room for, and writes how many that is. It is `DONE`, `NO_LANE`,
+/// `FINISHED`, `TOO_MANY`, `PART_BYTE` if a part of a byte of the lane is left, or `NO_RECEIVER`.
 #[unsafe(no_mangle)]
 pub extern "C" fn interlaken_receiver_feed(
     alloc: Global,
@@ -42,7 +42,25 @@ pub extern "C" fn interlaken_receiver_feed(
     c_receiver::feed(alloc, receiver, lane, bytes, taken)
 }
 
-/// No further byte of this lane comes. It is `DONE`, `NO_LANE`, `FINISHED` or `NO_RECEIVER`.
+/// Feeds a lane with the lowest `count` bits of a number, at most 64, the highest of them first, and writes how many are taken: all, or
+/// those that complete the bytes that its ring has room for. It is `DONE`, `NO_LANE`, `FINISHED`, `TOO_MANY`, `OUT_OF_RANGE` or
+/// `NO_RECEIVER`.
+#[unsafe(no_mangle)]
+pub extern "C" fn interlaken_receiver_feed_bits(
+    alloc: Global,
+    receiver: &mut ReceiverHandle,
+    lane: u32,
+    bits: u64,
+    count: u32,
+    taken: &mut u32,
+) -> u32
+    ensures { FeedsBits receiver.old.at.session receiver.new.at.session lane bits count result taken.new }
+{
+    c_receiver::feed_bits(alloc, receiver, lane, bits, count, taken)
+}
+
+/// No further byte of this lane comes. It is `DONE`, `NO_LANE`, `FINISHED`, `PART_BYTE` if a part of a byte of the lane is left, or
+/// `NO_RECEIVER`.
 #[unsafe(no_mangle)]
 pub extern "C" fn interlaken_receiver_finish(
     alloc: Global,

@@ -1,5 +1,5 @@
 //! The calls on a transmitter.
-ghost use Rattle.c_transmitter.specs.Held.{ClosesPackets, ClosesTransmitter, FreesTransmitter, GivesFlow, GivesLocal, GivesPacket, MakesTransmitter, TakesBytes, TellsSent, TellsSlots, TellsStatus};
+ghost use Rattle.c_transmitter.specs.Held.{ClosesPackets, ClosesTransmitter, FreesTransmitter, GivesFlow, GivesLocal, GivesPacket, MakesTransmitter, TakesBits, TakesBytes, TellsSent, TellsSlots, TellsStatus};
 
 use c_parts::Refusal;
 use c_transmitter::{CCounts, CStatus, TransmitterHandle};
@@ -72,7 +72,7 @@ pub extern "C" fn interlaken_transmitter_local(
 }
 
 /// Takes the next bytes of a lane, as many as there is room for if no other lane holds them back, and writes how many that is. It is
-/// `DONE`, `NO_LANE` or `NO_TRANSMITTER`.
+/// `DONE`, `NO_LANE`, `PART_BYTE` if a part of a byte of the lane is left, or `NO_TRANSMITTER`.
 #[unsafe(no_mangle)]
 pub extern "C" fn interlaken_transmitter_take(
     alloc: Global,
@@ -84,6 +84,22 @@ pub extern "C" fn interlaken_transmitter_take(
     ensures { TakesBytes transmitter.old.at.transmitter transmitter.new.at.transmitter lane bytes.old bytes.new result taken.new }
 {
     c_transmitter::take(alloc, transmitter, lane, bytes, taken)
+}
+
+/// Takes the next `count` bits of a lane, 64 at most, or fewer if a ring has no room or the lanes have ended. Writes them as a number,
+/// the first bit highest, and how many they are. It is `DONE`, `NO_LANE`, `OUT_OF_RANGE` or `NO_TRANSMITTER`.
+#[unsafe(no_mangle)]
+pub extern "C" fn interlaken_transmitter_take_bits(
+    alloc: Global,
+    transmitter: &mut TransmitterHandle,
+    lane: u32,
+    count: u32,
+    bits: &mut u64,
+    taken: &mut u32,
+) -> u32
+    ensures { TakesBits transmitter.old.at.transmitter transmitter.new.at.transmitter lane count result bits.new taken.new }
+{
+    c_transmitter::take_bits(alloc, transmitter, lane, count, bits, taken)
 }
 
 /// No further packet comes. It is `DONE` or `NO_TRANSMITTER`.

@@ -91,6 +91,7 @@ class Result(_Number):
     NO_CHECKER = 16
     WAITING = 17
     NO_GATHERER = 18
+    PART_BYTE = 19
 
 
 class Cause(_Number):

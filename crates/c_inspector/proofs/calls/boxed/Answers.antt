@@ -4,4 +4,4 @@ use Rattle.c_inspector.specs.Held.{IsOfPlan}
 use Rattle.c_inspector.proofs.calls.boxed.Goals as goal
 
 pub returns-clause-made : goal.returns-clause-made
-returns-clause-made c = subst (IsOfPlan c.args.plan.now) (sym c.in_ok-held.ensures) c.in_ok-inspector.ensures.made
+returns-clause-made c = (subst (IsOfPlan c.args.plan.now) (sym c.in_ok-held.ensures.lanes) c.in_ok-inspector.ensures.made, c.in_ok-held.ensures.whole)
