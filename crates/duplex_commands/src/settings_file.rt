@@ -26,8 +26,6 @@ pub fn read_settings_file<S: Store>(
     ensures reads { IfSome (S.files store.old) (λ files. Reads duplex_value (λ n. n ≡ name.now) result (settings_in files name.now)) }
 {
     let bytes = read_plan_bytes(alloc, store, name, PLAN_LIMIT)?;
-    match read_duplex(alloc, &bytes) {
-        Ok(settings) => Ok(settings),
-        Err(why) => Err(plan_stop(why)),
-    }
+    // proof: by a closure, since the module of `plan_stop` is private to its crate.
+    read_duplex(alloc, &bytes).map_err(|why| plan_stop(why))
 }

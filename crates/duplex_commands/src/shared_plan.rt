@@ -22,8 +22,5 @@ pub fn read_shared_plan<S: Store>(alloc: Global, store: &mut S, name: &str) -> R
     ensures reads { IfSome (S.files store.old) (λ files. Reads plan_value (λ n. n ≡ name.now) result (shared_plan_in files name.now)) }
 {
     let bytes = read_input(alloc, store, name, PLAN_LIMIT)?;
-    match read_plan(alloc, &bytes) {
-        Ok(plan) => Ok(plan),
-        Err(why) => Err(rows_stop(alloc, name, why)),
-    }
+    read_plan(alloc, &bytes).map_err(|why| rows_stop(alloc, name, why))
 }

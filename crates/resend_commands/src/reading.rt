@@ -93,10 +93,7 @@ fn read_events_file<S: Store>(
     };
     let name = name.as_str();
     let bytes = read_input(alloc, store, name, ROWS_LIMIT)?;
-    match read_events(alloc, &bytes) {
-        Ok(rows) => Ok(rows),
-        Err(why) => Err(rows_stop(alloc, name, why)),
-    }
+    read_events(alloc, &bytes).map_err(|why| rows_stop(alloc, name, why))
 }
 
 /// The plan in the file of this name, after it its inputs, and after these its events, each read and checked whole before the

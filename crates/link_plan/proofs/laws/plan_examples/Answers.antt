@@ -18,6 +18,10 @@ pub returns-clause-files : goal.returns-clause-files
 unfolding is_utf8 chars encode number_of decimal_from place_in item_of value_of text_of later_fault first_fault keys place number row_of channels_in_order missing clashes first_clash plan_from plan_of
 returns-clause-files c = refl
 
+pub returns-clause-defaults : goal.returns-clause-defaults
+unfolding place_in value_of text_of keys place number row_of plan_from
+returns-clause-defaults c = refl
+
 pub returns-clause-every_key : goal.returns-clause-every_key
 unfolding is_utf8 chars encode number_of decimal_from place_in item_of value_of text_of later_fault first_fault keys place number row_of channels_in_order missing clashes first_clash plan_from plan_of
 returns-clause-every_key c = refl
