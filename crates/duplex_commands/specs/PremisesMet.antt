@@ -1,7 +1,8 @@
 -- The premises of what is said of `duplex` are met by settings with their plan and the capture of end a.
-use Rattle.std.specs.Prelude.{◌≡◌, ℕ, false, List, [], ◌∷◌, codes, Some, None, Ok}
+use Rattle.std.specs.Prelude.{◌≡◌, ℕ, List, [], ◌∷◌, codes, Some, Ok}
 use Rattle.std.specs.FinMap.{from_entries}
 use Rattle.lk_outside.specs.Files.{Files, AreBytes}
+use Rattle.link_plan.specs.Default.{default_plan, default_settings}
 use Rattle.link_plan.specs.Plan.{PlanValue}
 use Rattle.pcap_files.specs.Written.{capture_bytes}
 use Rattle.duplex_plan.specs.Duplex.{DuplexValue}
@@ -36,21 +37,11 @@ abbrev pub two_ends_settings : DuplexValue
 two_ends_settings = record { plan = codes "p"; delay = 10; mark = 8; slots = 200; drain = 1; back = []; out = codes "o" }
 
 abbrev pub two_ends_plan : PlanValue
-two_ends_plan = record {
-  settings = record { lanes = 1; metaframe = 32; skips = 1; burst_max = 256; burst_short = 64; deskew = 7; warmup = 4; max_packet = 262144 };
-  link_type = 1;
+two_ends_plan = record default_plan {
+  settings = record default_settings { lanes = 1; metaframe = 32; warmup = 4 };
   channels = record { number = 1; capture = Some (codes "a") } ∷ [];
   entries = 1 ∷ [];
-  flow = None;
-  local = None;
-  schedule = None;
   out = codes "u";
-  wide = false;
-  wide_row = None;
-  burst_min = 0;
-  oob = None;
-  window = 64;
-  events = None;
 }
 
 abbrev pub two_ends_reading : DuplexReading

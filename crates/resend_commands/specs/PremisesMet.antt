@@ -1,7 +1,8 @@
 -- The premises of what is said of `resend` are met by a plan with its capture and its events, of which one loses a piece.
-use Rattle.std.specs.Prelude.{◌≡◌, ℕ, false, List, [], ◌∷◌, codes, Some, None, Ok}
+use Rattle.std.specs.Prelude.{◌≡◌, ℕ, List, [], ◌∷◌, codes, Some, Ok}
 use Rattle.std.specs.FinMap.{from_entries}
 use Rattle.lk_outside.specs.Files.{Files, AreBytes}
+use Rattle.link_plan.specs.Default.{default_plan, default_settings}
 use Rattle.link_plan.specs.Plan.{PlanValue}
 use Rattle.pcap_files.specs.Written.{capture_bytes}
 use Rattle.resend_events.specs.declared.row.EventRow.{EventRow}
@@ -35,20 +36,11 @@ abbrev pub resent_files : Files
 resent_files = from_entries resent_entries
 
 abbrev pub resent_plan : PlanValue
-resent_plan = record {
-  settings = record { lanes = 1; metaframe = 32; skips = 1; burst_max = 256; burst_short = 64; deskew = 7; warmup = 4; max_packet = 262144 };
-  link_type = 1;
+resent_plan = record default_plan {
+  settings = record default_settings { lanes = 1; metaframe = 32; warmup = 4 };
   channels = record { number = 1; capture = Some (codes "a") } ∷ [];
   entries = 1 ∷ [];
-  flow = None;
-  local = None;
-  schedule = None;
   out = codes "o";
-  wide = false;
-  wide_row = None;
-  burst_min = 0;
-  oob = None;
-  window = 64;
   events = Some (codes "e");
 }
 
