@@ -11,20 +11,19 @@ ghost use Rattle.receive_commands.specs.Receive.{lanes_in};
 ghost use Rattle.inspect_commands.specs.Inspect.{IsInspected, events_name};
 
 use crate::lanes::write_table;
+use lk_base::OutOfMemory;
 use lk_outside::Store;
 use receive_commands::{FileLanes, PlanLanes, read_plan_lanes};
-use run_shell::{FileCommand, Finished, Outputs};
+use run_shell::{FileCommand, Finished, Outputs, only_name};
 use run_stops::Stop;
-use std::alloc::{AllocError, Global};
+use std::alloc::Global;
 
 // The name of the table, as the only one.
-fn table_names(alloc: Global, out: &str) -> Result<Vec<String>, AllocError>
+fn table_names(alloc: Global, out: &str) -> Result<Vec<String>, OutOfMemory>
     ensures names { IfOk result (λ v. map string_bytes v.items ≡ events_name out.now ∷ []) }
     ensures differ { IfOk result (λ v. Differ (map string_bytes v.items)) }
 {
-    let mut names = Vec::new(alloc);
-    names.push(format!(in alloc; "{out}.events.csv")?)?;
-    Ok(names)
+    only_name(alloc, format!(in alloc; "{out}.events.csv")?)
 }
 
 // What the lanes become.

@@ -1,6 +1,5 @@
 //! The text of the table of events.
-ghost use Rattle.std.specs.Prelude.{◌≡◌, [], ◌∷◌, Some, OnOk, IfOk, string_bytes};
-ghost use Rattle.std.specs.Fmt.{decimal};
+ghost use Rattle.std.specs.Prelude.{◌≡◌, [], ◌∷◌, Some, OnOk, IfOk};
 ghost use Rattle.std.specs.Io.KnownBytes.{Appends};
 ghost use Rattle.csv.specs.Writing.{text_written, row_text};
 ghost use Rattle.csv_rows.specs.Written.{rows_text, rows_writer};
@@ -9,22 +8,15 @@ ghost use Rattle.inspect_commands.specs.Table.{event_fields, event_rows, heading
 
 use csv::Writer;
 use lane_events::LaneEvent;
-use link_reports::{row_writer, write_row, written_rows};
+use link_reports::{number_text, row_writer, write_row, written_rows};
 use lk_base::OutOfMemory;
-use std::alloc::{AllocError, Global};
+use std::alloc::Global;
 
 /// The heading, as it stands in the table.
 pub fn heading() -> &'static [u8]
     ensures { result.now ≡ rows_text (heading ∷ []) }
 {
     b"lane,bit,event\n"
-}
-
-// A number in decimal.
-fn number_text(alloc: Global, number: u64) -> Result<String, AllocError>
-    ensures { IfOk result (λ text. string_bytes text ≡ decimal number) }
-{
-    format!(in alloc; "{number}")
 }
 
 // Writes the row of an event of the lane of this number.
