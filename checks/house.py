@@ -1,7 +1,8 @@
 """Whether the files that show the house say what its crates use: crates.txt has a line for each crate, which names the crates, of
 the repository and of the kit, whose items the crate names, and no other; proofs/Lib.antt of a crate shows ('pub mod') the lemmas
 that other crates cite, and no other; docs/CRATES.md has an entry for each crate, and docs/crates.svg a place for each but the programs
-of tests, from which no crate uses one of a higher box.
+of tests, from which no crate uses one of a higher box. And whether each definition stands once, but for those that checks/twice.csv
+gives a reason for.
 
     python3 house.py TOP
 """
@@ -12,6 +13,7 @@ import re
 import sys
 
 from tally import Tally
+from twice import count_twice
 
 LOGIC = re.compile(r"\bRattle\.([a-z0-9_]+)\.(specs|proofs)\.([A-Za-z0-9_-]+)")
 CODE = re.compile(r"(?<![A-Za-z0-9_:.$])([a-z][a-z0-9_]*)::")
@@ -125,6 +127,7 @@ def main(top):
     for crate in sorted(set(os.listdir(os.path.join(top, "crates"))) - set(edges)):
         if any(sources_of(top, crate)):
             tally.count(crate, "crates.txt has no line for it")
+    count_twice(tally, top)
     return tally.end()
 
 

@@ -13,7 +13,8 @@ use Rattle.lane_damage.specs.OnWay.{IsApply, IsDark, IsFlip, OnWay, dark_from, f
 use Rattle.lane_damage.specs.CallsLaw.{Account, Apply, AreCalls, Call, Dark, Flip, JoinsToTheDamagedLane, Leads, account, lane_of, no_account, taken}
 use Rattle.lane_damage.specs.declared.refused.Refused.{Refused}
 use Rattle.lane_damage.specs.declared.refused.Refused.TheVariants as refusals
-use Rattle.lane_damage.proofs.RowSteps.{covered, covered-more, covers, covers-none}
+use Rattle.lane_damage.proofs.Covers.{covered, covered-more, covers}
+use Rattle.lane_damage.proofs.RowSteps.{covers-none}
 
 -- how many of these flips name bit number n
 abbrev named : List ℕ → ℕ → ℕ

@@ -1,3 +1,5 @@
+pub mod Covers
+pub mod Numbered
 mod Points
 mod RowSteps
 mod Joins

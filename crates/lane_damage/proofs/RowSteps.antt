@@ -1,7 +1,7 @@
 -- What one more row changes, and what all rows do together.
-use Rattle.std.proofs.Common.{ℕ, zero, suc, ◌≡◌, refl, sym, ap, ◌∙◌, subst, ◌+◌, ◌-◌, ◌*◌, ◌≤◌, ◌<◌, Bool, true, false, cond, List, [], ◌∷◌, ◌++◌, length, map, take, get_or, arith, inl, inr}
+use Rattle.std.proofs.Common.{ℕ, ◌≡◌, refl, sym, ap, ◌∙◌, subst, ◌+◌, ◌-◌, ◌*◌, ◌≤◌, ◌<◌, Bool, true, false, cond, List, [], ◌∷◌, ◌++◌, length, map, take, get_or, arith, inl, inr}
 use Rattle.std.specs.Prelude.{◌⊎◌, ◌&&◌, ◌||◌, filter, max, min, nat_le, nat_lt}
-use Rattle.std.specs.List.{enumerate_from, list_any}
+use Rattle.std.specs.List.{enumerate_from}
 use Rattle.std.proofs.lemmas.Bool.{cases_lt, cases_Bool, and_from, le-leb, lt-leb, lt-ltb, le-ltb}
 use Rattle.std.proofs.lemmas.List.{map-append, take_more, length-map, ext_get_or}
 use Rattle.std.proofs.lemmas.List.FromFn.{length-enumerate_from}
@@ -11,28 +11,10 @@ use Rattle.lane_model.proofs.FilesHold.{length-flat_map_bits}
 use Rattle.lane_damage.specs.declared.rows.Stretch.{Stretch}
 use Rattle.lane_damage.specs.Stretches.{dark_bits}
 use Rattle.lane_damage.specs.Bits.{IsChanged, bit_in, damaged_from, darkened_by, turned_by}
+use Rattle.lane_damage.proofs.Covers.{covered, covered-more, covers, covers-from}
+use Rattle.lane_damage.proofs.Numbered.{numbered}
 
 -- ---- dark stretches
-
-abbrev pub covers : ℕ → DarkBits → Bool
-covers n d = nat_le d.first n && nat_lt n (d.first + d.count)
-
-abbrev pub covered : List DarkBits → ℕ → Bool
-covered darks n = list_any (λ (d : DarkBits). nat_le d.first n && nat_lt n (d.first + d.count)) darks
-
-or_last : (t : Bool) → (t || false) ≡ (false || t)
-or_last true = refl
-or_last false = refl
-
-pub covered-more : (front : List DarkBits) (x : DarkBits) (n : ℕ) → covered (front ++ x ∷ []) n ≡ (covered front n || covers n x)
-covered-more [] x n = or_last (covers n x)
-covered-more (y ∷ front) x n = elim (cases_Bool (covers n y)) [
-  | inl h ↦ rw h refl
-  | inr h ↦ rw h (covered-more front x n)
-]
-
-pub covers-from : (x : DarkBits) (n : ℕ) → x.first ≤ n → n < x.first + x.count → covers n x ≡ true
-covers-from x n a b = and_from (nat_le x.first n) (nat_lt n (x.first + x.count)) (le-leb x.first n a) (lt-ltb n (x.first + x.count) b)
 
 and_none : (a b : Bool) → b ≡ false → (a && b) ≡ false
 and_none true b e = e
@@ -92,11 +74,6 @@ same_bits from to start p m le = elim (cases_lt p (from - start)) [
 ]
 
 -- ---- all rows
-
-numbered : (f : ℕ × Bool → Bool) (n : ℕ) (xs : List Bool) (i : ℕ) → i < length xs → get_or (map f (enumerate_from n xs)) i false ≡ f (n + i, get_or xs i false)
-numbered f n [] i h = absurd (omega arith)
-numbered f n (x ∷ xs) zero h = let e : n + 0 ≡ n = omega arith in rw e refl
-numbered f n (x ∷ xs) (suc i) h = let e : n + 1 + i ≡ n + suc i = omega arith in numbered f (n + 1) xs i (omega (arith, h)) ∙ ap (λ k. f (k, get_or xs i false)) e
 
 -- what is first turned and then darkened is damaged
 pub damaged-all : (d : LaneDamage) (start : ℕ) (old mid new : List ℕ) → IsChanged (turned_by d.flips) start old mid → IsChanged (darkened_by d.darks) start mid new →

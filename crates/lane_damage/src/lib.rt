@@ -10,4 +10,5 @@ mod refused;
 mod rows;
 
 pub use damage::Damage;
+pub use marks::{clear, invert};
 pub use refused::Refused;
