@@ -1,12 +1,12 @@
 -- A run of data words: this many steps that each give one.
-use Rattle.std.proofs.Common.{◌≡◌, ℕ, zero, suc, ◌+◌, ◌-◌, ◌<◌, ◌≤◌, Bool, true, false, List, [], ◌∷◌, ◌++◌, length, map, take, drop, get_or, Some, refl, sym, ap, subst, ◌∙◌, arith, append_assoc, append-nil, length-append, length-drop, inl}
+use Rattle.std.proofs.Common.{◌≡◌, ℕ, zero, suc, ◌+◌, ◌-◌, ◌<◌, ◌≤◌, Bool, true, false, List, [], ◌∷◌, ◌++◌, length, map, take, drop, get_or, Some, refl, sym, ap, subst, ◌∙◌, arith, append_assoc, append-nil, length-append, length-drop, inl, Vec, Global}
 use Rattle.std.proofs.lemmas.List.{length-map, length-take, drop-take, length_push}
 use Rattle.std.proofs.Math.Seq.{take-add}
 use Rattle.lk_base.specs.declared.word.Word.{Word}
 use Rattle.lk_base.specs.declared.word.Word.TheVariants.{Data}
 use Rattle.stream_model.specs.BurstStream.{IsAt, StandsInBurst}
 use Rattle.burst_scheduler.specs.Asked.{Asked, HasWholeBursts, MayStep, bound, stepped, stepped_by}
-use Rattle.burst_scheduler.specs.Gives.{HasBegun, Holds, KeepsAllButGiven, Runs, planned, to_come}
+use Rattle.burst_scheduler.specs.Gives.{HasBegun, HasGivenData, Holds, KeepsAllButGiven, Runs, last_data, planned, to_come}
 use Rattle.burst_scheduler.specs.declared.scheduler.Scheduler.{Scheduler}
 use Rattle.burst_scheduler.proofs.DataSteps.{data_step}
 use Rattle.burst_scheduler.proofs.Stepping.{below_step, nothing_behind}
@@ -106,7 +106,7 @@ runs_on (d ∷ e ∷ ds) rest s new a more g may k some come given slot =
     let l : length (a.words ++ Data d ∷ []) ≡ length a.words + 1 = length_push a.words (Data d) in
     (on.0, omega (arith, l, on.1))
 
--- ---- the numbers that are copied are the first to come
+-- ---- the numbers that are given are the first to come
 
 -- the first n numbers that are to come
 abbrev pub next_numbers : Scheduler → ℕ → List ℕ
@@ -115,22 +115,25 @@ next_numbers s n = take n (drop s.given s.run.items)
 many_next : (s : Scheduler) (n : ℕ) → s.given + n ≤ length s.run.items → length (next_numbers s n) ≡ n
 many_next s n h = let l = length-take n (drop s.given s.run.items) in let d = length-drop s.given s.run.items in omega (arith, l, d, h)
 
--- of the numbers that are copied, as many are there as are asked for
-copied_same : (s : Scheduler) (xs : List ℕ) (n : ℕ) → xs ≡ s.run.items → take (s.given + n - s.given) (drop s.given xs) ≡ next_numbers s n
-copied_same s xs n is =
-    let less : s.given + n - s.given ≡ n = omega arith in
-    ap (λ k. take k (drop s.given xs)) less ∙ ap (λ ys. take n (drop s.given ys)) is
+-- once they are given they are the last
+pub next_is_last : (s new : Scheduler) (n : ℕ) → KeepsAllButGiven s new → new.given ≡ s.given + n → last_data new n ≡ next_numbers s n
+next_is_last s new n k e =
+    let first : new.given - n ≡ s.given = omega (arith, e) in
+    ap (λ m. take n (drop m new.run.items)) first ∙ ap (λ (v : Vec ℕ Global). take n (drop s.given v.items)) k.words.0
 
-copied_many : (s : Scheduler) (xs : List ℕ) (n : ℕ) → xs ≡ s.run.items → s.given + n ≤ length s.run.items → length (take (s.given + n - s.given) (drop s.given xs)) ≡ n
-copied_many s xs n is h = ap length (copied_same s xs n is) ∙ many_next s n h
+-- the part of the run that has them
+pub last_part : (s : Scheduler) (xs : List ℕ) (n : ℕ) → xs ≡ s.run.items → n ≤ s.given → take (s.given - (s.given - n)) (drop (s.given - n) xs) ≡ last_data s n
+last_part s xs n is h =
+    let less : s.given - (s.given - n) ≡ n = omega arith in
+    ap (λ k. take k (drop (s.given - n) xs)) less ∙ ap (λ ys. take n (drop (s.given - n) ys)) is
 
-pub copied : (s : Scheduler) (xs : List ℕ) (out : List Word) (n : ℕ) → xs ≡ s.run.items → s.given + n ≤ length s.run.items
-    → take (length (take (s.given + n - s.given) (drop s.given xs))) out ≡ map Data (take (s.given + n - s.given) (drop s.given xs)) → take n out ≡ map Data (next_numbers s n)
-copied s xs out n is h e = ap (λ k. take k out) (sym (copied_many s xs n is h)) ∙ e ∙ ap (map Data) (copied_same s xs n is)
-
-pub copied_rest : (s : Scheduler) (xs : List ℕ) (new old : List Word) (n : ℕ) → xs ≡ s.run.items → s.given + n ≤ length s.run.items
-    → drop (length (take (s.given + n - s.given) (drop s.given xs))) new ≡ drop (length (take (s.given + n - s.given) (drop s.given xs))) old → drop n new ≡ drop n old
-copied_rest s xs new old n is h e = subst (λ k. drop k new ≡ drop k old) (copied_many s xs n is h) e
+pub many_last : (s : Scheduler) (n : ℕ) → HasGivenData s n → length (last_data s n) ≡ n
+many_last s n h =
+    let l = length-take n (drop (s.given - n) s.run.items) in
+    let d = length-drop (s.given - n) s.run.items in
+    let few = h.0 in
+    let room = h.1 in
+    omega (arith, l, d, few, room)
 
 pub run_step : (s new : Scheduler) (a : Asked) (more : Bool) (vs : List Word) (n : ℕ) → Runs s a → MayStep a more → KeepsAllButGiven s new → 1 ≤ n → s.given + n ≤ s.count → new.given ≡ s.given + n → new.slot ≡ s.slot + n
     → vs ≡ map Data (next_numbers s n) → Runs new (stepped_by a more vs) × (length a.words + n ≤ bound (stepped_by a more vs))

@@ -1,5 +1,5 @@
 -- What the makers of a stream's files gave so far.
-use Rattle.std.specs.Prelude.{◌≡◌, ℕ, ◌-◌, ◌*◌, ◌≤◌, ◌^◌, List, [], ◌∷◌, map, length, Option, Some, None}
+use Rattle.std.specs.Prelude.{◌≡◌, ℕ, ◌-◌, ◌≤◌, ◌^◌, List, [], ◌∷◌, ◌++◌, map, length, Option, Some, None}
 use Rattle.std.specs.List.{range_with_len}
 use Rattle.lk_base.specs.declared.word.Word.{Word}
 use Rattle.lk_base.specs.Link.{Settings}
@@ -76,11 +76,15 @@ abbrev pub words_left : Option StreamWords → ℕ
 words_left (Some s) = 2 ^ 60 - s.maker.scheduler.slot
 words_left None = 0
 
--- the file of the words that were made of the source's stream; there is room for a word, and for the bytes of as many words as have
--- room
-pub record GaveWordsFile (words : Option StreamWords) (places bytes : ℕ) (source : Source) (given : List (List ℕ)) : Type 0 where
-  pub room : 1 ≤ places
-  pub wide : bytes ≡ 9 * places
+-- more words of the source's stream were made after these, and this is their file
+pub record MakesFile (s : StreamWords) (source : Source) (made : List Word) (bytes : List ℕ) : Type 0 where
+  pub more : List Word
+  pub streams : Streams s source (made ++ more)
+  pub file : bytes ≡ words_file more
+
+-- the file of the words that were made of the source's stream; there is room for the bytes of a word
+pub record GaveWordsFile (words : Option StreamWords) (bytes : ℕ) (source : Source) (given : List (List ℕ)) : Type 0 where
+  pub room : 9 ≤ bytes
   pub maker : StreamWords
   pub there : words ≡ Some maker
   pub made : List Word

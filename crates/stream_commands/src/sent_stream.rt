@@ -1,5 +1,5 @@
 //! The stream of a source with the packets that it sends, which are listed while its words are made.
-ghost use Rattle.std.specs.Prelude.{◌≡◌, ◌<◌, ◌^◌, ◌++◌, List, [], length, IfOk, OnOk};
+ghost use Rattle.std.specs.Prelude.{◌≡◌, ◌<◌, ◌^◌, List, [], length, IfOk, OnOk};
 ghost use Rattle.lk_base.specs.declared.word.Word.{Word as SentWord};
 ghost use Rattle.stream_model.specs.BurstStream.{Source, IsBurstStream};
 ghost use Rattle.tx_words.specs.Making.{GaveWords};
@@ -10,13 +10,10 @@ ghost use Rattle.stream_commands.specs.Stream.{stream_text};
 
 use crate::stream::PayloadStream;
 use crate::text::stream_lines;
-use lk_base::{OutOfMemory, Word};
+use lk_base::OutOfMemory;
 use std::alloc::Global;
 use tx_words::{Sent, SentList, StreamSource, WordMaker, count_listed};
 use word_list::WordList;
-
-// The words that are made at a time.
-const BLOCK: usize = 512;
 
 /// A stream with the packets that it sends.
 #[derive(Drop)]
@@ -27,11 +24,31 @@ pub struct SentStream {
     pub sent: Vec<Sent>,
 }
 
-// Puts the words of a block after the others.
-fn push_block(words: &mut WordList, block: &[Word]) -> Result<(), OutOfMemory>
-    ensures { OnOk result (words.new ≡ words.old ++ block.now) }
+// Makes the data words of the burst under way, or the one next word, puts them after the others, and lists the packet that starts in
+// them.
+fn make_few(
+    maker: &mut WordMaker,
+    list: &mut SentList,
+    words: &mut WordList,
+) -> Result<(), OutOfMemory>
+    requires { (source : Source) × Lists maker.old list.old source words.old }
+    ensures lists { OnOk result ((source : Source) → Lists maker.old list.old source words.old → Lists maker.new list.new source words.new) }
+    ensures more { OnOk result ((source : Source) → Lists maker.old list.old source words.old → (IsBurstStream source words.old → ⊥) → length words.old < length words.new) }
 {
-    words.extend(block)
+    let count = maker.next_data(usize::MAX);
+    if count > 0 {
+        words.extend_data(maker.last_data(count))?;
+        list.pass_data(count);
+        return Ok(());
+    }
+    match maker.next() {
+        Some(word) => {
+            words.push(word)?;
+            list.pass(word);
+            Ok(())
+        }
+        None => Ok(()),
+    }
 }
 
 // Makes the words of a stream that are still to be made, and lists the packets that start in them.
@@ -43,11 +60,8 @@ fn make_all(
     requires { (source : Source) × Lists maker.old list.old source words.old }
     ensures { OnOk result ((source : Source) → Lists maker.old list.old source words.old → Lists maker.new list.new source words.new × IsBurstStream source words.new) }
 {
-    let mut block = [Word::Data(0); BLOCK];
     while !maker.is_over() {
-        let count = maker.next_block(&mut block);
-        push_block(words, &block[..count])?;
-        list.pass_block(&block[..count]);
+        make_few(maker, list, words)?;
     }
     Ok(())
 }

@@ -1,22 +1,19 @@
 //! The words file of a stream, made as its words are.
-ghost use Rattle.std.specs.Prelude.{◌≡◌, ◌*◌, ◌≤◌, [], ◌∷◌, List, length, vec_len, IfOk, OnOk, Some};
+ghost use Rattle.std.specs.Prelude.{◌≡◌, ◌≤◌, [], ◌∷◌, List, length, take, vec_len, IfOk, Some};
 ghost use Rattle.lk_base.specs.declared.word.Word.{Word as SentWord};
-ghost use Rattle.stream_model.specs.BurstStream.{IsBurstStream};
-ghost use Rattle.words_files.specs.WordsFile.{words_file};
+ghost use Rattle.stream_model.specs.BurstStream.{IsBurstStream, Source};
 ghost use Rattle.tx_words.specs.Streaming.{Streams};
-ghost use Rattle.run_shell.specs.Outputs.{more, open_names};
-ghost use Rattle.run_shell.specs.Rests.{rests_of};
-ghost use Rattle.stream_commands.specs.Making.{words_inputs, GaveWordsFile, IsEndOf};
+ghost use Rattle.stream_commands.specs.Making.{words_inputs, GaveWordsFile, IsEndOf, MakesFile};
 
 use crate::text::reported;
-use lk_base::{OutOfMemory, Word};
+use lk_base::OutOfMemory;
 use run_shell::{Finished, Maker, Outputs, Step, only_name, words_name};
 use std::alloc::Global;
 use tx_words::{StreamSource, StreamWords};
-use words_files::{WORD_BYTES, write_words};
+use words_files::{WORD_BYTES, write_data, write_word};
 
-// The words that are made at a time. With their bytes they have 25 KiB, which stay in a processor's first cache, and what a block
-// costs besides its words is nothing beside them.
+// The words that are made at a time. Their bytes take 9 KiB, which stay in a processor's first cache, and a block costs little besides
+// its words.
 const BLOCK: usize = 1024;
 
 // What is reported of a stream whose words were all made.
@@ -45,15 +42,49 @@ fn finish(
     end_of(alloc, source, words)
 }
 
-// Gives the one output the bytes of the next words, which have room in `bytes`.
-fn give_block(outputs: &mut Outputs, bytes: &mut [u8], words: &[Word]) -> Result<(), OutOfMemory>
-    requires one { length outputs.old ≡ 1 }
-    requires room { 9 * length words.now ≤ length bytes.old }
-    ensures names { open_names outputs.new ≡ open_names outputs.old }
-    ensures given { OnOk result (rests_of outputs.new ≡ more (rests_of outputs.old) 0 (words_file words.now)) }
+// Writes the bytes of the next words, which are the data words of the burst under way or the one next word, to the first places, and
+// returns how many bytes these are: none if and only if all words were made before.
+fn write_few(words: &mut StreamWords, bytes: &mut [u8]) -> usize
+    requires streams { (source : Source) × (made : List SentWord) × Streams words.old source made }
+    requires room { 9 ≤ length bytes.old }
+    ensures file { (source : Source) (made : List SentWord) → Streams words.old source made → MakesFile words.new source made (take result bytes.new) }
+    ensures whole { (source : Source) (made : List SentWord) → Streams words.old source made → result ≡ 0 → IsBurstStream source made }
+    ensures within { result ≤ length bytes.old }
+    ensures long { length bytes.new ≡ length bytes.old }
 {
-    let count = write_words(bytes, words);
-    outputs.give(0, &bytes[..WORD_BYTES * count])
+    let count = words.next_data(bytes.len() / WORD_BYTES);
+    if count > 0 {
+        write_data(bytes, words.last_data(count));
+        return WORD_BYTES * count;
+    }
+    match words.next() {
+        Some(word) => {
+            write_word(bytes, 0, word);
+            WORD_BYTES
+        }
+        None => 0,
+    }
+}
+
+// Writes the bytes of the next words, as many words as have room, to the first places, and returns how many bytes these are: none if
+// and only if all words were made before.
+fn write_block(words: &mut StreamWords, bytes: &mut [u8]) -> usize
+    requires streams { (source : Source) × (made : List SentWord) × Streams words.old source made }
+    requires room { 9 ≤ length bytes.old }
+    ensures file { (source : Source) (made : List SentWord) → Streams words.old source made → MakesFile words.new source made (take result bytes.new) }
+    ensures whole { (source : Source) (made : List SentWord) → Streams words.old source made → result ≡ 0 → Streams words.new source made × IsBurstStream source made }
+    ensures within { result ≤ length bytes.old }
+    ensures long { length bytes.new ≡ length bytes.old }
+{
+    let mut at = 0;
+    while bytes.len() - at >= WORD_BYTES {
+        let more = write_few(words, &mut bytes[at..]);
+        if more == 0 {
+            return at;
+        }
+        at += more;
+    }
+    at
 }
 
 /// What makes the words file of a stream.
@@ -65,9 +96,7 @@ pub struct WordsMaker<'a> {
     pub source: &'a StreamSource<'a>,
     /// What makes the words. The last step uses it up.
     pub words: Option<StreamWords<'a>>,
-    /// Room for the words of a block.
-    pub block: Vec<Word>,
-    /// Room for their bytes.
+    /// Room for the bytes of a block of words.
     pub bytes: Vec<u8>,
 }
 
@@ -79,16 +108,14 @@ impl<'a> WordsMaker<'a> {
         source: &'a StreamSource<'a>,
     ) -> Result<WordsMaker<'a>, OutOfMemory>
         ensures inputs { IfOk result (λ m. words_inputs m.prefix.now m.source.now ≡ words_inputs prefix.now source.now) }
-        ensures fresh { IfOk result (λ m. GaveWordsFile m.words (vec_len m.block) (vec_len m.bytes) m.source.now ([] ∷ [])) }
+        ensures fresh { IfOk result (λ m. GaveWordsFile m.words (vec_len m.bytes) m.source.now ([] ∷ [])) }
     {
-        let block = vec![in alloc; Word::Data(0); BLOCK]?;
         let bytes = vec![in alloc; 0u8; WORD_BYTES * BLOCK]?;
         let words = StreamWords::new(alloc, source)?;
         Ok(WordsMaker {
             prefix,
             source,
             words: Some(words),
-            block,
             bytes,
         })
     }
@@ -106,7 +133,7 @@ impl Maker for WordsMaker<'_> {
 
     ghost IsMade = { IsMadeOf };
 
-    ghost gave = { λ m given. GaveWordsFile m.words (vec_len m.block) (vec_len m.bytes) m.source.now given };
+    ghost gave = { λ m given. GaveWordsFile m.words (vec_len m.bytes) m.source.now given };
 
     ghost left = { λ m. words_left m.words };
 
@@ -121,12 +148,12 @@ impl Maker for WordsMaker<'_> {
             // Only the last step takes it away.
             unreachable!()
         };
-        let count = words.next_block(&mut self.block);
+        let count = write_block(words, &mut self.bytes);
         if count == 0 {
             let finished = finish(alloc, self.source, &mut self.words)?;
             return Ok(Step::Done(finished));
         }
-        give_block(outputs, &mut self.bytes, &self.block[..count])?;
+        outputs.give(0, &self.bytes[..count])?;
         Ok(Step::More)
     }
 }

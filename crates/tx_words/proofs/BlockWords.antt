@@ -1,5 +1,5 @@
 -- Words in the first places of a block.
-use Rattle.std.proofs.Common.{◌≡◌, ℕ, zero, suc, ◌+◌, ◌≤◌, List, [], ◌∷◌, ◌++◌, length, take, drop, sym, ap, subst, ◌∙◌, arith, append_assoc, append-nil}
+use Rattle.std.proofs.Common.{◌≡◌, ℕ, zero, suc, ◌+◌, ◌<◌, ◌≤◌, List, [], ◌∷◌, ◌++◌, length, map, take, drop, get_or, refl, sym, ap, subst, ◌∙◌, arith, append_assoc, append-nil}
 use Rattle.std.proofs.Math.ListN.{set}
 use Rattle.std.proofs.lemmas.List.{take-append-drop, take-append-le, drop-append-le, drop-drop, drop-set-lt, drop_at, length-take-le}
 
@@ -54,3 +54,13 @@ rest_put block first sub count room more total h within long rest same is =
     ∙ rest_cut (drop count block) sub more room within long rest
     ∙ ap (drop more) same
     ∙ drop-drop more count first)
+
+-- ---- data words of these numbers
+
+pub map_take_more : {X : Type 0} (f : ℕ → X) (xs : List ℕ) (n : ℕ) → n < length xs → map f (take (n + 1) xs) ≡ map f (take n xs) ++ f (get_or xs n 0) ∷ []
+map_take_more f [] n h = absurd (omega arith)
+map_take_more f (x ∷ xs) zero h = refl
+map_take_more f (x ∷ xs) (suc n) h = let e : suc n + 1 ≡ suc (n + 1) = omega arith in rw e (ap (λ zs. f x ∷ zs) (map_take_more f xs n (omega arith)))
+
+pub drop_set : {X : Type 0} (xs : List X) (n i : ℕ) (x : X) → i < n → drop n (set xs i x) ≡ drop n xs
+drop_set xs n i x h = drop-set-lt n xs i x h

@@ -6,10 +6,10 @@ pub mod SentLists
 pub mod Making
 pub mod FirstWords
 pub mod HeldOn
+pub mod BlockWords
 -- What this crate alone cites.
 mod Passing
 mod Loading
-mod BlockWords
 mod Steps
 mod Kept
 mod Counting
@@ -20,3 +20,4 @@ mod Listing
 mod SentExamplesHold
 mod Numbers
 mod Leftover
+mod DataWords

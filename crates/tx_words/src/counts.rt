@@ -72,18 +72,6 @@ pub fn count_burst(tallies: &mut Vec<Tally>, word: Word)
     }
 }
 
-// Counts the bursts of more words.
-pub fn count_block(tallies: &mut Vec<Tally>, words: &[Word])
-    requires long { vec_len tallies.old ≡ 65536 }
-    requires few { (before : List SentWord) × AreTallies (λ c. first_tally (bursts_in before c)) tallies.old.items × (length before + length words.now < 2 ^ 63) }
-    ensures long { vec_len tallies.new ≡ 65536 }
-    ensures bursts { (before : List SentWord) → AreTallies (λ c. first_tally (bursts_in before c)) tallies.old.items → AreTallies (λ c. first_tally (bursts_in (before ++ words.now) c)) tallies.new.items }
-{
-    for place in 0..words.len() {
-        count_burst(tallies, words[place]);
-    }
-}
-
 // A tally for each number of a channel, of the channel's bursts among these words.
 fn count_bursts(alloc: Global, words: &WordList) -> Result<Vec<Tally>, OutOfMemory>
     ensures len { IfOk result (λ tallies. vec_len tallies ≡ 65536) }

@@ -1,5 +1,6 @@
-ghost use Rattle.std.specs.Prelude.{◌≡◌, ℕ, ◌+◌, ◌^◌, ◌<◌, ◌≤◌, List, [], ◌∷◌, ◌++◌, length, count_by, take, true, Some, IfOk, IfSome, OnOk, OnErr};
+ghost use Rattle.std.specs.Prelude.{◌≡◌, ℕ, ◌+◌, ◌^◌, ◌<◌, ◌≤◌, List, [], ◌∷◌, ◌++◌, length, map, count_by, take, true, Some, IfOk, IfSome, OnOk, OnErr};
 ghost use Rattle.lk_base.specs.declared.word.Word.{Word};
+ghost use Rattle.lk_base.specs.declared.word.Word.TheVariants.{Data};
 ghost use Rattle.tx_words.specs.Sent.{ends, last_channel, starts, starts_on};
 ghost use Rattle.tx_words.specs.Places.{Half, Stands, start_channel as channel_of_start};
 
@@ -168,6 +169,15 @@ impl SentList {
         );
         self.last = channel_after(self.last, word);
         self.slot += 1;
+    }
+
+    /// Takes the next `count` words, which are data words, as `pass` takes each. Fewer than 2^63 words are made then.
+    #[inline]
+    pub fn pass_data(&mut self, count: usize)
+        requires { (p : List Word) × (room : ℕ) × Lists self.old p room × (length p + count < 2 ^ 63) }
+        ensures { (p : List Word) (numbers : List ℕ) (room : ℕ) → Lists self.old p room → length numbers ≡ count → Lists self.new (p ++ map Data numbers) room }
+    {
+        self.slot += count as u64;
     }
 
     /// The next words are made, one after another, as `pass` takes each.

@@ -1,16 +1,17 @@
-ghost use Rattle.std.specs.Prelude.{◌≡◌, ◌↔◌, ℕ, ◌<◌, ◌≤◌, List, [], ◌∷◌, ◌++◌, take, drop, length, Some, None, IfOk};
+ghost use Rattle.std.specs.Prelude.{◌≡◌, ◌↔◌, ℕ, ◌≤◌, List, [], ◌∷◌, ◌++◌, map, length, Some, None, IfOk};
 ghost use Rattle.stream_model.specs.BurstStream.{Source, IsBurstStream, IsHeld};
 ghost use Rattle.lk_base.specs.declared.word.Word.{Word as SentWord};
+ghost use Rattle.lk_base.specs.declared.word.Word.TheVariants.{Data};
 ghost use Rattle.tx_words.specs.Counts.{AreCounts};
 ghost use Rattle.tx_words.specs.Sources.{IsHeldOn};
 
-use crate::counts::{SentCount, Tally, count_block, count_bursts_by, no_tallies};
+use crate::counts::{SentCount, Tally, count_burst, count_bursts_by, no_tallies};
 use crate::source::StreamSource;
 use crate::word_maker::WordMaker;
 use lk_base::{OutOfMemory, Word};
 use std::alloc::Global;
 
-/// The words of a payload stream as they are made, a block at a time. Its packets and rows are lent.
+/// The words of a payload stream as they are made, a run of data words or a word at a time. Its packets and rows are lent.
 #[derive(Drop)]
 pub struct StreamWords<'a> {
     maker: WordMaker<'a>,
@@ -19,7 +20,7 @@ pub struct StreamWords<'a> {
 }
 
 impl<'a> StreamWords<'a> {
-    ghost use Rattle.tx_words.specs.Streaming.{Streams};
+    ghost use Rattle.tx_words.specs.Streaming.{HasStreamedData, Streams, last_streamed};
 
     /// No word was made yet.
     ///
@@ -34,19 +35,42 @@ impl<'a> StreamWords<'a> {
         Ok(StreamWords { maker, tallies })
     }
 
-    /// Makes the next words, as many as the block has places, and answers how many they are: fewer only where the last word of
-    /// the stream is made. They stand in the first places, and the other places stay as they are.
-    pub fn next_block(&mut self, block: &mut [Word]) -> usize
+    /// Makes the next data words of the burst under way, up to the slot of the next row, and returns how many: at most `most`.
+    /// `last_data` lends their numbers.
+    #[inline]
+    pub fn next_data(&mut self, most: usize) -> usize
         requires { (source : Source) × (words : List SentWord) × Streams self.old source words }
-        ensures given { (source : Source) (words : List SentWord) → Streams self.old source words → Streams self.new source (words ++ take result block.new) }
-        ensures whole { (source : Source) (words : List SentWord) → Streams self.old source words → result < length block.old → IsBurstStream source (words ++ take result block.new) }
-        ensures within { result ≤ length block.old }
-        ensures rest { drop result block.new ≡ drop result block.old }
-        ensures long { length block.new ≡ length block.old }
+        ensures given { (source : Source) (words : List SentWord) → Streams self.old source words → Streams self.new source (words ++ map Data (last_streamed self.new result)) }
+        ensures within { result ≤ most }
+        ensures lent { HasStreamedData self.new result }
     {
-        let count = self.maker.next_block(block);
-        count_block(&mut self.tallies, &block[..count]);
-        count
+        // data words are no bursts
+        self.maker.next_data(most)
+    }
+
+    /// Lends the numbers of the last `count` words made, which are data words of one burst, as `next_data` counts them.
+    #[inline]
+    pub fn last_data(&self, count: usize) -> &[u64]
+        requires { HasStreamedData self.now count }
+        ensures numbers { result.now ≡ last_streamed self.now count }
+        ensures count { length result.now ≡ count }
+    {
+        self.maker.last_data(count)
+    }
+
+    /// Makes the next word, and returns it: `None` if and only if the last was made.
+    pub fn next(&mut self) -> Option<Word>
+        requires { (source : Source) × (words : List SentWord) × Streams self.old source words }
+        ensures some { (source : Source) (words : List SentWord) (word : SentWord) → Streams self.old source words → result ≡ Some word → Streams self.new source (words ++ word ∷ []) }
+        ensures none { (source : Source) (words : List SentWord) → Streams self.old source words → result ≡ None → Streams self.new source words × IsBurstStream source words }
+    {
+        match self.maker.next() {
+            Some(word) => {
+                count_burst(&mut self.tallies, word);
+                Some(word)
+            }
+            None => None,
+        }
     }
 
     /// The channel that holds the stream, also while words are still made. Once the whole stream is made, `None` exactly where

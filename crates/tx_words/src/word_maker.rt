@@ -1,6 +1,7 @@
-ghost use Rattle.std.specs.Prelude.{◌≡◌, ◌↔◌, ◌<◌, ◌≤◌, ℕ, List, [], ◌∷◌, ◌++◌, true, false, take, drop, length, Some, None, IfOk};
+ghost use Rattle.std.specs.Prelude.{◌≡◌, ◌↔◌, ◌<◌, ◌≤◌, ℕ, List, [], ◌∷◌, ◌++◌, true, false, map, take, drop, length, Some, None, IfOk};
 ghost use Rattle.stream_model.specs.BurstStream.{Source, IsBurstStream, IsHeld};
 ghost use Rattle.lk_base.specs.declared.word.Word.{Word as SentWord};
+ghost use Rattle.lk_base.specs.declared.word.Word.TheVariants.{Data};
 ghost use Rattle.burst_scheduler.specs.Gives.{Gives};
 ghost use Rattle.tx_words.specs.Driving.{driven};
 ghost use Rattle.tx_words.specs.Sources.{IsHeldOn};
@@ -34,8 +35,21 @@ fn loaded<'a>(alloc: Global, source: &StreamSource<'a>) -> Result<Scheduler<'a>,
     Ok(scheduler)
 }
 
+// Writes data words of these numbers into the first places of `out`. The other places stay as they are.
+#[tactic(auto, using(crate::proofs::BlockWords::map_take_more, burst_scheduler::proofs::Lists::take_set, crate::proofs::BlockWords::drop_set))]
+fn write_data(out: &mut [Word], numbers: &[u64])
+    requires room { length numbers.now ≤ length out.old }
+    ensures words { take (length numbers.now) out.new ≡ map Data numbers.now }
+    ensures rest { drop (length numbers.now) out.new ≡ drop (length numbers.now) out.old }
+    ensures long { length out.new ≡ length out.old }
+{
+    for place in 0..numbers.len() {
+        out[place] = Word::Data(numbers[place]);
+    }
+}
+
 impl<'a> WordMaker<'a> {
-    ghost use Rattle.tx_words.specs.Making.{GaveWords};
+    ghost use Rattle.tx_words.specs.Making.{GaveWords, HasMadeData, last_made};
 
     /// No word was made yet.
     ///
@@ -55,8 +69,9 @@ impl<'a> WordMaker<'a> {
         })
     }
 
-    // The next word, before which the rows of its slot are passed, the local ones first; `None` exactly after the last.
-    fn next(&mut self) -> Option<Word>
+    /// Makes the next word, and returns it: `None` if and only if the last was made. The rows of its slot are passed before, the
+    /// local ones first.
+    pub fn next(&mut self) -> Option<Word>
         requires { (source : Source) × (words : List SentWord) × GaveWords self.old source words }
         ensures some { (source : Source) (words : List SentWord) (word : SentWord) → GaveWords self.old source words → result ≡ Some word → GaveWords self.new source (words ++ word ∷ []) }
         ensures none { (source : Source) (words : List SentWord) → GaveWords self.old source words → result ≡ None → GaveWords self.new source words × IsBurstStream source words }
@@ -67,8 +82,34 @@ impl<'a> WordMaker<'a> {
         self.scheduler.step(self.flow_passed < self.flow.len())
     }
 
-    // The next data words of the burst under way, up to the slot of the next row. They stand in the first places of the block,
-    // whose other places stay as they are, and the answer counts them.
+    /// Makes the next data words of the burst under way, up to the slot of the next row, and returns how many: at most `most`.
+    /// `last_data` lends their numbers.
+    #[inline]
+    pub fn next_data(&mut self, most: usize) -> usize
+        requires { (source : Source) × (words : List SentWord) × GaveWords self.old source words }
+        ensures given { (source : Source) (words : List SentWord) → GaveWords self.old source words → GaveWords self.new source (words ++ map Data (last_made self.new result)) }
+        ensures within { result ≤ most }
+        ensures lent { HasMadeData self.new result }
+    {
+        let slot = self.scheduler.slot();
+        let local = before_local(self.local, self.local_passed, slot);
+        let flow = before_flow(self.flow, self.flow_passed, slot);
+        let room = local.min(flow).min(most as u64) as usize;
+        self.scheduler.next_data(room)
+    }
+
+    /// Lends the numbers of the last `count` words made, which are data words of one burst, as `next_data` counts them.
+    #[inline]
+    pub fn last_data(&self, count: usize) -> &[u64]
+        requires { HasMadeData self.now count }
+        ensures numbers { result.now ≡ last_made self.now count }
+        ensures count { length result.now ≡ count }
+    {
+        self.scheduler.last_data(count)
+    }
+
+    // Makes the next data words of the burst under way, as `next_data` makes them, and returns how many. They stand in the first places
+    // of the block, whose other places stay as they are.
     fn data_run(&mut self, block: &mut [Word]) -> usize
         requires { (source : Source) × (words : List SentWord) × GaveWords self.old source words }
         ensures given { (source : Source) (words : List SentWord) → GaveWords self.old source words → GaveWords self.new source (words ++ take result block.new) }
@@ -76,11 +117,9 @@ impl<'a> WordMaker<'a> {
         ensures rest { drop result block.new ≡ drop result block.old }
         ensures long { length block.new ≡ length block.old }
     {
-        let slot = self.scheduler.slot();
-        let local = before_local(self.local, self.local_passed, slot);
-        let flow = before_flow(self.flow, self.flow_passed, slot);
-        let room = local.min(flow).min(block.len() as u64) as usize;
-        self.scheduler.data_run(&mut block[..room])
+        let count = self.next_data(block.len());
+        write_data(block, self.last_data(count));
+        count
     }
 
     // The next words, one or more: the data words of the burst under way, or the one next word. None exactly after the last.

@@ -1,5 +1,5 @@
 -- The words of as many numbers as marks.
-use Rattle.std.proofs.Common.{ℕ, zero, suc, ◌≡◌, refl, sym, ap, ap₂, ◌∙◌, ◌<◌, Bool, List, [], ◌∷◌, ◌++◌, length, map, get_or, Result, Ok, Err, OnOk, arith}
+use Rattle.std.proofs.Common.{ℕ, zero, suc, ◌≡◌, refl, sym, ap, ap₂, ◌∙◌, ◌<◌, Bool, false, List, [], ◌∷◌, ◌++◌, length, map, replicate, get_or, Result, Ok, Err, OnOk, arith}
 use Rattle.lk_base.specs.declared.word.Word.{Word}
 use Rattle.lk_base.specs.declared.word.Word.TheVariants.{Data, Control}
 use Rattle.lk_base.specs.Words.{is_control, payload, word_at}
@@ -57,3 +57,13 @@ words_of-more (y ∷ xs) (n ∷ ms) ws e = ap (λ vs. word_of y n ∷ vs) (words
 -- a list after more words
 pub extended : (xs ys : List ℕ) (ms ns : List Bool) (ws more : List Word) → words_of xs ms ≡ ws → length ms ≡ length xs → ys ≡ xs ++ map payload more → ns ≡ ms ++ map is_control more → words_of ys ns ≡ ws ++ more
 extended xs ys ms ns ws more is e p q = ap₂ words_of p q ∙ words_of-more xs ms more e ∙ ap (λ vs. vs ++ more) is
+
+-- data words more: as many marks that say so
+data_parts : (xs : List ℕ) → (map payload (map Data xs) ≡ xs) × (map is_control (map Data xs) ≡ replicate (length xs) false)
+data_parts [] = (refl, refl)
+data_parts (x ∷ xs) = let k = data_parts xs in (ap (λ ys. x ∷ ys) k.0, ap (λ ms. false ∷ ms) k.1)
+
+pub extended_by_data : (xs ys : List ℕ) (ms ns : List Bool) (ws : List Word) (more : List ℕ) → words_of xs ms ≡ ws → length ms ≡ length xs → ys ≡ xs ++ more → ns ≡ ms ++ replicate (length more) false → words_of ys ns ≡ ws ++ map Data more
+extended_by_data xs ys ms ns ws more is e p q =
+    let k = data_parts more in
+    extended xs ys ms ns ws (map Data more) is e (p ∙ ap (λ zs. xs ++ zs) (sym k.0)) (q ∙ ap (λ zs. ms ++ zs) (sym k.1))

@@ -1,5 +1,6 @@
-ghost use Rattle.std.specs.Prelude.{◌≡◌, ◌==◌, ◌+◌, ◌<◌, ◌≤◌, ◌^◌, ◌++◌, ◌∷◌, [], drop, length, map, take, vec_capacity, vec_len, OnOk, OnErr};
+ghost use Rattle.std.specs.Prelude.{◌≡◌, ◌==◌, ◌+◌, ◌<◌, ◌≤◌, ◌^◌, ◌++◌, ◌∷◌, [], drop, false, length, map, replicate, take, vec_capacity, vec_len, OnOk, OnErr};
 ghost use Rattle.lk_base.specs.Words.{is_control, payload, word_at};
+ghost use Rattle.lk_base.specs.declared.word.Word.TheVariants.{Data};
 ghost use Rattle.word_list.specs.Parts.{word_of, words_of};
 
 use lk_base::{OutOfMemory, Word};
@@ -70,6 +71,21 @@ fn push_all(numbers: &mut Vec<u64>, controls: &mut Vec<bool>, words: &[Word])
     }
 }
 
+// Puts these numbers after the others, and as many kinds of data words, for which there is room.
+fn push_data(numbers: &mut Vec<u64>, controls: &mut Vec<bool>, more: &[u64])
+    requires numbers { vec_len numbers.old + length more.now ≤ vec_capacity numbers.old }
+    requires controls { vec_len controls.old + length more.now ≤ vec_capacity controls.old }
+    ensures numbers { numbers.new.items ≡ numbers.old.items ++ more.now }
+    ensures controls { controls.new.items ≡ controls.old.items ++ replicate (length more.now) false }
+{
+    let Ok(()) = numbers.extend_from_slice(more) else {
+        unreachable!()
+    };
+    let Ok(()) = controls.resize(controls.len() + more.len(), false) else {
+        unreachable!()
+    };
+}
+
 // Copies the words of these numbers and kinds into the block, from number `first` on.
 fn read_parts(numbers: &[u64], controls: &[bool], first: usize, block: &mut [Word])
     requires parts { length controls.now ≡ length numbers.now }
@@ -121,6 +137,21 @@ impl WordList {
         self.numbers.reserve(words.len())?;
         self.controls.reserve(words.len())?;
         push_all(&mut self.numbers, &mut self.controls, words);
+        Ok(())
+    }
+
+    /// Puts data words of these numbers after the others, as a `push` of each would. After `OutOfMemory` the list is as it was.
+    ///
+    /// # Errors
+    ///
+    /// `OutOfMemory` if memory ran out, and only then.
+    pub fn extend_data(&mut self, numbers: &[u64]) -> Result<(), OutOfMemory>
+        ensures ok { OnOk result (self.new ≡ self.old ++ map Data numbers.now) }
+        ensures err { OnErr result (self.new ≡ self.old) }
+    {
+        self.numbers.reserve(numbers.len())?;
+        self.controls.reserve(numbers.len())?;
+        push_data(&mut self.numbers, &mut self.controls, numbers);
         Ok(())
     }
 

@@ -3,11 +3,9 @@ use Rattle.stream_commands.proofs.words_maker.WordsMaker.new.Goals as goal
 
 pub returns-clause-fresh : goal.returns-clause-fresh
 returns-clause-fresh c =
-    let n = c.in_ok-block.ensures.len in
     let m = c.in_ok-bytes.ensures.len in
     record {
-      room = omega (arith, n);
-      wide = omega (arith, n, m);
+      room = omega (arith, m);
       maker = c.in_ok-words.words;
       there = refl;
       made = [];

@@ -1,6 +1,6 @@
 use Rattle.std.proofs.Common.{◌≡◌, length, map, take, drop}
 use Rattle.lk_base.specs.declared.word.Word.TheVariants.{Data}
-use Rattle.burst_scheduler.proofs.scheduler.write_data.Given as goal
+use Rattle.tx_words.proofs.word_maker.write_data.Given as goal
 
 -- the first data words are there, and the places after all of them are untouched
 abbrev pub invariant-loop-place : goal.invariant-loop-place
