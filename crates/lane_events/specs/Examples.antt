@@ -3,17 +3,14 @@ use Rattle.std.specs.Prelude.{ℕ, ◌≡◌, Bool, List, [], ◌∷◌, Some, N
 use Rattle.lane_model.specs.Examples.{short_link}
 use Rattle.lock_model.specs.declared.types.LostWhy.TheVariants as whys
 use Rattle.lock_model.specs.LossExamples.{illegal_from, no_state, row_bits, zeros_at}
-use Rattle.lane_events.specs.declared.types.EventKind.{EventKind}
 use Rattle.lane_events.specs.declared.types.EventKind.TheVariants as kinds
 use Rattle.lane_events.specs.declared.types.LaneEvent.{LaneEvent}
 use Rattle.lane_events.specs.Events.{attempt_events, word_events}
+use Rattle.lane_events.specs.Steps.{event_of as event}
 
 -- the events of word r after a declaring Sync at word 96
 abbrev pub events_at : List Bool → ℕ → List LaneEvent
 events_at bits r = word_events short_link bits 6432 r
-
-abbrev pub event : ℕ → EventKind → LaneEvent
-event bit kind = record { bit = bit; kind = kind }
 
 pub record WorkedEvents : Type 0 where
   -- the declaring Sync, and the Scrambler State word after it
