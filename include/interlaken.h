@@ -132,9 +132,9 @@ extern "C" {
 
 /* The version of the program, the library and the formats of files. The shared library has the
  * first number in its name. */
-#define INTERLAKEN_VERSION "1.5.0"
+#define INTERLAKEN_VERSION "1.6.0"
 #define INTERLAKEN_VERSION_MAJOR 1
-#define INTERLAKEN_VERSION_MINOR 5
+#define INTERLAKEN_VERSION_MINOR 6
 #define INTERLAKEN_VERSION_PATCH 0
 
 /* The results of calls. */

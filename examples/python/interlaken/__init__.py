@@ -484,6 +484,7 @@ _RECEIVER_CALLS = {
     "new": (_handle, ctypes.c_char_p, _size, ctypes.POINTER(_Refusal)),
     "free": (_handle,),
     "feed": (_handle, _u32, ctypes.c_char_p, _size, ctypes.POINTER(_size)),
+    "feed_bits": (_handle, _u32, _u64, _u32, ctypes.POINTER(_u32)),
     "finish": (_handle, _u32),
     "next": (_handle, ctypes.POINTER(_Event)),
     "read": (_handle, _u32, ctypes.c_char_p, _size, ctypes.POINTER(_size)),
@@ -498,6 +499,7 @@ _TRANSMITTER_CALLS = {
     "flow": (_handle, _u64),
     "local": (_handle, ctypes.c_uint16, _u32),
     "take": (_handle, _u32, ctypes.c_char_p, _size, ctypes.POINTER(_size)),
+    "take_bits": (_handle, _u32, _u32, ctypes.POINTER(_u64), ctypes.POINTER(_u32)),
     "finish": (_handle,),
     "close": (_handle,),
     "sent": (_handle, ctypes.c_uint16, ctypes.POINTER(_Counts)),
@@ -694,10 +696,6 @@ class _Bits:
         """Adds bits at the end."""
         self.value, self.count = self.value << count | bits, self.count + count
 
-    def whole_bytes(self) -> bytes:
-        """The first of them, as far as they fill bytes."""
-        return (self.value >> self.count % 8).to_bytes(self.count // 8, "big")
-
     def drop(self, count: int) -> int:
         """Takes the first `count` away, and gives their number."""
         self.count -= count
@@ -705,14 +703,18 @@ class _Bits:
         self.value &= (1 << self.count) - 1
         return first
 
-    def push(self, feed: Callable[[bytes], int]) -> bool:
-        """Feeds the whole bytes that wait, by a call that returns how many it took: whether it took all."""
-        if self.count >= 8:
-            self.drop(8 * feed(self.whole_bytes()))
-        return self.count < 8
+    def push(self, feed: Callable[[int, int], int]) -> bool:
+        """Feeds the bits that wait, 64 at once, by a call that returns how many it took: whether it took all."""
+        while self.count > 0:
+            count = min(self.count, 64)
+            taken = feed(self.value >> self.count - count, count)
+            self.drop(taken)
+            if taken < count:
+                return False
+        return True
 
-    def feed(self, bits: int, count: int, feed: Callable[[bytes], int]) -> bool:
-        """Adds bits, and feeds what fills bytes. False if earlier bytes wait: then no bit was added."""
+    def feed(self, bits: int, count: int, feed: Callable[[int, int], int]) -> bool:
+        """Adds bits, and feeds them. False if earlier bits wait: then no bit was added."""
         if not self.push(feed):
             return False
         self.put(bits, count)
@@ -730,33 +732,35 @@ class Receiver(_OfPlan):
 
     def feed(self, lane: int, data: bytes) -> int:
         """Feeds a lane with the next of its bytes, as many as its ring of 4,096 bytes has room for, and returns how many. It raises
-        ValueError where bits of `feed_bits` wait."""
-        if lane in self._bits and self._bits[lane].count > 0:
-            raise ValueError("bits of lane %d wait" % lane)
-        return self._feed(lane, data)
-
-    def _feed(self, lane: int, data: bytes) -> int:
+        ValueError if bits of `feed_bits` wait."""
         taken = _size()
+        if lane in self._bits and self._bits[lane].count > 0 or self._result("feed", _lane(lane), data, 0, taken) == Result.PART_BYTE:
+            raise ValueError("bits of lane %d wait" % lane)
         self._call("feed", _lane(lane), data, len(data), taken)
         return taken.value
 
+    def _feed_bits(self, lane: int, bits: int, count: int) -> int:
+        taken = _u32()
+        self._call("feed_bits", _lane(lane), bits & (1 << 64) - 1, count, taken)
+        return taken.value
+
     def feed_bits(self, lane: int, bits: int, count: int) -> bool:
-        """Feeds a lane with its next `count` bits: those of a number, the highest first. The receiver works in bytes, so up to seven bits
-        wait for the next. False where the ring of the lane has no room: then nothing was taken; take events and feed these again."""
+        """Feeds a lane with its next `count` bits: those of a number, the highest first. False if the ring of the lane has no room: then
+        nothing was taken; take events and feed these again."""
         _within(bits, _within(count, 63, "count"), "number of %d bits" % count)
-        self._feed(lane, b"")  # what is misused raises before bits are kept
-        return self._bits.setdefault(lane, _Bits()).feed(bits, count, lambda data: self._feed(lane, data))
+        self._feed_bits(lane, 0, 0)  # what is misused raises before bits are kept
+        return self._bits.setdefault(lane, _Bits()).feed(bits, count, lambda bits, count: self._feed_bits(lane, bits, count))
 
     def finish(self, lane: int) -> None:
-        """No further byte of this lane comes. Bits that wait are filled up with zeros; where there is no room for them it raises
-        ValueError, and the lane is not finished: take events first."""
-        waiting = self._bits.get(lane, _Bits())
-        if waiting.count > 0 and not waiting.push(lambda data: self._feed(lane, data)):
-            raise ValueError("bytes of lane %d wait" % lane)
-        if waiting.count > 0 and self._feed(lane, bytes([waiting.value << 8 - waiting.count])) != 1:
-            raise ValueError("bits of lane %d wait" % lane)
-        waiting.drop(waiting.count)
-        self._call("finish", _lane(lane))
+        """No further byte of this lane comes. Its last byte is filled up with zeros. If there is no room for it, it raises ValueError, and the
+        lane is not finished: take events first."""
+        waiting = self._bits.setdefault(lane, _Bits())
+        while waiting.push(lambda bits, count: self._feed_bits(lane, bits, count)):
+            result = self._result("finish", _lane(lane))
+            if result != Result.PART_BYTE:
+                return _check(result)
+            waiting.put(0, 1)
+        raise ValueError("bits of lane %d wait" % lane)
 
     def next(self) -> Optional[Event]:
         """The next event; None where there is none so far, and after the end. Events of kinds that are not known here are passed over. An
@@ -853,15 +857,17 @@ class Transmitter(_OfPlan):
 
     def take(self, lane: int, count: int) -> bytes:
         """The next bytes of a lane, at most so many: fewer where 4,088 bytes of another lane wait, or where more than 4,088 are asked for;
-        none after the end. It raises ValueError where bits of `take_bits` wait."""
-        if lane in self._bits and self._bits[lane].count > 0:
-            raise ValueError("bits of lane %d wait" % lane)
-        return self._take(lane, count)
-
-    def _take(self, lane: int, count: int) -> bytes:
+        none after the end. It raises ValueError if bits of `take_bits` wait."""
         data, taken = ctypes.create_string_buffer(max(_within(count, 63, "count"), 1)), _size()
+        if lane in self._bits and self._bits[lane].count > 0 or self._result("take", _lane(lane), data, 0, taken) == Result.PART_BYTE:
+            raise ValueError("bits of lane %d wait" % lane)
         self._call("take", _lane(lane), data, count, taken)
         return data.raw[: taken.value]
+
+    def _take_bits(self, lane: int, count: int) -> tuple[int, int]:
+        bits, taken = _u64(), _u32()
+        self._call("take_bits", _lane(lane), count, bits, taken)
+        return bits.value, taken.value
 
     def close_packets(self) -> None:
         """No further packet comes; `flow` and `local` still count. Go on until `status` has no packet left, then `finish`. (`close` frees
@@ -870,13 +876,16 @@ class Transmitter(_OfPlan):
 
     def take_bits(self, lane: int, count: int) -> Optional[int]:
         """The next `count` bits of a lane as a number, the first highest. None where there are not so many, as after the end: then none was
-        taken. What is left of a byte waits for the next call."""
-        _within(count, 63, "count")
-        self._take(lane, 0)
+        taken. What was made of them waits for the next call."""
+        wanted = _within(count, 63, "count")
+        self._take_bits(lane, 0)
         waiting = self._bits.setdefault(lane, _Bits())
-        for byte in self._take(lane, max(count - waiting.count + 7, 0) // 8):
-            waiting.put(byte, 8)
-        return waiting.drop(count) if waiting.count >= count else None
+        while waiting.count < wanted:
+            bits, taken = self._take_bits(lane, min(wanted - waiting.count, 64))
+            waiting.put(bits, taken)
+            if taken == 0:
+                return None
+        return waiting.drop(count)
 
     def finish(self) -> None:
         """No further packet and no further row comes: what may be sent is sent, and then the lanes end."""
