@@ -170,4 +170,4 @@ some_case_linked number prefix =
     let source : Source = record { shape = shape; channels = channels_in_order (numbers_in i.reading.plan); entries = i.reading.plan.entries; packets = i.reading.inputs.packets; flow = []; local = [] } in
     let of : IsSourceOf i.reading.plan i.reading.inputs source = record { shape = is; channels = refl; entries = refl; packets = refl; flow = refl; local = refl } in
     let (w, stream) = of_fitting source (all_wide (channels_in_order (numbers_in i.reading.plan)) (case_numbers prefix number)) (λ k d lt. (case_packets number k d lt).bytes) in
-    some_linked i link (drawn.case-fits number).marks.each_lane source of w stream
+    some_linked i link (drawn.case-fits number).marks.each_lane source of (λ k d lt. (case_packets number k d lt).bytes) w stream

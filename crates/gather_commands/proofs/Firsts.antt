@@ -13,9 +13,9 @@ use Rattle.rx_front.specs.Standing.{AtRound, Drained, Progress}
 use Rattle.rx_front.specs.States.{State}
 use Rattle.rx_front.proofs.Known.{clock_in, rounds_in, taken_first, unready, words_taken}
 use Rattle.run_stops.specs.declared.stop.Stop.{Stop}
-use Rattle.word_gatherer.specs.declared.gathered.Gathered.{Gathered}
+use Rattle.gather_commands.specs.declared.gathered.Gathered.{Gathered}
 use Rattle.gather_commands.specs.declared.gatherer.Gatherer.{Gatherer}
-use Rattle.word_gatherer.specs.Growing.{IsCutShort, IsGathered}
+use Rattle.gather_commands.specs.Growing.{IsCutShort, IsGathered}
 use Rattle.gather_commands.specs.Taking.{ComeFirst, HasShown, HasTaken, IsCutOff}
 
 as_many : (fed more : List Fed) → AllGo fed more → length fed ≡ length more

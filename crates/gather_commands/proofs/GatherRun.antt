@@ -34,11 +34,11 @@ use Rattle.receive_commands.specs.ReadLanes.{AreFileLanes, IsFresh}
 use Rattle.receive_commands.proofs.ReceiveRun.{begins}
 use Rattle.receive_commands.proofs.Receives.{fills_more}
 use Rattle.gather_commands.specs.declared.gatherer.Gatherer.{Gatherer}
-use Rattle.word_gatherer.specs.Table.{gathered_contents, gathered_names, gathered_outcome}
-use Rattle.word_gatherer.specs.Growing.{IsCutShort}
+use Rattle.gather_commands.specs.Table.{gathered_contents, gathered_names, gathered_outcome}
+use Rattle.gather_commands.specs.Growing.{IsCutShort}
 use Rattle.lane_words.specs.Items.{AreAllItems}
 use Rattle.gather_commands.specs.Taking.{IsGathering}
-use Rattle.word_gatherer.proofs.Stops.{items_part}
+use Rattle.gather_commands.proofs.Stops.{items_part}
 use Rattle.gather_commands.specs.Gather.{IsGathered}
 use Rattle.gather_commands.specs.Lanes.{AllTaken, IsBroken}
 use Rattle.gather_commands.proofs.Gathers.{all_come, all_reported, one_gathered}

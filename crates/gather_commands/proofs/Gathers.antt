@@ -23,7 +23,7 @@ use Rattle.lane_receipts.proofs.Reports.{reports_are, same_reports, some_reports
 use Rattle.receive_commands.specs.Receive.{PlanLanes}
 use Rattle.receive_commands.proofs.Receives.{link_read}
 use Rattle.gather_commands.specs.declared.gatherer.Gatherer.{Gatherer}
-use Rattle.word_gatherer.specs.Table.{gathered_outcome}
+use Rattle.gather_commands.specs.Table.{gathered_outcome}
 use Rattle.lane_words.specs.Items.{AreAllItems}
 use Rattle.gather_commands.specs.Taking.{HasTaken}
 use Rattle.gather_commands.specs.Gather.{IsGathered, gather_meaning, gather_work}

@@ -24,7 +24,7 @@ use Rattle.lane_words.specs.Gathered.{gathered_words, places}
 use Rattle.lane_words.specs.WordsFile.{rx_words_file}
 use Rattle.lane_words.proofs.GivenBack.{lanes_are_given_back}
 use Rattle.link_reports.specs.Table.{span_table}
-use Rattle.word_gatherer.specs.Table.{places_name, places_table}
+use Rattle.gather_commands.specs.Table.{places_name, places_table}
 use Rattle.gather_commands.specs.Gather.{IsGathered}
 use Rattle.gather_commands.specs.JoinLaw.{HaveSameCaptures, JoinDeliversAsReceive}
 

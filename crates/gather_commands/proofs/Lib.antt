@@ -1,6 +1,11 @@
 -- What other crates cite.
 pub mod Gathers
 -- What this crate alone cites.
+mod Stops
+mod Tables
+mod Examples
+mod Gathering
+mod Finishing
 mod Firsts
 mod Takings
 mod Fed

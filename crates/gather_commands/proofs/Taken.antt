@@ -16,13 +16,13 @@ use Rattle.lane_receipts.specs.Feeding.{IsLeastOpen, IsLeastOrNone, fed_next, of
 use Rattle.lane_receipts.specs.Taking.{AreAsBefore, IsPieceAt}
 use Rattle.lane_receipts.proofs.FedLanes.{next_offset}
 use Rattle.lane_receipts.proofs.TakenLanes.{next_begin, widened}
-use Rattle.word_gatherer.specs.declared.gathered.Gathered.{Gathered}
+use Rattle.gather_commands.specs.declared.gathered.Gathered.{Gathered}
 use Rattle.gather_commands.specs.declared.gatherer.Gatherer.{Gatherer}
-use Rattle.word_gatherer.specs.Table.{gathered_names}
-use Rattle.word_gatherer.specs.Growing.{IsGathered}
+use Rattle.gather_commands.specs.Table.{gathered_names}
+use Rattle.gather_commands.specs.Growing.{IsGathered}
 use Rattle.gather_commands.specs.Taking.{HasTaken, IsCutOff, IsGathering}
 use Rattle.gather_commands.proofs.Firsts.{items_come_first}
-use Rattle.word_gatherer.proofs.Stops.{gathered_part}
+use Rattle.gather_commands.proofs.Stops.{gathered_part}
 use Rattle.gather_commands.specs.Lanes.{AllTaken, IsBroken, IsFeeding}
 use Rattle.gather_commands.proofs.Fed.{counted, lanes_over, unfinished}
 

@@ -13,9 +13,9 @@ use Rattle.rx_front.specs.Standing.{GivesItem, Progress}
 use Rattle.rx_front.specs.States.{State}
 use Rattle.rx_front.specs.Waiting.{words_in}
 use Rattle.run_stops.specs.declared.stop.Stop.{Stop}
-use Rattle.word_gatherer.specs.declared.gathered.Gathered.{Gathered}
+use Rattle.gather_commands.specs.declared.gathered.Gathered.{Gathered}
 use Rattle.gather_commands.specs.declared.gatherer.Gatherer.{Gatherer}
-use Rattle.word_gatherer.specs.Growing.{IsCutShort, IsGathered}
+use Rattle.gather_commands.specs.Growing.{IsCutShort, IsGathered}
 use Rattle.gather_commands.specs.Taking.{ComeFirst, HasShown, IsCutOff, IsGathering, TakesNext}
 use Rattle.gather_commands.proofs.Firsts.{cut_off, items_come_first, words_come_first}
 

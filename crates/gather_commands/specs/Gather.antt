@@ -8,7 +8,7 @@ use Rattle.run_shell.specs.Meaning.{Meaning}
 use Rattle.run_shell.specs.Work.{Work, meaning_by}
 use Rattle.lane_receipts.specs.LaneReports.{AreLaneReports, lane_lines}
 use Rattle.receive_commands.specs.Receive.{PlanLanes, lanes_work}
-use Rattle.word_gatherer.specs.Table.{gathered_names, gathered_outcome}
+use Rattle.gather_commands.specs.Table.{gathered_names, gathered_outcome}
 use Rattle.lane_words.specs.Items.{AreAllItems}
 
 -- What the lanes of a plan come to: the words file of their words and the table of their places, and the lines of their reports

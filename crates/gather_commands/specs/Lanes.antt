@@ -17,7 +17,7 @@ use Rattle.run_shell.specs.Outputs.{outs}
 use Rattle.lane_receipts.specs.Feeding.{offset_of}
 use Rattle.lane_receipts.specs.LaneReports.{lane_lines}
 use Rattle.gather_commands.specs.declared.gatherer.Gatherer.{Gatherer}
-use Rattle.word_gatherer.specs.Table.{gathered_contents, gathered_names}
+use Rattle.gather_commands.specs.Table.{gathered_contents, gathered_names}
 use Rattle.lane_words.specs.Items.{AreAllItems}
 use Rattle.gather_commands.specs.Taking.{HasTaken}
 

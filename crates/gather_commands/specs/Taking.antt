@@ -11,7 +11,7 @@ use Rattle.rx_front.specs.Standing.{Progress}
 use Rattle.run_stops.specs.declared.stop.Stop.{Stop}
 use Rattle.lane_words.specs.Items.{AreAllItems}
 use Rattle.gather_commands.specs.declared.gatherer.Gatherer.{Gatherer}
-use Rattle.word_gatherer.specs.Growing.{IsCutShort, IsGathered}
+use Rattle.gather_commands.specs.Growing.{IsCutShort, IsGathered}
 
 -- this was fed of each lane, and these items were taken and gathered
 pub record IsGathering (out : List ℕ) (s : Settings) (fed : List Fed) (g : Gatherer) (was now : Option Files) : Type 0 where

@@ -9,7 +9,7 @@ ghost use Rattle.lane_receipts.specs.LaneReports.{names_of_lanes};
 ghost use Rattle.rx_front.specs.Calls.{nothing_fed};
 ghost use Rattle.receive_commands.specs.Receive.{lanes_in};
 ghost use Rattle.receive_commands.specs.ReadLanes.{AreBuffers, IsFresh};
-ghost use Rattle.word_gatherer.specs.Table.{gathered_names};
+ghost use Rattle.gather_commands.specs.Table.{gathered_names};
 ghost use Rattle.gather_commands.specs.Gather.{IsGathered};
 ghost use Rattle.gather_commands.specs.Taking.{IsGathering};
 

@@ -8,12 +8,12 @@ ghost use Rattle.rx_front.specs.Standing.{items_left, weight};
 ghost use Rattle.run_stops.specs.Stops.{StopCount};
 ghost use Rattle.gather_commands.specs.Taking.{Begins, IsGathering, HasShown, TakesAll, TakesNext, TakesShown, TakesSome};
 
+use crate::gathered::Gathered;
 use lk_base::Link;
 use lk_outside::Store;
 use run_stops::Stop;
 use rx_front::Front;
 use std::alloc::Global;
-use word_gatherer::Gathered;
 
 /// The front of a receiver of the lanes of a link, and what was gathered of the items that were taken of it. No item is kept.
 #[derive(Drop)]

@@ -1,6 +1,7 @@
 //! Laws on what `gather` makes.
 ghost use Rattle.gather_commands.specs.GatherLaws.{GatherIsWork, LanesDetermineGathered};
 ghost use Rattle.gather_commands.specs.JoinLaw.{JoinDeliversAsReceive};
+ghost use Rattle.gather_commands.specs.TableLaws.{WorkedTables};
 
 /// What is read for `gather` comes to one outcome; where the files hold bytes it comes to one; and no stream is held. The plan and
 /// the bytes of its lanes determine it.
@@ -16,4 +17,9 @@ pub fn gather_is_work()
 /// limit of words files.
 pub fn join_delivers_as_receive()
     ensures { JoinDeliversAsReceive }
+{}
+
+/// Worked examples: the table and the text of no item, and of two epochs.
+pub fn worked_examples()
+    ensures { WorkedTables }
 {}

@@ -2,10 +2,13 @@
 //! stand.
 #![tactic(auto)]
 
+mod files;
 mod gather;
+mod gathered;
 mod gatherer;
 mod lanes;
 pub mod laws;
 mod open_lanes;
+mod table;
 
 pub use gather::Gather;

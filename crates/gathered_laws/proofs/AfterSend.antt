@@ -26,7 +26,7 @@ use Rattle.stream_commands.specs.Outputs.{AreLaneOutputs}
 use Rattle.lane_receipts.specs.LaneReports.{names_of_lanes}
 use Rattle.receive_commands.specs.Receive.{PlanLanes, lanes_in, plan_lanes_in, with_lanes}
 use Rattle.gather_commands.specs.Gather.{IsGathered, gather_meaning}
-use Rattle.word_gatherer.specs.Table.{places_name, places_table}
+use Rattle.gather_commands.specs.Table.{places_name, places_table}
 use Rattle.gathered_laws.specs.AfterSend.{GatherAfterSend, ReadsLanes, later_words}
 use Rattle.gathered_laws.proofs.CleanLanes.{AreSized}
 use Rattle.gathered_laws.proofs.LanesRead.{as_written, many_read}

@@ -16,3 +16,4 @@ mod CheckGathered
 mod TwoLanes
 mod AfterSendHolds
 mod AfterStripeHolds
+mod JoinWhole

@@ -4,3 +4,4 @@ pub mod AfterSend
 pub mod AfterStripe
 pub mod AfterSendMet
 pub mod AfterStripeMet
+pub mod JoinWhole

@@ -2,6 +2,7 @@ ghost use Rattle.gathered_laws.specs.AfterSend.{CheckAfterGather, GatherAfterSen
 ghost use Rattle.gathered_laws.specs.AfterSendMet.{AfterSendMet};
 ghost use Rattle.gathered_laws.specs.AfterStripe.{GatherAfterStripe};
 ghost use Rattle.gathered_laws.specs.AfterStripeMet.{AfterStripeMet};
+ghost use Rattle.gathered_laws.specs.JoinWhole.{JoinReceivesWhole};
 
 /// What `gather` after `send` of one plan makes, whose inputs were accepted: the words file has the words of the stream from the fourth
 /// group on, and no other.
@@ -57,4 +58,18 @@ pub fn after_stripe_premises_are_met()
     link_commands::laws::premises_are_met();
     lane_commands::laws::striped_streams();
     gather_after_stripe();
+}
+
+/// Words of which `check` of a plan tells no fault are received whole by `join` of that plan. The capture of each listed channel has
+/// exactly the packets that begin with SOP at a Control word after the first and that the sender ended without an error, in order. The
+/// span table has no span but the outer ones. A packet is counted as dropped only if the words end before it does, or if the sender said
+/// that it is in error.
+pub fn join_receives_whole()
+    ensures { JoinReceivesWhole }
+{
+    // words without a fault are received whole
+    rule_laws::laws::whole_law();
+    rule_laws::laws::packets_law();
+    // the table of no fault is its heading
+    check_commands::laws::worked_examples();
 }

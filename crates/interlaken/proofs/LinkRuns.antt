@@ -37,22 +37,22 @@ module _ (words : List (List ℕ)) (status : Status) (u : Files) (x y : Option F
     }
 
   delivers_at : Delivers words u status x y
-  delivers_at bytes = of_links _ (λ name i stream o is s h none. delivers u name i stream o bytes is h none)
+  delivers_at = of_links _ (λ name i stream o is s h none. delivers u name i stream o is h none)
 
   clean_at : DeliversClean words u status x y
-  clean_at bytes = of_links _ (λ name i stream o is s h whole within. clean_delivers u name i stream o bytes is h whole within)
+  clean_at = of_links _ (λ name i stream o is s h whole within. clean_delivers u name i stream o is h whole within)
 
   sends_at : SendsAllPackets words u status x y
-  sends_at bytes = of_links _ (λ name i stream o is s h done. sends_all u name i stream o bytes is h (sym s ∙ done))
+  sends_at = of_links _ (λ name i stream o is s h done. sends_all u name i stream o is h (sym s ∙ done))
 
   lacks_at : HeldLacksAPacket words u status x y
   lacks_at = of_links _ (λ name i stream o is s h held. lacks_a_packet i stream o h (sym s ∙ held))
 
   narrow_at : SpansAreNarrow words u status x y
-  narrow_at bytes = of_links _ (λ name i stream o is s h none kept. narrow_spans u name i stream o bytes is h none kept)
+  narrow_at = of_links _ (λ name i stream o is s h none kept. narrow_spans u name i stream o is h none kept)
 
   missing_at : MissingAreTold words u status x y
-  missing_at bytes = of_links _ (λ name i stream o is s h. tells_missing u name i stream o bytes is h)
+  missing_at = of_links _ (λ name i stream o is s h. tells_missing u name i stream o is h)
 
   when_on_at : LinksWhenOn words u status x y
   when_on_at = of_links _ (λ name i stream o is s h. never_when_off i stream o h)

@@ -3,7 +3,7 @@ use Rattle.std.specs.Prelude.{◌≡◌, ℕ, List, Option, Some, Ok}
 use Rattle.lk_base.specs.declared.word.Word.{Word}
 use Rattle.lane_model.specs.Damage.{IsWithinDepth}
 use Rattle.link_laws.specs.Accidents.{no_accidents}
-use Rattle.lk_outside.specs.Files.{Files, AreBytes, Told}
+use Rattle.lk_outside.specs.Files.{Files, Told}
 use Rattle.run_shell.specs.declared.status.Status.{Status}
 use Rattle.run_shell.specs.declared.status.Status.TheVariants.{Done, Held}
 use Rattle.run_shell.specs.Outcome.{Outcome, IsAnswer, Holds}
@@ -37,35 +37,35 @@ abbrev pub OfLinks : ((i : LinkReading) → (stream : List Word) → (o : Outcom
 OfLinks Says words files status old new = (name : List ℕ) (i : LinkReading) → request_of words ≡ Some (Link name) → linked_in files name ≡ Ok i → IsAnswer status →
     LinksSay Says words files i status old new
 
--- Over files of bytes, where no accident was counted, the file of each listed channel is exactly the capture of the sent packets, in
+-- Where no accident was counted, the file of each listed channel is exactly the capture of the sent packets, in
 -- order, whose word positions meet no fault span that the received lane bits show.
 abbrev pub Delivers : List (List ℕ) → Files → Status → Option Files → Option Files → Type 0
-Delivers words files status old new = AreBytes files → OfLinks (λ i stream o h. h.counts ≡ no_accidents → DeliversUnmet i stream o h) words files status old new
+Delivers words files status old new = OfLinks (λ i stream o h. h.counts ≡ no_accidents → DeliversUnmet i stream o h) words files status old new
 
--- Over files of bytes, with no bit damaged and the skews within the deskew depth, no accident was counted and no span meets a packet.
+-- With no bit damaged and the skews within the deskew depth, no accident was counted and no span meets a packet.
 abbrev pub DeliversClean : List (List ℕ) → Files → Status → Option Files → Option Files → Type 0
-DeliversClean words files status old new = AreBytes files →
+DeliversClean words files status old new =
     OfLinks (λ i stream o h. AllUndamaged i.reading.plan.settings i.schedule stream → IsWithinDepth i.reading.plan.settings i.schedule.skews → DeliversAll i stream o h) words files status old new
 
--- Over files of bytes, with the status `Done` the sent packets of each channel are all packets of its captures, in order.
+-- With the status `Done` the sent packets of each channel are all packets of its captures, in order.
 abbrev pub SendsAllPackets : List (List ℕ) → Files → Status → Option Files → Option Files → Type 0
-SendsAllPackets words files status old new = AreBytes files → OfLinks (λ i stream o h. status ≡ Done → SendsAll i stream o h) words files status old new
+SendsAllPackets words files status old new = OfLinks (λ i stream o h. status ≡ Done → SendsAll i stream o h) words files status old new
 
 -- With the status `Held` the last line of the outcome's text names the least channel with bytes left at the finish, and of this one
 -- fewer packets are sent than its capture has.
 abbrev pub HeldLacksAPacket : List (List ℕ) → Files → Status → Option Files → Option Files → Type 0
 HeldLacksAPacket words files status old new = OfLinks (λ i stream o h. status ≡ Held → LacksAPacket i stream o h) words files status old new
 
--- Over files of bytes, where no accident was counted and no declared lock was lost, each fault span that has both ends holds a
+-- Where no accident was counted and no declared lock was lost, each fault span that has both ends holds a
 -- damaged word strictly between them. And where two control words or more after the last of those were received as they were sent,
 -- the span does not end after the second of them.
 abbrev pub SpansAreNarrow : List (List ℕ) → Files → Status → Option Files → Option Files → Type 0
-SpansAreNarrow words files status old new = AreBytes files → OfLinks (λ i stream o h. h.counts ≡ no_accidents → LosesNoLock h.reports → NarrowSpans i stream o h) words files status old new
+SpansAreNarrow words files status old new = OfLinks (λ i stream o h. h.counts ≡ no_accidents → LosesNoLock h.reports → NarrowSpans i stream o h) words files status old new
 
--- Over files of bytes, the text lists the sent packets that did not come, in the order of their SOP words, and no other; where no
+-- The text lists the sent packets that did not come, in the order of their SOP words, and no other; where no
 -- accident was counted, these are the sent packets that meet a fault span, each listed with the first.
 abbrev pub MissingAreTold : List (List ℕ) → Files → Status → Option Files → Option Files → Type 0
-MissingAreTold words files status old new = AreBytes files → OfLinks TellsMissing words files status old new
+MissingAreTold words files status old new = OfLinks TellsMissing words files status old new
 
 -- No burst starts on a channel whose last valid calendar entry is off.
 abbrev pub LinksWhenOn : List (List ℕ) → Files → Status → Option Files → Option Files → Type 0

@@ -95,4 +95,4 @@ module _ (i : LinkReading) (stream : List Word) (o : Outcome) (h : IsLinkedBy i 
       ∙ captured channel
 
 pub sends_all : LinkSendsAll
-sends_all files name i stream o are e h done = all_sent i stream o h (each_packet files name i stream o are e h) (packets_on_channels files name i.reading (read_plan files name i e)) done
+sends_all files name i stream o e h done = all_sent i stream o h (each_packet files name i stream o e h) (packets_on_channels files name i.reading (read_plan files name i e)) done

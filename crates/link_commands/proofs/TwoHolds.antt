@@ -162,7 +162,7 @@ module _ (o : Outcome) (h : IsLinkedBy two_reading two_words o) where
   -- ---- its files
 
   unmet : DeliversUnmet two_reading two_words o h
-  unmet = delivers two_files plan_name two_reading two_words o have_bytes two_read h none
+  unmet = delivers two_files plan_name two_reading two_words o two_read h none
 
   table : content_of o.files (spans_name (codes "o")) ≡ Some (span_table three_spans)
   table = unmet.table ∙ ap (λ (es : List Epoch). Some (span_table (spans (items_of es)))) (its_epoch unmet.epochs unmet.are) ∙ ap (λ ss. Some (span_table ss)) spans_are

@@ -6,7 +6,7 @@ use Rattle.run_shell.proofs.Works.{reading_ends}
 use Rattle.receive_commands.specs.Receive.{IsReceiveInput, PlanLanes, lanes_in}
 use Rattle.lane_receipts.specs.LaneReports.{names_of_lanes}
 use Rattle.receive_commands.proofs.LanesRead.{lanes_come, lanes_leave}
-use Rattle.word_gatherer.specs.Table.{gathered_names}
+use Rattle.gather_commands.specs.Table.{gathered_names}
 use Rattle.gather_commands.specs.Gather.{IsGathered, gather_work}
 use Rattle.gather_commands.proofs.Gathers.{gather_means}
 use Rattle.gather_commands.proofs.gather.GatherFileCommand.obey.Goals as goal

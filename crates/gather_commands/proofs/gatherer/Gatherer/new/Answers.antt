@@ -1,6 +1,6 @@
 use Rattle.std.proofs.Common.{[]}
 use Rattle.std.proofs.lemmas.Result.{err_from_is_err_and}
-use Rattle.word_gatherer.proofs.Stops.{none_stopped}
+use Rattle.gather_commands.proofs.Stops.{none_stopped}
 use Rattle.gather_commands.proofs.gatherer.Gatherer.new.Goals as goal
 
 pub returns-in_err-front-clause-begins : goal.returns-in_err-front-clause-begins
