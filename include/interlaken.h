@@ -33,7 +33,8 @@
  *   means that at least one unfinished lane has an empty ring: feed or finish that lane.
  * - A transmitter: after `finish`, for each lane, `ended` is 1 and `waiting` is 0 in what
  *   `interlaken_transmitter_status_of` writes. If `take` returns 0 bytes of one lane before, take
- *   the others: too many of their bytes wait.
+ *   the others: too many of their bytes wait. A lane that is taken by bits may then have up to
+ *   seven bits left: call `take_bits` until it takes none.
  * - An inspector: INTERLAKEN_NO_LANE_EVENT means that no event is due on any lane. All events of
  *   the bytes that were taken were returned: feed more bytes.
  * - A checker: INTERLAKEN_RULE_NONE means that no fault is due. Give it the next word.
@@ -154,7 +155,8 @@ enum interlaken_result {
   INTERLAKEN_NO_DAMAGE = 9,       /* the handle has no damage: it is all zeros, or was freed */
   INTERLAKEN_OUT_OF_RANGE = 10,   /* the number of lanes or the bit of a lane is not allowed; a
                                      number of a plan is out of its range; no group has this
-                                     place; the slot is 2^56 or more; no word has this kind */
+                                     place; the slot is 2^56 or more; no word has this kind; a
+                                     call has more than 64 bits */
   INTERLAKEN_PASSED = 11,         /* all named bits have passed: nothing happens to them any more */
   INTERLAKEN_NO_TRANSMITTER = 12, /* the handle has no transmitter: it is all zeros, or was freed */
   INTERLAKEN_NO_CHANNEL = 13,     /* the plan does not list the channel */
@@ -567,8 +569,9 @@ uint32_t interlaken_transmitter_sent(interlaken_transmitter *transmitter, uint16
                                      interlaken_counts *counts);
 
 /* Writes the state of a lane, counted from 0, and how many packets are left. If `ended` is 1 and
- * `waiting` is 0, all bytes of the lane were taken. The lanes end in a call of `take`. A call takes
- * time for each channel of the plan.
+ * `waiting` is 0, all bytes of the lane were taken; the part of a byte that `take_bits` has left
+ * is not counted. The lanes end in a call of `take` or `take_bits`. A call takes time for each
+ * channel of the plan.
  * Results: DONE, NO_LANE, NO_TRANSMITTER; all of `status` is 0 if it is not DONE. */
 uint32_t interlaken_transmitter_status_of(interlaken_transmitter *transmitter, uint32_t lane,
                                           interlaken_transmitter_status *status);

@@ -912,11 +912,14 @@ class Transmitter(_OfPlan):
 
     def take_all(self, lanes: int) -> list[bytes]:
         """The bytes of all lanes of a transmitter that was finished, from what was taken of them on to their ends. `lanes` is how many the
-        plan has. If they are more or fewer, or if the transmitter was not finished, it raises ValueError, and nothing is taken."""
+        plan has. If they are more or fewer, if the transmitter was not finished, or if bits of `take_bits` wait, it raises ValueError, and
+        nothing is taken."""
         if not self._finished:
             raise ValueError("the transmitter was not finished")
         if lanes != (there := self._lane_count()):
             raise ValueError("the plan has %d lanes, not %d" % (there, lanes))
+        for lane in range(lanes):
+            self.take(lane, 0)  # raises if bits of the lane wait
         taken = [bytearray() for _ in range(lanes)]
         while not all(self._has_ended(lane) for lane in range(lanes)):
             for lane, data in enumerate(taken):
