@@ -33,10 +33,11 @@ use Rattle.run_shell.proofs.Fills.{same}
 use Rattle.rule_laws.specs.Law.{IsPlanOf}
 use Rattle.rule_laws.proofs.AllKept.{breaks_none}
 use Rattle.word_rules.specs.Faults.{faults}
+use Rattle.word_rules.specs.Names.{all_rules}
 use Rattle.word_rules.specs.declared.fault.Fault.{Fault}
 use Rattle.check_commands.specs.AfterBurst.{CheckAfterBurst, TellsNoFault}
 use Rattle.check_commands.specs.Check.{IsChecked, check_inputs_in, faults_name, rules_of, told_outcome, with_flow, with_words}
-use Rattle.check_commands.specs.Table.{all_rules, rule_line_of}
+use Rattle.check_commands.specs.Table.{rule_line_of}
 use Rattle.check_commands.proofs.Examples.{worked_tables}
 
 -- ---- the words that `burst` wrote are read
