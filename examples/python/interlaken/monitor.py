@@ -166,7 +166,19 @@ class Monitor:
     def feed_bits(self, lane: int, bits: int, count: int) -> bool:
         """Feeds a lane with its next `count` bits: those of a number, the highest first. Up to seven bits wait for the next. False if the ring of
         the receiver has no room: then nothing was taken; take events and feed these again."""
-        return self._bits.setdefault(lane, _Bits()).feed(bits, count, lambda data: self.feed(lane, data))
+        waiting = self._bits.setdefault(lane, _Bits())
+        if not self._feed_waiting(lane, waiting):
+            return False
+        waiting.put(bits, count)
+        self._feed_waiting(lane, waiting)
+        return True
+
+    def _feed_waiting(self, lane: int, waiting: _Bits) -> bool:
+        """Feeds the whole bytes that wait, since what the gatherer lacks is held in bytes. True if it fed all."""
+        count = waiting.count // 8
+        if count > 0:
+            waiting.drop(8 * self.feed(lane, (waiting.value >> waiting.count % 8).to_bytes(count, "big")))
+        return waiting.count < 8
 
     def finish(self, lane: int) -> None:
         """No further byte of this lane comes. Bits that do not fill a byte are left out."""
