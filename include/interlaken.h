@@ -112,11 +112,11 @@
  * 2,048 words, and the others one of 8,192. Each has the default calendar:
  *
  *     lanes channels max_packet receiver transmitter inspector checker gatherer
- *         1        1       1518      484         141        10    1639      404
- *        12       64       9600     1888         193       119    1640      928
- *        24      256       9600     5106         262       237    1640     1503
- *        64     1024       9600    28573         502      2181    1642    11261
- *        64     1024     262144   417202         502      2181    1642    11261
+ *         1        1       1518      485         142        11    1639      404
+ *        12       64       9600     1888         194       119    1640      929
+ *        24      256       9600     5107         263       238    1640     1504
+ *        64     1024       9600    28574         502      2183    1642    11262
+ *        64     1024     262144   417202         502      2183    1642    11262
  *
  * Each `new` with a plan, `interlaken_plan_read` and `interlaken_plan_channels` use up to 64 KiB of
  * stack. All other calls use up to 8 KiB. A thread that calls one of the first should have a stack
