@@ -5,9 +5,5 @@ set -u
 . "$(dirname "$0")/program.bash"
 wants python3 python3
 wants_cc
-. "$top/tools/archive.bash"
-if ! find_archive "$top" >/dev/null; then
-  echo "$name: skipped, no archive of these sources (rt lib in crates/interlaken_c makes it)"
-  exit 77
-fi
+wants_archive
 exec python3 -B "$top/checks/cocotb_test.py" "$program" "$top"

@@ -11,9 +11,5 @@ wants make make
 wants c++ g++
 wants_cc
 has_verilator || skips 'version 5 of verilator' verilator
-. "$top/tools/archive.bash"
-if ! find_archive "$top" >/dev/null; then
-  echo "$name: skipped, no archive of these sources (rt lib in crates/interlaken_c makes it)"
-  exit 77
-fi
+wants_archive
 exec python3 -B "$top/checks/dpi.py" "$program" "$top"

@@ -34,20 +34,15 @@ def logic_here(top):
         return logic_of(file.read())
 
 
-def fault_of(edit, crate, row, now):
-    """Why the edit cannot be made or is not known as refused, or None. `now` has the sums of its crate."""
+def fault_of_text(edit, crate):
+    """Why the edit cannot be made, or None."""
     try:
         replaced({}, crate, edit)
     except BadEdit as why:
         return str(why)
     if os.path.exists(os.path.join(crate, "must-fail", os.path.basename(edit))):
         return "the gate has one of that name"
-    return fault_of_row(row, {**now, "edit_sum": sum_of_file(edit)})
-
-
-def is_to_try(fault):
-    """True if a try is all that the edit wants: it can be made."""
-    return "`checks/edits.sh try`" in fault
+    return None
 
 
 def untried_in(top):
@@ -70,11 +65,11 @@ def check(top, whole):
             now["below_sum"] = sum_below(crates, below(uses, name))
         for edit in edits_in(os.path.join(top, "checks", "edits", name)):
             row = rows.pop((name, name_of(edit)), None)
-            fault = fault_of(edit, os.path.join(crates, name), row, now)
-            if fault and name in untried and is_to_try(fault):
+            fault, untold = fault_of_text(edit, os.path.join(crates, name)), fault_of_row(row, {**now, "edit_sum": sum_of_file(edit)})
+            if untold and not fault and name in untried:
                 waiting += 1
             else:
-                tally.count("%s/%s" % (name, name_of(edit)), fault)
+                tally.count("%s/%s" % (name, name_of(edit)), fault or untold)
     for name, edit in rows:
         tally.count("%s/%s" % (name, edit), "tried.csv has a row of it, and there is no such edit")
     if waiting:

@@ -6,11 +6,7 @@ top=$(cd "$(dirname "${BASH_SOURCE[0]}")/.." && pwd)
 . "$top/checks/tally.bash"
 wants_cc
 [ -d "$top/crates/interlaken_c" ] || gives_up 'there is no library to try'
-. "$top/tools/archive.bash"
-if ! archive=$(find_archive "$top"); then
-  echo "$name: skipped, no archive of these sources (rt lib in crates/interlaken_c makes it)"
-  exit 77
-fi
+wants_archive
 folder=$(mktemp -d)
 trap 'rm -rf "$folder"' EXIT
 cd "$folder" || exit 1

@@ -6,11 +6,7 @@ set -u
 . "$(dirname "$0")/program.bash"
 wants_cc
 wants python3 python3
-. "$top/tools/archive.bash"
-if ! archive=$(find_archive "$top"); then
-  echo "$name: skipped, no archive of these sources (rt lib in crates/interlaken_c makes it)"
-  exit 77
-fi
+wants_archive
 folder=$(mktemp -d)
 trap 'rm -rf "$folder"' EXIT
 

@@ -57,6 +57,15 @@ wants_cc() {
   echo '#include <dlfcn.h>' | cc -E -o /dev/null - 2>/dev/null || skips dlfcn.h libc6-dev
 }
 
+# Ends the script for want of an archive of the C library that is of these sources; else `archive` is its path.
+# `top` is set by program.bash.
+wants_archive() {
+  . "$top/tools/archive.bash"
+  archive=$(find_archive "$top") && return 0
+  echo "$name: skipped, no archive of these sources (rt lib in crates/interlaken_c makes it)"
+  exit 77
+}
+
 # Whether verilator is there, of version 5 or later: it is the first that runs a bench with delays.
 has_verilator() {
   case $(verilator --version 2>/dev/null) in
