@@ -7,16 +7,16 @@ use Rattle.burst_scheduler.specs.Ring.{IsLine, ring_list, channels_at, has_chunk
 use Rattle.burst_scheduler.specs.Gives.{Holds, Runs, planned, HasWords, ChangesRing}
 use Rattle.burst_scheduler.specs.declared.queue.Queue.{Queue}
 use Rattle.burst_scheduler.specs.declared.scheduler.Scheduler.{Scheduler}
-use Rattle.burst_scheduler.proofs.Filling.{IsInRange, first_line, as_many}
+use Rattle.burst_scheduler.proofs.Filling.{first_line, as_many}
 use Rattle.burst_scheduler.proofs.Turning.{same_ring}
 
--- the same scheduler with another ring, by whatever proof that its end is in range
-abbrev pub started_with : (s : Scheduler) → Held → IsInRange s.eop → Scheduler
-started_with s ring range = record s { ready = ring; started = true; end_in_range = range }
+-- the same scheduler with another ring
+abbrev pub started_with : Scheduler → Held → Scheduler
+started_with s ring = record s { ready = ring; started = true }
 
-pub line_filled : (s : Scheduler) (a : Asked) (ring : Held) (range : IsInRange s.eop) → Holds s a → s.started ≡ false → IsSameSize s.ready ring → IsApart ring
-    → ring_list ring ≡ filter (has_chunk s.queues.items) (places_of s.order.items) → Holds (started_with s ring range) a
-line_filled s a ring range g fresh same apart is = record {
+pub line_filled : (s : Scheduler) (a : Asked) (ring : Held) → Holds s a → s.started ≡ false → IsSameSize s.ready ring → IsApart ring
+    → ring_list ring ≡ filter (has_chunk s.queues.items) (places_of s.order.items) → Holds (started_with s ring) a
+line_filled s a ring g fresh same apart is = record {
   settings = g.settings;
   slot = g.slot;
   right = g.right;
@@ -27,26 +27,22 @@ line_filled s a ring range g fresh same apart is = record {
   answered = g.answered;
   calls = g.calls;
   incoming = g.incoming;
-  outgoing = g.outgoing;
   queues = g.queues;
   at = g.at;
   only = g.only;
   room = (same_ring s.ready ring (length a.source.channels) same apart g.room.0, g.room.1);
   line = λ _. subst (λ ps. IsLine a.source (told_back a.source.entries a.source.flow) (planned s a) (channels_at s.channels.items ps)) (sym is) (first_line s a g fresh);
   unstarted = λ f. let no : true ≡ false = f in cc;
-  long = g.long;
-  given = g.given;
-  since = g.since;
-  end = g.end;
+  burst = g.burst;
   spaces = g.spaces;
 }
 
-pub runs_filled : (s : Scheduler) (a : Asked) (ring : Held) (range : IsInRange s.eop) → Runs s a → s.started ≡ false → IsSameSize s.ready ring → IsApart ring
-    → ring_list ring ≡ filter (has_chunk s.queues.items) (places_of s.order.items) → Runs (started_with s ring range) a
-runs_filled s a ring range g fresh same apart is = record { words = line_filled s a ring range g.words fresh same apart is; finish = g.finish; held = g.held; paced = g.paced }
+pub runs_filled : (s : Scheduler) (a : Asked) (ring : Held) → Runs s a → s.started ≡ false → IsSameSize s.ready ring → IsApart ring
+    → ring_list ring ≡ filter (has_chunk s.queues.items) (places_of s.order.items) → Runs (started_with s ring) a
+runs_filled s a ring g fresh same apart is = record { words = line_filled s a ring g.words fresh same apart is; finish = g.finish; held = g.held; paced = g.paced }
 
-pub changed_first : (s : Scheduler) (a : Asked) (ring : Held) (range : IsInRange s.eop) → HasWords s a → s.started ≡ false → ring.links ≤ s.ready.links + length s.order.items → ChangesRing s (started_with s ring range) a 0
-changed_first s a ring range g fresh few = record {
+pub changed_first : (s : Scheduler) (a : Asked) (ring : Held) → HasWords s a → s.started ≡ false → ring.links ≤ s.ready.links + length s.order.items → ChangesRing s (started_with s ring) a 0
+changed_first s a ring g fresh few = record {
   first = let n : length s.order.items ≡ length a.source.channels = as_many a.source.channels s.order.items g.holds.room.1 in omega (arith, few, n);
   later = λ begun. let u = g.holds.unstarted fresh in elim begun [
     | inl w ↦ absurd (let l = ap length u.0 in omega (arith, w, l))

@@ -1,6 +1,6 @@
 -- A run of data words: this many steps that each give one.
 use Rattle.std.proofs.Common.{◌≡◌, ℕ, zero, suc, ◌+◌, ◌-◌, ◌<◌, ◌≤◌, Bool, true, false, List, [], ◌∷◌, ◌++◌, length, map, take, drop, get_or, Some, refl, sym, ap, subst, ◌∙◌, arith, append_assoc, append-nil, length-append, length-drop, inl, Vec, Global}
-use Rattle.std.proofs.lemmas.List.{length-map, length-take, drop-take, length_push}
+use Rattle.std.proofs.lemmas.List.{get_or-take, length-map, length-take, drop-take, length_push}
 use Rattle.std.proofs.Math.Seq.{take-add}
 use Rattle.lk_base.specs.declared.word.Word.{Word}
 use Rattle.lk_base.specs.declared.word.Word.TheVariants.{Data}
@@ -65,33 +65,33 @@ no_finish s a d rest g come z is = let none : to_come s ≡ [] = nothing_behind 
 -- ---- a step and the next
 
 abbrev after_one : Scheduler → Scheduler
-after_one s = record s { slot = s.slot + 1; given = s.given + 1 }
+after_one s = record s { slot = s.slot + 1; burst = record s.burst { given = s.burst.given + 1 } }
 
 keeps_one : (s : Scheduler) → KeepsAllButGiven s (after_one s)
 keeps_one s = record {
   settings = (refl, refl, refl, refl);
   channels = (refl, refl);
-  calendars = (refl, refl);
+  incoming = refl;
   line = (refl, refl, refl);
-  words = (refl, refl, refl);
+  words = record { outgoing = refl; run = refl; count = refl; eop = refl };
   rest = (refl, refl, refl);
 }
 
 keeps_on : (s new : Scheduler) → KeepsAllButGiven s new → KeepsAllButGiven (after_one s) new
-keeps_on s new k = record { settings = k.settings; channels = k.channels; calendars = k.calendars; line = k.line; words = k.words; rest = k.rest }
+keeps_on s new k = record { settings = k.settings; channels = k.channels; incoming = k.incoming; line = k.line; words = record { outgoing = k.words.outgoing; run = k.words.run; count = k.words.count; eop = k.words.eop }; rest = k.rest }
 
 may_again : (a : Asked) (more : Bool) (v : Word) → MayStep a more → MayStep (stepped a more (v ∷ [])) more
 may_again a true v may = may
 may_again a false v may = may
 
-one_more : (s new : Scheduler) (a : Asked) (more : Bool) (d : ℕ) (rest : List ℕ) → Runs s a → MayStep a more → KeepsAllButGiven s new → to_come s ≡ d ∷ rest → new.given ≡ s.given + 1 → new.slot ≡ s.slot + 1 → Runs new (stepped a more (Data d ∷ []))
+one_more : (s new : Scheduler) (a : Asked) (more : Bool) (d : ℕ) (rest : List ℕ) → Runs s a → MayStep a more → KeepsAllButGiven s new → to_come s ≡ d ∷ rest → new.burst.given ≡ s.burst.given + 1 → new.slot ≡ s.slot + 1 → Runs new (stepped a more (Data d ∷ []))
 one_more s new a more d rest g may k come given slot =
-    let first = first_left s.given (take s.count s.run.items) d rest come in
-    let long : length (take s.count s.run.items) ≡ s.count = (let n = length-take s.count s.run.items in let c = g.words.given.1 in let r = g.words.long in omega (arith, n, c, r)) in
-    data_step s new a more d g k (has_started s a d rest g.words come) (omega (arith, long, first.0)) may given slot first.1 (λ z f t. no_finish s a d rest g come z f)
+    let first = first_left s.burst.given (take s.burst.count s.burst.run.items) d rest come in
+    let long : length (take s.burst.count s.burst.run.items) ≡ s.burst.count = (let n = length-take s.burst.count s.burst.run.items in let c = g.words.burst.given.1 in let r = g.words.burst.long in omega (arith, n, c, r)) in
+    data_step s new a more d g k (has_started s a d rest g.words come) (omega (arith, long, first.0)) may given slot (first.1 ∙ get_or-take s.burst.count s.burst.run.items s.burst.given 0 (omega (arith, long, first.0))) (λ z f t. no_finish s a d rest g come z f)
 
 -- this many steps
-pub runs_on : (ds rest : List ℕ) (s new : Scheduler) (a : Asked) (more : Bool) → Runs s a → MayStep a more → KeepsAllButGiven s new → 1 ≤ length ds → to_come s ≡ ds ++ rest → new.given ≡ s.given + length ds → new.slot ≡ s.slot + length ds
+pub runs_on : (ds rest : List ℕ) (s new : Scheduler) (a : Asked) (more : Bool) → Runs s a → MayStep a more → KeepsAllButGiven s new → 1 ≤ length ds → to_come s ≡ ds ++ rest → new.burst.given ≡ s.burst.given + length ds → new.slot ≡ s.slot + length ds
     → Runs new (stepped_by a more (map Data ds)) × (length a.words + length ds ≤ bound (stepped_by a more (map Data ds)))
 runs_on [] rest s new a more g may k some come given slot = absurd (omega arith)
 runs_on (d ∷ []) rest s new a more g may k some come given slot = (
@@ -102,7 +102,7 @@ runs_on (d ∷ e ∷ ds) rest s new a more g may k some come given slot =
     let b : Asked = stepped a more (Data d ∷ []) in
     let one : Runs (after_one s) b = one_more s (after_one s) a more d ((e ∷ ds) ++ rest) g may (keeps_one s) come refl refl in
     let on = runs_on (e ∷ ds) rest (after_one s) new b more one (may_again a more (Data d) may) (keeps_on s new k) (omega arith)
-    (first_left s.given (take s.count s.run.items) d ((e ∷ ds) ++ rest) come).2 (omega (arith, given)) (omega (arith, slot)) in
+    (first_left s.burst.given (take s.burst.count s.burst.run.items) d ((e ∷ ds) ++ rest) come).2 (omega (arith, given)) (omega (arith, slot)) in
     let l : length (a.words ++ Data d ∷ []) ≡ length a.words + 1 = length_push a.words (Data d) in
     (on.0, omega (arith, l, on.1))
 
@@ -110,45 +110,45 @@ runs_on (d ∷ e ∷ ds) rest s new a more g may k some come given slot =
 
 -- the first n numbers that are to come
 abbrev pub next_numbers : Scheduler → ℕ → List ℕ
-next_numbers s n = take n (drop s.given s.run.items)
+next_numbers s n = take n (drop s.burst.given s.burst.run.items)
 
-many_next : (s : Scheduler) (n : ℕ) → s.given + n ≤ length s.run.items → length (next_numbers s n) ≡ n
-many_next s n h = let l = length-take n (drop s.given s.run.items) in let d = length-drop s.given s.run.items in omega (arith, l, d, h)
+many_next : (s : Scheduler) (n : ℕ) → s.burst.given + n ≤ length s.burst.run.items → length (next_numbers s n) ≡ n
+many_next s n h = let l = length-take n (drop s.burst.given s.burst.run.items) in let d = length-drop s.burst.given s.burst.run.items in omega (arith, l, d, h)
 
 -- once they are given they are the last
-pub next_is_last : (s new : Scheduler) (n : ℕ) → KeepsAllButGiven s new → new.given ≡ s.given + n → last_data new n ≡ next_numbers s n
+pub next_is_last : (s new : Scheduler) (n : ℕ) → KeepsAllButGiven s new → new.burst.given ≡ s.burst.given + n → last_data new n ≡ next_numbers s n
 next_is_last s new n k e =
-    let first : new.given - n ≡ s.given = omega (arith, e) in
-    ap (λ m. take n (drop m new.run.items)) first ∙ ap (λ (v : Vec ℕ Global). take n (drop s.given v.items)) k.words.0
+    let first : new.burst.given - n ≡ s.burst.given = omega (arith, e) in
+    ap (λ m. take n (drop m new.burst.run.items)) first ∙ ap (λ (v : Vec ℕ Global). take n (drop s.burst.given v.items)) k.words.run
 
 -- the part of the run that has them
-pub last_part : (s : Scheduler) (xs : List ℕ) (n : ℕ) → xs ≡ s.run.items → n ≤ s.given → take (s.given - (s.given - n)) (drop (s.given - n) xs) ≡ last_data s n
+pub last_part : (s : Scheduler) (xs : List ℕ) (n : ℕ) → xs ≡ s.burst.run.items → n ≤ s.burst.given → take (s.burst.given - (s.burst.given - n)) (drop (s.burst.given - n) xs) ≡ last_data s n
 last_part s xs n is h =
-    let less : s.given - (s.given - n) ≡ n = omega arith in
-    ap (λ k. take k (drop (s.given - n) xs)) less ∙ ap (λ ys. take n (drop (s.given - n) ys)) is
+    let less : s.burst.given - (s.burst.given - n) ≡ n = omega arith in
+    ap (λ k. take k (drop (s.burst.given - n) xs)) less ∙ ap (λ ys. take n (drop (s.burst.given - n) ys)) is
 
 pub many_last : (s : Scheduler) (n : ℕ) → HasGivenData s n → length (last_data s n) ≡ n
 many_last s n h =
-    let l = length-take n (drop (s.given - n) s.run.items) in
-    let d = length-drop (s.given - n) s.run.items in
+    let l = length-take n (drop (s.burst.given - n) s.burst.run.items) in
+    let d = length-drop (s.burst.given - n) s.burst.run.items in
     let few = h.0 in
     let room = h.1 in
     omega (arith, l, d, few, room)
 
-pub run_step : (s new : Scheduler) (a : Asked) (more : Bool) (vs : List Word) (n : ℕ) → Runs s a → MayStep a more → KeepsAllButGiven s new → 1 ≤ n → s.given + n ≤ s.count → new.given ≡ s.given + n → new.slot ≡ s.slot + n
+pub run_step : (s new : Scheduler) (a : Asked) (more : Bool) (vs : List Word) (n : ℕ) → Runs s a → MayStep a more → KeepsAllButGiven s new → 1 ≤ n → s.burst.given + n ≤ s.burst.count → new.burst.given ≡ s.burst.given + n → new.slot ≡ s.slot + n
     → vs ≡ map Data (next_numbers s n) → Runs new (stepped_by a more vs) × (length a.words + n ≤ bound (stepped_by a more vs))
 run_step s new a more vs n g may k some left given slot is =
-    let long : length (next_numbers s n) ≡ n = (let c = g.words.given.1 in let r = g.words.long in many_next s n (omega (arith, c, r, left))) in
-    let rest : ℕ = s.count - s.given - n in
-    let all : s.count ≡ s.given + (n + rest) = omega arith in
-    let come : to_come s ≡ next_numbers s n ++ take rest (drop n (drop s.given s.run.items)) =
-    ap (λ m. drop s.given (take m s.run.items)) all ∙ drop-take s.given (n + rest) s.run.items ∙ take-add n rest (drop s.given s.run.items) in
-    let on = runs_on (next_numbers s n) (take rest (drop n (drop s.given s.run.items))) s new a more g may k (omega (arith, long, some)) come (omega (arith, given, long)) (omega (arith, slot, long)) in (
+    let long : length (next_numbers s n) ≡ n = (let c = g.words.burst.given.1 in let r = g.words.burst.long in many_next s n (omega (arith, c, r, left))) in
+    let rest : ℕ = s.burst.count - s.burst.given - n in
+    let all : s.burst.count ≡ s.burst.given + (n + rest) = omega arith in
+    let come : to_come s ≡ next_numbers s n ++ take rest (drop n (drop s.burst.given s.burst.run.items)) =
+    ap (λ m. drop s.burst.given (take m s.burst.run.items)) all ∙ drop-take s.burst.given (n + rest) s.burst.run.items ∙ take-add n rest (drop s.burst.given s.burst.run.items) in
+    let on = runs_on (next_numbers s n) (take rest (drop n (drop s.burst.given s.burst.run.items))) s new a more g may k (omega (arith, long, some)) come (omega (arith, given, long)) (omega (arith, slot, long)) in (
       subst (λ (ws : List Word). Runs new (stepped_by a more ws)) (sym is) on.0,
       subst (λ (ws : List Word). length a.words + n ≤ bound (stepped_by a more ws)) (sym is) (subst (λ (m : ℕ). length a.words + m ≤ bound (stepped_by a more (map Data (next_numbers s n)))) long on.1),
     )
 
-pub begun_run : (s : Scheduler) (a : Asked) (more : Bool) (vs : List Word) (n : ℕ) → 1 ≤ n → s.given + n ≤ length s.run.items → vs ≡ map Data (next_numbers s n) → HasBegun (stepped_by a more vs)
+pub begun_run : (s : Scheduler) (a : Asked) (more : Bool) (vs : List Word) (n : ℕ) → 1 ≤ n → s.burst.given + n ≤ length s.burst.run.items → vs ≡ map Data (next_numbers s n) → HasBegun (stepped_by a more vs)
 begun_run s a more vs n some h is =
     let words : length (stepped_by a more vs).words ≡ length (a.words ++ vs) = ap length (words_by a more vs) in
     let both : length (a.words ++ vs) ≡ length a.words + length vs = length-append a.words vs in
@@ -156,7 +156,7 @@ begun_run s a more vs n some h is =
     inl (omega (arith, words, both, long, some))
 
 -- where these are all that were to come, the bursts are whole
-pub whole_bursts : (s : Scheduler) (a : Asked) (vs : List Word) (n : ℕ) → Holds s a → s.count ≡ s.given + n → vs ≡ map Data (next_numbers s n) → HasWholeBursts a.source (a.words ++ vs)
+pub whole_bursts : (s : Scheduler) (a : Asked) (vs : List Word) (n : ℕ) → Holds s a → s.burst.count ≡ s.burst.given + n → vs ≡ map Data (next_numbers s n) → HasWholeBursts a.source (a.words ++ vs)
 whole_bursts s a vs n g all is =
-    let come : to_come s ≡ next_numbers s n = ap (λ m. drop s.given (take m s.run.items)) all ∙ drop-take s.given n s.run.items in
+    let come : to_come s ≡ next_numbers s n = ap (λ m. drop s.burst.given (take m s.burst.run.items)) all ∙ drop-take s.burst.given n s.burst.run.items in
     subst (HasWholeBursts a.source) (ap (λ ds. a.words ++ map Data ds) come ∙ ap (λ (ws : List Word). a.words ++ ws) (sym is)) g.right.chunks

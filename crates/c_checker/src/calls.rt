@@ -11,7 +11,6 @@ use crate::handle::CheckerHandle;
 use crate::many::{CWord, give_words};
 use c_parts::codes::{DONE, IN_USE, NO_CHECKER, OUT_OF_RANGE, plan_code};
 use c_parts::refusal::{Refusal, no_refusal, refusal_of};
-use duplex::heard;
 use link_plan::{Plan, PlanError, channels_in_order, read_plan};
 use live_checker::{LiveChecker, Misuse};
 use lk_base::{OutOfMemory, RxWord};
@@ -158,7 +157,7 @@ pub fn flow(alloc: Global, checker: &mut CheckerHandle, word: u64) -> u32
     let Some(mut there) = checker.take(alloc) else {
         return NO_CHECKER;
     };
-    let answer = there.flow(heard(word));
+    let answer = there.hear(word);
     checker.put(there);
     ended(answer)
 }

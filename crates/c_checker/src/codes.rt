@@ -34,5 +34,5 @@ pub fn misuse_code(why: Misuse) -> u32
 pub fn rule_code(rule: WordRule) -> u32
     ensures { result ≡ rule_code rule }
 {
-    rule as u32 + 1
+    rule.place() as u32 + 1
 }

@@ -2,8 +2,8 @@
 ghost use Rattle.std.specs.Prelude.{◌≡◌};
 ghost use Rattle.c_gatherer.specs.Shown.{of_break, of_kind, of_word, shown as shown_of};
 
-use crate::codes::{fault_code, kind_of, number_of};
-use c_parts::codes::{GATHERED_BREAK, GATHERED_ENDED, GATHERED_NONE, GATHERED_WORD};
+use crate::codes::kind_of;
+use c_parts::codes::{GATHERED_BREAK, GATHERED_ENDED, GATHERED_NONE, GATHERED_WORD, fault_number};
 use c_parts::place::{CPlace, place_of};
 use live_gatherer::{Gathered, GatheredBreak, GatheredWord};
 
@@ -54,7 +54,7 @@ fn of_word(found: GatheredWord) -> CGathered
     gathered.at = place_of(Some(found.at));
     gathered.bit = found.bit;
     gathered.number = found.number;
-    gathered.word = number_of(found.word);
+    gathered.word = found.word.number_or_zero();
     gathered
 }
 
@@ -62,7 +62,7 @@ fn of_break(found: GatheredBreak) -> CGathered
     ensures { result ≡ of_break found }
 {
     let mut gathered = of_kind(GATHERED_BREAK);
-    gathered.why = fault_code(found.why);
+    gathered.why = fault_number(found.why);
     gathered.at = place_of(Some(found.at));
     gathered.number = found.number;
     gathered

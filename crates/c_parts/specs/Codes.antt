@@ -6,6 +6,8 @@ use Rattle.c_parts.specs.declared.codes.Code.{Code}
 use Rattle.c_parts.specs.declared.codes.Code.TheVariants as results
 use Rattle.c_parts.specs.declared.misuse.Misuse.{Misuse}
 use Rattle.c_parts.specs.declared.misuse.Misuse.TheVariants as misuses
+use Rattle.lk_base.specs.declared.fault.Why.{Why}
+use Rattle.lk_base.specs.declared.fault.Why.TheVariants as faults
 use Rattle.plan_errors.specs.declared.error.PlanError.{PlanError}
 use Rattle.plan_errors.specs.declared.error.PlanError.TheVariants as errors
 use Rattle.lock_model.specs.declared.types.LaneState.{LaneState}
@@ -46,6 +48,15 @@ cause_number causes.Repeat = 6
 cause_number causes.Missing = 7
 cause_number causes.Clash = 8
 
+-- the number of a fault, as in the header
+abbrev pub fault_number : Why → ℕ
+fault_number faults.Start = 0
+fault_number faults.Bad = 1
+fault_number faults.Crc = 2
+fault_number faults.Protocol = 3
+fault_number faults.Lost = 4
+fault_number faults.End = 5
+
 -- ---- results by their names
 
 abbrev pub done : ℕ
@@ -74,6 +85,15 @@ no_lane = number_of results.NoLane
 
 abbrev pub finished : ℕ
 finished = number_of results.Finished
+
+abbrev pub too_many : ℕ
+too_many = number_of results.TooMany
+
+abbrev pub no_packet : ℕ
+no_packet = number_of results.NoPacket
+
+abbrev pub passed : ℕ
+passed = number_of results.Passed
 
 abbrev pub no_transmitter : ℕ
 no_transmitter = number_of results.NoTransmitter
@@ -104,10 +124,10 @@ state_code states.WordLock = 1
 state_code states.Declared = 2
 
 abbrev pub code_of : Misuse → ℕ
-code_of misuses.NoLane = 3
-code_of misuses.Finished = 4
-code_of misuses.TooMany = 5
-code_of misuses.NoPacket = 6
+code_of misuses.NoLane = no_lane
+code_of misuses.Finished = finished
+code_of misuses.TooMany = too_many
+code_of misuses.NoPacket = no_packet
 
 -- of a plan that is refused
 abbrev pub plan_code : PlanError → ℕ

@@ -2,9 +2,10 @@
 //! cause and a missing key, a drop, a fault, a state or an event of a lane, a rule of words. The other kinds have constants, by the names
 //! of the header without its prefix.
 ghost use Rattle.std.specs.Prelude.{◌≡◌};
-ghost use Rattle.c_parts.specs.Codes.{cause_number, code_of, number_of, plan_code, state_code};
+ghost use Rattle.c_parts.specs.Codes.{cause_number, code_of, fault_number, number_of, plan_code, state_code};
 
 use crate::misuse::Misuse;
+use lk_base::Why;
 use lock_model::LaneState;
 use plan_errors::PlanError;
 
@@ -226,6 +227,13 @@ pub fn state_code(state: LaneState) -> u32
     ensures { result ≡ state_code state }
 {
     state as u32
+}
+
+/// Returns the number of why a span of words cannot be trusted, or of why an epoch ended.
+pub fn fault_number(why: Why) -> u32
+    ensures { result ≡ fault_number why }
+{
+    why as u32
 }
 
 /// The result of a misuse.

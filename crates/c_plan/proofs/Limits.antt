@@ -6,7 +6,7 @@ use Rattle.lk_base.specs.Link.{IsLink, Settings}
 use Rattle.csv_rows.specs.Checked.{AreSaid, first_fault}
 use Rattle.csv_rows.specs.Rows.{Row}
 use Rattle.csv_rows.specs.Tables.{key_rule, place_in, rule_at}
-use Rattle.csv_rows.specs.declared.items.Item.{Item}
+use Rattle.csv_rows.specs.Said.{Item}
 use Rattle.csv_rows.specs.declared.items.RowFault.{RowFault}
 use Rattle.csv_rows.specs.declared.table.Form.TheVariants.{Number}
 use Rattle.csv_rows.specs.declared.table.Times.TheVariants.{Once}

@@ -3,10 +3,8 @@ ghost use Rattle.std.specs.Prelude.{◌≡◌, ◌↔◌, IfSome, IsSome};
 ghost use Rattle.c_plan.specs.Places.{IsPlace, IsSlot, place_found, slot_found};
 
 use c_parts::CPlace;
+use lane_model::CODE_BITS;
 use lk_base::Link;
-
-/// The bits of a code.
-const CODE_BITS: u64 = 67;
 
 /// A place whose group is here or later is no place: a lane has fewer bits.
 const GROUPS_LIMIT: u64 = 1 << 44;
@@ -34,7 +32,7 @@ pub fn find_place(link: &Link, at: &CPlace) -> Option<LaneBit>
     let after_sync = link.skips() + 2 + at.index / link.lanes();
     Some(LaneBit {
         lane: at.index % link.lanes(),
-        bit: at.group + CODE_BITS * after_sync as u64,
+        bit: at.group + CODE_BITS as u64 * after_sync as u64,
     })
 }
 
@@ -55,6 +53,6 @@ pub fn find_slot(link: &Link, slot: u64) -> Option<LaneBit>
     let position = payload / payloads * metaframe + (after_sync + payload % payloads);
     Some(LaneBit {
         lane: (slot % lanes) as u32,
-        bit: CODE_BITS * position,
+        bit: CODE_BITS as u64 * position,
     })
 }

@@ -1,5 +1,1 @@
-mod DeclaredLocks
-mod Feeding
-mod Following
-mod Hearing
 mod ReceiverBox

@@ -4,12 +4,12 @@ use Rattle.lk_base.specs.Checksum.{bits_of, digit}
 use Rattle.lock_model.specs.declared.types.LaneReport.{LaneReport}
 use Rattle.lock_model.specs.declared.types.LaneState.{LaneState}
 use Rattle.rx_end.specs.declared.event.RxEvent.{RxEvent}
-use Rattle.c_receiver.specs.Calls.{IsChannelState, IsFeed, IsFinish, IsLaneState, IsNextOf, IsRead, IsReport}
+use Rattle.live_receiver.specs.Calls.{IsChannelState, IsFeed, IsFinish, IsLaneState, IsNextOf, IsRead, IsReport}
 use Rattle.plan_errors.specs.declared.error.PlanError.{PlanError}
 use Rattle.c_parts.specs.Codes.{code_of, done, in_use, no_channel, no_receiver, out_of_range, part_byte, plan_code, state_code}
 use Rattle.c_bits.specs.Bits.{AreFed, OfBits, OfWhole, no_parts}
 use Rattle.c_parts.specs.OnHeld.{OnHeld}
-use Rattle.c_receiver.specs.Opens.{IsOfPlan}
+use Rattle.live_receiver.specs.Opens.{IsOfPlan}
 use Rattle.c_parts.specs.Refusals.{IsRefused, of_row, refusal_of}
 use Rattle.c_parts.specs.declared.refusal.Refusal.{Refusal}
 use Rattle.c_parts.specs.Reports.{as_report, no_report}

@@ -1,10 +1,3 @@
-pub mod Calls
-pub mod CallsLaw
-pub mod FarEnd
 pub mod Held
-pub mod Misuses
-pub mod Opens
 pub mod Owned
-pub mod Runs
 pub mod Shown
-pub mod StateLaw

@@ -2,12 +2,11 @@
 use Rattle.std.specs.Prelude.{ℕ, Option, Some, None}
 use Rattle.lk_base.specs.declared.fault.DropWhy.{DropWhy}
 use Rattle.lk_base.specs.declared.fault.DropWhy.TheVariants as drops
-use Rattle.lk_base.specs.declared.fault.Why.{Why}
-use Rattle.lk_base.specs.declared.fault.Why.TheVariants as faults
 use Rattle.lk_base.specs.declared.position.Pos.{Pos}
 use Rattle.receive_model.specs.declared.span.Span.{Span}
 use Rattle.rx_end.specs.declared.event.RxEvent.{RxEvent}
 use Rattle.rx_end.specs.declared.event.RxEvent.TheVariants as events
+use Rattle.c_parts.specs.Codes.{fault_number}
 use Rattle.c_parts.specs.Places.{place_of}
 use Rattle.c_receiver.specs.declared.event.CEvent.{CEvent}
 
@@ -20,14 +19,6 @@ drop_number drops.End = 4
 drop_number drops.TooLong = 5
 drop_number drops.Unlisted = 6
 drop_number drops.SenderError = 7
-
-abbrev pub fault_number : Why → ℕ
-fault_number faults.Start = 0
-fault_number faults.Bad = 1
-fault_number faults.Crc = 2
-fault_number faults.Protocol = 3
-fault_number faults.Lost = 4
-fault_number faults.End = 5
 
 -- an event of this kind with no field
 abbrev pub no_event : ℕ → CEvent

@@ -2,8 +2,8 @@
 ghost use Rattle.std.specs.Prelude.{◌≡◌};
 ghost use Rattle.c_bits.specs.Bits.{no_parts};
 
-use crate::session::Session;
 use c_bits::LaneParts;
+use live_receiver::Session;
 
 /// A receiver whose lanes may be fed by bits, with the part of a byte of each lane that it has not taken.
 #[derive(Drop)]

@@ -4,12 +4,11 @@ ghost use Rattle.c_receiver.specs.Held.{Feeds, FeedsBits, FeedsCompleted, FeedsW
 ghost use Rattle.c_bits.specs.Bits.{no_parts};
 ghost use Rattle.c_parts.specs.Reports.{no_report};
 ghost use Rattle.c_parts.specs.Refusals.{IsRefused};
-ghost use Rattle.c_receiver.specs.Opens.{IsOfPlan};
+ghost use Rattle.live_receiver.specs.Opens.{IsOfPlan};
 
 use crate::bit_receiver::BitReceiver;
 use crate::event::{CEvent, shown};
 use crate::handle::ReceiverHandle;
-use crate::session::Session;
 use c_bits::MOST_BITS;
 use c_parts::codes::{
     DONE, IN_USE, LANE_SEARCHING, NO_CHANNEL, NO_RECEIVER, OUT_OF_RANGE, PART_BYTE, code_of,
@@ -19,6 +18,7 @@ use c_parts::misuse::Misuse;
 use c_parts::refusal::{Refusal, no_refusal, refusal_of};
 use c_parts::report::{Report, as_report, no_report};
 use link_plan::{PlanError, read_plan};
+use live_receiver::Session;
 use lk_base::OutOfMemory;
 use lock_model::{LaneReport, LaneState};
 use std::alloc::Global;

@@ -1,10 +1,10 @@
 //! Events as C sees them.
 ghost use Rattle.std.specs.Prelude.{◌≡◌};
-ghost use Rattle.c_receiver.specs.Shown.{drop_number, dropped, fault_number, fault_span, flow, no_event, packet, shown};
+ghost use Rattle.c_receiver.specs.Shown.{drop_number, dropped, fault_span, flow, no_event, packet, shown};
 
-use c_parts::codes::{DROPPED, ENDED, FLOW, NONE, PACKET, SPAN};
+use c_parts::codes::{DROPPED, ENDED, FLOW, NONE, PACKET, SPAN, fault_number};
 use c_parts::place::{CPlace, place_of};
-use lk_base::{DropWhy, Pos, Why};
+use lk_base::{DropWhy, Pos};
 use receive_model::Span;
 use rx_end::RxEvent;
 
@@ -45,12 +45,6 @@ fn no_event(kind: u32) -> CEvent
 
 fn drop_number(why: DropWhy) -> u32
     ensures { result ≡ drop_number why }
-{
-    why as u32
-}
-
-fn fault_number(why: Why) -> u32
-    ensures { result ≡ fault_number why }
 {
     why as u32
 }

@@ -5,10 +5,7 @@ mod bit_receiver;
 mod block;
 mod calls;
 mod event;
-mod far_end;
 mod handle;
-pub mod laws;
-mod session;
 
 pub use calls::{feed, feed_bits, finish, free, is_on, lane_state, new, next, read, report};
 pub use event::CEvent;

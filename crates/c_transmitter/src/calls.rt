@@ -14,7 +14,6 @@ use c_parts::codes::{
     DONE, FINISHED, IN_USE, NO_CHANNEL, NO_LANE, NO_TRANSMITTER, OUT_OF_RANGE, PART_BYTE, plan_code,
 };
 use c_parts::refusal::{Refusal, no_refusal, refusal_of};
-use duplex::heard;
 use link_plan::{Plan, PlanError, channels_in_order, read_plan};
 use live_end::{Closed, Counts, LiveTransmitter, LocalRefused, Refused, Status};
 use lk_base::OutOfMemory;
@@ -142,7 +141,7 @@ pub fn flow(alloc: Global, transmitter: &mut TransmitterHandle, word: u64) -> u3
     let Some(mut there) = transmitter.take(alloc) else {
         return NO_TRANSMITTER;
     };
-    let answer = there.end.flow(heard(word));
+    let answer = there.end.hear(word);
     transmitter.put(there);
     row_ended(answer)
 }

@@ -7,6 +7,7 @@ use Rattle.lk_base.specs.Fields.{flow_field, reset_field}
 use Rattle.stream_model.specs.declared.rows.FlowRow.{FlowRow}
 use Rattle.calendar.specs.Changes.{words_back, told_back, told_by_bits, changes, state_in}
 use Rattle.calendar.specs.Incoming.{Stands, HasStates}
+use Rattle.calendar.specs.declared.change.Change.{Change}
 use Rattle.calendar.specs.declared.incoming.CalendarIn.{CalendarIn}
 use Rattle.calendar.proofs.Rows.{words_more, told_back_more, told_same, number_reset, number_next}
 
@@ -82,7 +83,7 @@ counted cal new entries rows row s first end flow part num e f p same n wide has
     stands_some cal new entries rows row s num.d end num.is at same n wide
     (subst (λ ts. HasStates new.on.items (reverse ts ++ told_back entries rows)) (entries_told entries rows row first end flow part num e f p) has)
 
-pub counted_changes : (entries : List ℕ) (rows : List FlowRow) (row : FlowRow) (first end flow : ℕ) (part : List ℕ) (told : List Told) (xs : List (ℕ × Bool)) → Numbered entries row.word (words_back rows) first → end ≡ min (length entries) (first + 16)
+pub counted_changes : (entries : List ℕ) (rows : List FlowRow) (row : FlowRow) (first end flow : ℕ) (part : List ℕ) (told : List Told) (xs : List Change) → Numbered entries row.word (words_back rows) first → end ≡ min (length entries) (first + 16)
     → flow_field row.word ≡ flow → part ≡ take (end - first) (drop first entries)
     → xs ≡ changes told (map (told_by_bits row.slot (length rows) part flow) (range_with_len 0 (length part))) → xs ≡ changes told (told_by_row entries (length rows) (words_back rows) row)
 counted_changes entries rows row first end flow part told xs num e f p h =

@@ -9,7 +9,7 @@ use Rattle.std.proofs.lemmas.Bool.Decides.{nat_tests}
 use Rattle.stream_model.specs.Calendar.{Told}
 use Rattle.lk_base.specs.Checksum.{differ}
 use Rattle.lk_base.proofs.Lists.{range_more}
-use Rattle.calendar.specs.Changes.{state_in, change_of, changes}
+use Rattle.calendar.specs.Changes.{change, state_in, change_of, changes}
 use Rattle.calendar.specs.Incoming.{HasStates}
 
 -- one more entry stands before all that was told
@@ -75,7 +75,7 @@ beq_same false false h = refl
 beq_same true false h = cc
 beq_same false true h = cc
 
-pub change_yes : (told : List Told) (e : Told) → differ e.on (state_in told e.channel) ≡ true → change_of told e ≡ (e.channel, e.on) ∷ []
+pub change_yes : (told : List Told) (e : Told) → differ e.on (state_in told e.channel) ≡ true → change_of told e ≡ change e.channel e.on ∷ []
 change_yes told e h = rw h refl
 
 pub change_no : (told : List Told) (e : Told) → differ e.on (state_in told e.channel) ≡ false → change_of told e ≡ []

@@ -4,6 +4,7 @@ use Rattle.std.specs.Int.{bit_at}
 use Rattle.lk_base.specs.Checksum.{differ}
 use Rattle.stream_model.specs.Calendar.{Told, on_by_latest, told_by}
 use Rattle.stream_model.specs.declared.rows.FlowRow.{FlowRow}
+use Rattle.calendar.specs.declared.change.Change.{Change}
 
 -- the words of rows, the latest first
 abbrev pub words_back : List FlowRow → List ℕ
@@ -17,12 +18,16 @@ told_back entries rows = reverse (told_by entries rows)
 abbrev pub state_in : List Told → ℕ → Bool
 state_in told channel = on_by_latest (filter (λ (e : Told). e.channel == channel) told)
 
+-- a channel is on or off from now on
+abbrev pub change : ℕ → Bool → Change
+change channel on = record { channel = channel; on = on }
+
 -- the change that an entry makes after all that was told, if it makes one
-abbrev pub change_of : List Told → Told → List (ℕ × Bool)
-change_of told e = if differ e.on (state_in told e.channel) then (e.channel, e.on) ∷ [] else []
+abbrev pub change_of : List Told → Told → List Change
+change_of told e = if differ e.on (state_in told e.channel) then change e.channel e.on ∷ [] else []
 
 -- the changes that entries make in order after all that was told
-abbrev pub changes : List Told → List Told → List (ℕ × Bool)
+abbrev pub changes : List Told → List Told → List Change
 changes told [] = []
 changes told (e ∷ es) = change_of told e ++ changes (e ∷ told) es
 

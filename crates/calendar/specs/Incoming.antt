@@ -1,8 +1,10 @@
 -- What an incoming calendar stands for: the rows whose words it has taken so far.
-use Rattle.std.specs.Prelude.{◌≡◌, ℕ, ◌+◌, ◌*◌, ◌<◌, min, Bool, true, false, List, length, Option, Some, None, slice_index_or}
+use Rattle.std.specs.Prelude.{◌≡◌, ℕ, ◌+◌, ◌*◌, ◌/◌, ◌^◌, ◌<◌, min, [], Bool, true, false, List, length, Option, Some, None, slice_index_or}
 use Rattle.std.specs.Option.{option_map}
 use Rattle.stream_model.specs.Calendar.{Told, is_valid, word_number}
 use Rattle.stream_model.specs.declared.rows.FlowRow.{FlowRow}
+use Rattle.lk_base.specs.Fields.{crc_field}
+use Rattle.lk_base.specs.Checksum.{control_crc}
 use Rattle.control_words.specs.ControlWord.{IsWordOf}
 use Rattle.control_words.specs.declared.fields.Control.{Control}
 use Rattle.calendar.specs.Changes.{words_back, told_back, state_in}
@@ -12,6 +14,10 @@ use Rattle.calendar.specs.declared.incoming.CalendarIn.{CalendarIn}
 abbrev pub StandsFor : Option Control → ℕ → Type 0
 StandsFor None word = is_valid word ≡ false
 StandsFor (Some c) word = (is_valid word ≡ true) × ((crc : ℕ) × IsWordOf c crc word)
+
+-- this is the control word `word` with the checksum of itself alone: its bits 63:24 are the same
+abbrev pub IsHeardAs : ℕ → ℕ → Type 0
+IsHeardAs word row = (row / 2 ^ 24 ≡ word / 2 ^ 24) × (crc_field row ≡ control_crc [] row)
 
 -- each channel has the state that all that was told gives it
 abbrev pub HasStates : List Bool → List Told → Type 0

@@ -6,6 +6,7 @@ ghost use Rattle.arrayvec.specs.ArrayVec.{array_vec_len};
 ghost use Rattle.calendar.specs.Changes.{changes, change_of, told_by_bits};
 ghost use Rattle.calendar.specs.Incoming.{HasStates};
 
+use super::change::Change;
 use arrayvec::ArrayVec;
 use control_words::{CHANNEL_NUMBERS, Control};
 use lk_base::OutOfMemory;
@@ -22,7 +23,7 @@ pub struct CalendarIn {
 }
 
 // Takes one entry, and adds it to `changed` where it changes its channel.
-fn tell_one(on: &mut [bool], changed: &mut ArrayVec<(u16, bool), 16>, channel: u16, now: bool)
+fn tell_one(on: &mut [bool], changed: &mut ArrayVec<Change, 16>, channel: u16, now: bool)
     requires wide { length on.old ≡ 65536 }
     requires room { array_vec_len changed.old < 16 }
     ensures states { (told : List Told) (e : Told) → HasStates on.old told → e.channel ≡ channel → e.on ≡ now → HasStates on.new (e ∷ told) }
@@ -31,12 +32,12 @@ fn tell_one(on: &mut [bool], changed: &mut ArrayVec<(u16, bool), 16>, channel: u
 {
     if on[channel as usize] != now {
         on[channel as usize] = now;
-        changed.push((channel, now));
+        changed.push(Change { channel, on: now });
     }
 }
 
 // Takes the entries of one word, and adds to `changed` those that change a channel.
-fn tell(entries: &[u16], word: Control, on: &mut [bool], changed: &mut ArrayVec<(u16, bool), 16>)
+fn tell(entries: &[u16], word: Control, on: &mut [bool], changed: &mut ArrayVec<Change, 16>)
     requires short { length entries.now ≤ 16 }
     requires wide { length on.old ≡ 65536 }
     requires empty { changed.old.items ≡ [] }
@@ -70,7 +71,7 @@ impl CalendarIn {
 
     /// Takes the next word, `None` for one that is not valid. `changed` gets each change of a channel's state, in the
     /// order of entries.
-    pub fn take(&mut self, word: Option<Control>, changed: &mut ArrayVec<(u16, bool), 16>)
+    pub fn take(&mut self, word: Option<Control>, changed: &mut ArrayVec<Change, 16>)
         requires empty { changed.old.items ≡ [] }
         requires stands { (entries : List ℕ) × (rows : List FlowRow) × Stands self.old entries rows }
         ensures stands { (entries : List ℕ) (rows : List FlowRow) (slot w : ℕ) → Stands self.old entries rows → StandsFor word w → Stands self.new entries (rows ++ record { slot = slot; word = w } ∷ []) }

@@ -1,5 +1,5 @@
-ghost use Rattle.std.specs.Prelude.{Some};
-ghost use Rattle.calendar.specs.Incoming.{StandsFor};
+ghost use Rattle.std.specs.Prelude.{Some, ℕ};
+ghost use Rattle.calendar.specs.Incoming.{StandsFor, IsHeardAs};
 
 use control_words::{Control, ControlWord, sealed};
 use lk_crc::crc24_of;
@@ -25,4 +25,12 @@ pub fn valid_word(word: u64) -> Option<Control>
     } else {
         None
     }
+}
+
+/// The fields of a control word that was verified with the data before it; `None` if the number is no control word. It does not look at
+/// the checksum, and stands for the flow row with the checksum of the word alone.
+pub fn verified_word(word: u64) -> Option<Control>
+    ensures { (row : ℕ) → IsHeardAs word row → StandsFor result row }
+{
+    ControlWord(word).control().ok()
 }

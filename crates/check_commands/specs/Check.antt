@@ -95,6 +95,7 @@ check_work name = record {
   IsHeld = λ i. ⊥;
   Creates = λ i q. q ≡ faults_name i.plan.out;
   Names = IsReadFor name;
+  IsReadLate = λ files q. ⊥;
 }
 
 abbrev pub check_meaning : List ℕ → Meaning

@@ -77,7 +77,7 @@ pub fn inverts(disparity: i32, weight: i32) -> bool
     requires { weight ≢ pos 0 }
     ensures { result ≡ ((int_le (pos 0) disparity && int_lt (pos 0) weight) || (int_lt disparity (pos 0) && int_lt weight (pos 0))) }
 {
-    (disparity >= 0) == (weight > 0)
+    (disparity ^ weight) >= 0
 }
 
 // Bits 66:64 of a code.
@@ -85,11 +85,8 @@ fn top_bits(inverted: bool, word: Word) -> u128
     ensures value { result ≡ digit inverted * 4 + header_for word }
     ensures below { result < 8 }
 {
-    let header = match word {
-        Word::Data(_) => 1,
-        Word::Control(_) => 2,
-    };
-    if inverted { 4 + header } else { header }
+    let header = 1 + word.is_control() as u128;
+    4 * inverted as u128 + header
 }
 
 // Bits 63:0 of a code.

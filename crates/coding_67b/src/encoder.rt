@@ -1,7 +1,6 @@
-ghost use Rattle.std.specs.Prelude.{◌≡◌, All, List, [], ◌∷◌, ◌++◌, ◌^◌, ◌<◌, ℕ, ◌≤ℤ◌, map, pos, negsuc};
+ghost use Rattle.std.specs.Prelude.{◌≡◌, List, [], ◌∷◌, ◌++◌, ◌^◌, ◌<◌, ℕ, ◌≤ℤ◌, pos, negsuc};
 ghost use Rattle.lk_base.specs.Words.{payload as payload_of, as_sent};
-ghost use Rattle.lane_model.specs.Coding.{code_behind, codes_behind, code_of, disparity, is_inverted, next_disparity, word_of_code};
-ghost use Rattle.coding_67b.specs.Runs.{codes_from, disparity_from};
+ghost use Rattle.lane_model.specs.Coding.{code_behind, code_of, disparity, is_inverted, next_disparity, word_of_code};
 
 use crate::codes::{code, disparity_after, inverts, weight_of};
 use lk_base::Word;
@@ -49,21 +48,6 @@ impl Encoder {
         let next = disparity_after(self.disparity, weight, inverted);
         self.disparity = next;
         code(inverted, word)
-    }
-
-    /// The codes of eight words after the codes so far, as eight calls of `encode` give them.
-    pub fn encode_eight(&mut self, words: &[Word; 8]) -> [u128; 8]
-        ensures value { result ≡ codes_from self.old words.now }
-        ensures disparity { self.new ≡ disparity_from self.old words.now }
-        ensures codes { (before : List ℕ) → self.old ≡ disparity before → (result ≡ codes_behind before words.now) × (self.new ≡ disparity (before ++ result)) }
-        ensures below { All (λ code. code < 2 ^ 67) result }
-        ensures means { map word_of_code result ≡ map as_sent words.now }
-    {
-        let mut codes = [0; 8];
-        for place in 0..8 {
-            codes[place] = self.encode(words[place]);
-        }
-        codes
     }
 
     /// The running disparity: -65..=64.

@@ -12,7 +12,7 @@ use Rattle.csv_rows.specs.Fields.{field, is_text}
 use Rattle.csv_rows.specs.Tables.{KeyRule, place_in, rule_at}
 use Rattle.csv_rows.specs.Items.{item_of, item_by}
 use Rattle.csv_rows.specs.Checked.{ok_item, items_of, has_key, says, text_of, text_beside, fault_by, fault_of, first_fault}
-use Rattle.csv_rows.specs.declared.items.Item.{Item}
+use Rattle.csv_rows.specs.Said.{Item}
 use Rattle.csv_rows.specs.declared.items.RowFault.{RowFault}
 use Rattle.csv_rows.specs.declared.items.RowFault.TheVariants as fault
 use Rattle.csv_rows.proofs.Sound.{no-first}

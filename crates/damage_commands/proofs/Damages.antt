@@ -19,7 +19,8 @@ use Rattle.run_shell.specs.Meaning.{IsMeaning}
 use Rattle.run_shell.specs.Work.{IsWork}
 use Rattle.run_shell.proofs.Works.{is_meaning}
 use Rattle.stream_commands.proofs.OneOutcome.{same_parts}
-use Rattle.damage_commands.specs.PlanLanes.{DamageInputs, IsOfPlan, IsReadFor, damage_inputs_in, lanes_in, names_of_lanes, with_lanes, with_schedule}
+use Rattle.lane_receipts.specs.LaneReports.{names_of_lanes}
+use Rattle.damage_commands.specs.PlanLanes.{DamageInputs, IsOfPlan, IsReadFor, damage_inputs_in, lanes_in, with_lanes, with_schedule}
 use Rattle.damage_commands.specs.Damage.{IsDamaged, damage_meaning, damage_work, damaged_names, lines_from}
 use Rattle.damage_commands.specs.Values.{inputs_value}
 use Rattle.damage_commands.specs.declared.inputs.DamageInputs as code

@@ -21,7 +21,8 @@ use Rattle.run_shell.specs.Outcome.{Output, content_of}
 use Rattle.run_shell.specs.Outputs.{Differ, outs}
 use Rattle.run_shell.proofs.Fills.{other, same}
 use Rattle.run_shell.proofs.OutputNames.{lanes_differ}
-use Rattle.damage_commands.specs.PlanLanes.{DamageInputs, damage_inputs_in, lanes_in, names_of_lanes, with_lanes, with_schedule}
+use Rattle.lane_receipts.specs.LaneReports.{names_of_lanes}
+use Rattle.damage_commands.specs.PlanLanes.{DamageInputs, damage_inputs_in, lanes_in, with_lanes, with_schedule}
 use Rattle.damage_commands.specs.Damage.{IsArrived, damaged_out}
 use Rattle.damage_commands.specs.DamageLaws.{DamageAfterSend}
 use Rattle.damage_commands.proofs.LanesRead.{as_many_read, lane_read}

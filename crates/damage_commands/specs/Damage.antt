@@ -66,6 +66,7 @@ damage_work name = record {
   IsHeld = λ i. ⊥;
   Creates = λ i q. (lane : ℕ) × (lane < i.plan.settings.lanes) × (q ≡ lane_name (damaged_out i.plan.out) lane);
   Names = IsReadFor name;
+  IsReadLate = λ files q. ⊥;
 }
 
 abbrev pub damage_meaning : List ℕ → Meaning

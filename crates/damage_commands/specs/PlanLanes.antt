@@ -5,7 +5,7 @@ use Rattle.link_plan.specs.Plan.{PlanValue}
 use Rattle.link_plan.specs.Schedules.{ScheduleValue}
 use Rattle.plan_inputs.specs.Inputs.{plan_in, schedule_in}
 use Rattle.run_stops.specs.Reading.{Refusal, behind, bytes_in}
-use Rattle.run_shell.specs.Names.{lane_names}
+use Rattle.lane_receipts.specs.LaneReports.{names_of_lanes}
 use Rattle.damage_commands.specs.declared.inputs.TheConstants.{WHOLE_LANE_LIMIT}
 
 -- the most bytes of a lane that is read whole
@@ -17,10 +17,6 @@ unfoldable pub lanes_in : Files → List (List ℕ) → Result (List (List ℕ))
 lanes_in files [] = Ok []
 lanes_in files (name ∷ names) =
     behind (bytes_in files name whole_lane_limit) (λ bytes. behind (lanes_in files names) (λ lanes. Ok (bytes ∷ lanes)))
-
--- the names of the files of a plan's lanes, by number
-abbrev pub names_of_lanes : PlanValue → List (List ℕ)
-names_of_lanes plan = lane_names plan.out plan.settings.lanes
 
 -- a plan, what happens to its lanes, and the bytes of these, by number
 pub record DamageInputs : Type 0 where

@@ -4,7 +4,8 @@ ghost use Rattle.std.specs.declared.alloc.Global.{Global};
 ghost use Rattle.link_plan.specs.Views.{plan_value};
 ghost use Rattle.run_stops.specs.Stops.{StopCount};
 ghost use Rattle.run_stops.specs.Reading.{Reads, vec_items};
-ghost use Rattle.damage_commands.specs.PlanLanes.{IsReadFor, damage_inputs_in, lanes_in, names_of_lanes, whole_lane_limit};
+ghost use Rattle.lane_receipts.specs.LaneReports.{names_of_lanes};
+ghost use Rattle.damage_commands.specs.PlanLanes.{IsReadFor, damage_inputs_in, lanes_in, whole_lane_limit};
 ghost use Rattle.damage_commands.specs.Values.{inputs_value};
 
 use link_plan::{Plan, Schedule};

@@ -88,27 +88,29 @@ module _ (s : Scheduler) (a : Asked) (rows rows_too : List LocalRow) (here : Are
       answered = g.holds.answered;
       calls = g.holds.calls;
       incoming = g.holds.incoming;
-      outgoing = record {
-        shown = g.holds.outgoing.shown;
-        low = g.holds.outgoing.low;
-        wide = g.holds.outgoing.wide;
-        first = g.holds.outgoing.first;
-        states = λ channel h. g.holds.outgoing.states channel h ∙ same channel h;
-        same = λ on channel. elim (cases_lt channel 65536) [
-          | inl below ↦ sym (same channel below) ∙ g.holds.outgoing.same on channel
-          | inr above ↦ far channel (omega (arith, above))
-        ];
-      };
       queues = g.holds.queues;
       at = g.holds.at;
       only = g.holds.only;
       room = g.holds.room;
       line = λ h. line_too _ _ _ (g.holds.line h);
       unstarted = g.holds.unstarted;
-      long = g.holds.long;
-      given = g.holds.given;
-      since = g.holds.since;
-      end = g.holds.end;
+      burst = record {
+        outgoing = record {
+          shown = g.holds.burst.outgoing.shown;
+          low = g.holds.burst.outgoing.low;
+          wide = g.holds.burst.outgoing.wide;
+          first = g.holds.burst.outgoing.first;
+          states = λ channel h. g.holds.burst.outgoing.states channel h ∙ same channel h;
+          same = λ on channel. elim (cases_lt channel 65536) [
+            | inl below ↦ sym (same channel below) ∙ g.holds.burst.outgoing.same on channel
+            | inr above ↦ far channel (omega (arith, above))
+          ];
+        };
+        long = g.holds.burst.long;
+        given = g.holds.burst.given;
+        since = g.holds.burst.since;
+        end = g.holds.burst.end;
+      };
       spaces = g.holds.spaces;
     };
     waiting = g.waiting;

@@ -1,11 +1,11 @@
 -- A worked run of two ends: a packet of eight bytes each way on one channel, in five slots.
 use Rattle.std.specs.Prelude.{◌≡◌, ℕ, refl, false, List, [], ◌∷◌}
-use Rattle.lk_base.specs.declared.position.Pos.{Pos}
 use Rattle.lk_base.specs.declared.word.Word.{Word}
 use Rattle.lk_base.specs.declared.word.Word.TheVariants.{Data, Control}
-use Rattle.stream_model.specs.StreamExamples.{idle, small_shape}
+use Rattle.stream_model.specs.StreamExamples.{idle, one_packet_words, small_shape}
 use Rattle.receive_model.specs.Events.{Setting}
 use Rattle.receive_model.specs.Pieces.{Packet}
+use Rattle.receive_model.specs.Positions.{numbered}
 use Rattle.duplex_model.specs.DuplexRun.{Settings, Ends, IsDuplexRun, peak, queue}
 use Rattle.duplex_model.specs.Came.{came}
 
@@ -25,7 +25,7 @@ two_ends = record { shape = small_shape; channels = 1 ∷ []; entries = 1 ∷ []
 
 -- after the warm-up a burst of one data word, and the word that ends its packet
 abbrev pub words_of_a : List Word
-words_of_a = idle ∷ Control 0xe1ffff01004eac73 ∷ Data 0x0102030405060708 ∷ Control 0x91ffff000038535e ∷ idle ∷ []
+words_of_a = one_packet_words
 
 abbrev pub words_of_b : List Word
 words_of_b = idle ∷ Control 0xe1ffff01004eac73 ∷ Data 0x0807060504030201 ∷ Control 0x91ffff00006f52df ∷ idle ∷ []
@@ -34,11 +34,8 @@ abbrev pub one_channel : Setting
 one_channel = record { channels = 1 ∷ []; in_order = refl; max_packet = 8; wide = false }
 
 -- a packet whose SOP word was sent in slot 1 and its end word in slot 3
-abbrev pub slot : ℕ → Pos
-slot n = record { group = 0; index = n }
-
 abbrev pub packet_of : List ℕ → Packet
-packet_of bytes = record { bytes = bytes; first = slot 1; last = slot 3 }
+packet_of bytes = record { bytes = bytes; first = numbered 1; last = numbered 3 }
 
 pub record TwoEndsRun : Type 0 where
   pub run : IsDuplexRun five_slots two_ends words_of_a words_of_b

@@ -5,7 +5,6 @@ ghost use Rattle.stream_model.specs.BurstStream.{Source};
 ghost use Rattle.duplex_model.specs.DuplexRun.{Settings, AreSettings, Ends};
 ghost use Rattle.duplex.specs.Sides.{IsFresh, Hears, IsSideAt, HasTaken, AreListed, joins, hearing, KeepsQueues};
 
-use crate::hearing::heard;
 use crate::queue::Queues;
 use crate::way::first_word;
 use burst_scheduler::Scheduler;
@@ -72,7 +71,7 @@ impl<'a> Side<'a> {
         ensures rest { KeepsQueues self.old self.new }
     {
         if self.heard {
-            self.scheduler.flow(heard(word));
+            self.scheduler.hear(word);
         }
         self.heard = true;
         self.burst = ControlWord(word).burst_channel(true);

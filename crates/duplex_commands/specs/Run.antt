@@ -102,6 +102,7 @@ duplex_work name = record {
   IsHeld = λ r. ⊥;
   Creates = λ r q. Contains (duplex_names r) q;
   Names = IsReadFor name;
+  IsReadLate = λ files q. ⊥;
 }
 
 abbrev pub duplex_meaning : List ℕ → Meaning

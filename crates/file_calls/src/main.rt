@@ -3,6 +3,7 @@
 
 mod captures;
 mod cases;
+mod file_key;
 mod inputs;
 mod listings;
 mod machine;

@@ -49,6 +49,8 @@ pub struct GatheredFiles {
     pub outputs: Outputs,
     /// How many words the words file was given.
     pub words: u64,
+    /// Room for the bytes of words.
+    pub bytes: Vec<u8>,
 }
 
 impl GatheredFiles {
@@ -61,7 +63,11 @@ impl GatheredFiles {
         let names = output_names(alloc, out)?;
         let mut outputs = Outputs::create(alloc, store, names)?;
         outputs.put(alloc, store, TABLE, heading())?;
-        Ok(GatheredFiles { outputs, words: 0 })
+        Ok(GatheredFiles {
+            outputs,
+            words: 0,
+            bytes: Vec::new(alloc),
+        })
     }
 
     /// Gives these words to the words file. A count that finds no room in 64 bits is reported as out of memory.
@@ -77,9 +83,9 @@ impl GatheredFiles {
         ensures puts { (out : List ℕ) (before : List Received) (rows : List Row) (was : Option Files) → HasPut out before rows self.old was (S.files store.old) →
             Puts out (before ++ words.now) rows result self.new was (S.files store.new) }
     {
-        let bytes = words_bytes(alloc, words)?;
+        words_bytes(&mut self.bytes, words)?;
         self.words = counted(self.words, words.len())?;
-        self.outputs.put(alloc, store, WORDS, &bytes)
+        self.outputs.put(alloc, store, WORDS, &self.bytes)
     }
 
     /// Gives this row to the table.

@@ -1,16 +1,19 @@
 -- `gather` after `stripe` gives the words from the fourth group on.
-use Rattle.std.proofs.Common.{◌≡◌, ◌+◌, ◌/◌, ◌<◌, ◌^◌, ◌==◌, ℕ, zero, suc, Bool, true, false, cond, List, length, take, drop, map, slice_index, replicate, All, sym, ap, subst, arith, lit≤, Option, Some, None, Result, Ok, Err, inl, inr}
+use Rattle.std.proofs.Common.{◌≡◌, ◌+◌, ◌/◌, ◌<◌, ◌^◌, ℕ, zero, suc, List, length, take, drop, map, slice_index, replicate, All, sym, ap, subst, arith, lit≤, Option, Some, None, Result, Ok, Err, inl, inr}
 use Rattle.std.proofs.Math.ListN.{get_or-eq_default}
 use Rattle.std.proofs.lemmas.Bool.{cases_lt}
 use Rattle.std.proofs.lemmas.List.Elements.{All-append, All-cons, All-drop, All-nil, All-replicate, All-take}
-use Rattle.byteorder.specs.Numbers.{big_from-lt}
 use Rattle.lk_base.specs.Limits.{words_limit}
 use Rattle.lk_base.specs.Words.{payload}
 use Rattle.lk_base.specs.declared.word.Word.{Word}
 use Rattle.lk_base.specs.declared.word.Word.TheVariants.{Data, Control}
 use Rattle.lk_outside.specs.Files.{Files, AreBytes, file}
-use Rattle.words_files.specs.WordsOfFile.{given_by, number_in, sent_word_in, sent_words_of_file, tag_in, words_cut}
+use Rattle.words_files.specs.FileWord.{file_number, sent_of}
+use Rattle.words_files.specs.WordsOfFile.{file_word_in, given_by, sent_word_in, sent_words_of_file, words_cut}
 use Rattle.words_files.specs.declared.error.WordsError.{WordsError}
+use Rattle.words_files.specs.declared.file_word.FileWord.{FileWord}
+use Rattle.words_files.specs.declared.file_word.FileWord.TheVariants as tagged
+use Rattle.words_files.proofs.Nine.{number_sized}
 use Rattle.lane_words.specs.GatheredLaws.{CleanLanesGiveStream}
 use Rattle.link_plan.specs.Plan.{PlanValue}
 use Rattle.plan_inputs.specs.Inputs.{plan_in}
@@ -35,12 +38,13 @@ low_at bytes low k = elim (cases_lt k (length bytes)) [
   | inr le ↦ subst (λ b. b < 256) (sym (get_or-eq_default bytes 0 le)) (omega arith)
 ]
 
-word_sized : (b : Bool) (n : ℕ) → n < 2 ^ 64 → payload (cond b (Data n) (Control n)) < 2 ^ 64
-word_sized true n lt = lt
-word_sized false n lt = lt
+sent_sized : (word : FileWord) → file_number word < 2 ^ 64 → payload (sent_of word) < 2 ^ 64
+sent_sized (tagged.Data x) lt = lt
+sent_sized (tagged.Control x) lt = lt
+sent_sized (tagged.Bad x) lt = lt
 
 word_low : (word : List ℕ) → AreLow word → payload (sent_word_in word) < 2 ^ 64
-word_low word low = word_sized (tag_in word == 1) (number_in word) (big_from-lt 0 8 (drop 1 word) (low_at (drop 1 word) (All-drop (λ b. b < 256) 1 word low)))
+word_low word low = sent_sized (file_word_in word) (number_sized word (low_at word low))
 
 cut_sized : (n : ℕ) (bytes : List ℕ) → AreLow bytes → AreSized (map sent_word_in (words_cut n bytes))
 cut_sized zero bytes low = All-nil (λ v. payload v < 2 ^ 64)

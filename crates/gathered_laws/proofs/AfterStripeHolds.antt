@@ -11,7 +11,7 @@ use Rattle.lk_base.specs.declared.word.Word.TheVariants.{Data}
 use Rattle.lk_outside.specs.Files.{AreBytes}
 use Rattle.words_files.specs.WordsFile.{words_file}
 use Rattle.words_files.specs.WordsOfFile.{sent_words_of_file}
-use Rattle.words_files.proofs.SentAgain.{sent_again}
+use Rattle.words_files.proofs.Again.{sent_again}
 use Rattle.link_laws.specs.PremisesMet.{two_lanes}
 use Rattle.lane_words.specs.WordsFile.{rx_words_file}
 use Rattle.plan_inputs.specs.Inputs.{planned_in}

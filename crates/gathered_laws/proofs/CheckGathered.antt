@@ -8,7 +8,7 @@ use Rattle.std.proofs.lemmas.List.Elements.{All-cons, All-nil}
 use lib.Chars.{codes}
 use Rattle.lk_base.specs.Limits.{words_limit}
 use Rattle.lk_base.specs.Link.{group_of}
-use Rattle.lk_base.specs.Words.{as_sent, payload}
+use Rattle.lk_base.specs.Words.{as_sent, number_of, payload}
 use Rattle.lk_base.specs.declared.word.RxWord.{RxWord}
 use Rattle.lk_base.specs.declared.word.Word.{Word}
 use Rattle.lk_base.specs.declared.word.Word.TheVariants.{Data, Control}
@@ -21,7 +21,7 @@ use Rattle.word_rules.specs.declared.fault.Fault.{Fault}
 use Rattle.rule_laws.specs.Law.{IsPlanOf}
 use Rattle.words_files.specs.WordsOfFile.{words_of_file}
 use Rattle.lane_words.specs.GatheredLaws.{WrittenIsRead}
-use Rattle.lane_words.specs.WordsFile.{rx_number, rx_words_file}
+use Rattle.lane_words.specs.WordsFile.{rx_words_file}
 use Rattle.link_plan.specs.Listing.{channels_in_order}
 use Rattle.link_plan.specs.Plan.{PlanValue}
 use Rattle.link_plan.specs.Timed.{flow_of}
@@ -47,17 +47,17 @@ use Rattle.gathered_laws.proofs.Warmup.{none_from_warmup, three_in_warmup}
 
 -- ---- the words are read as they were written
 
-rx_sized : (word : Word) → payload word < 2 ^ 64 → rx_number (as_sent word) < 2 ^ 64
+rx_sized : (word : Word) → payload word < 2 ^ 64 → number_of (as_sent word) < 2 ^ 64
 rx_sized (Data x) h = h
 rx_sized (Control x) h = h
 
-all_sized : (w : List Word) → ((t : ℕ) (word : Word) → IsAt w t word → payload word < 2 ^ 64) → All (λ word. rx_number word < 2 ^ 64) (map as_sent w)
-all_sized [] h = All-nil (λ word. rx_number word < 2 ^ 64)
-all_sized (x ∷ w) h = All-cons (λ word. rx_number word < 2 ^ 64) (as_sent x) (map as_sent w) (rx_sized x (h 0 x refl)) (all_sized w (λ t word at. h (suc t) word at))
+all_sized : (w : List Word) → ((t : ℕ) (word : Word) → IsAt w t word → payload word < 2 ^ 64) → All (λ word. number_of word < 2 ^ 64) (map as_sent w)
+all_sized [] h = All-nil (λ word. number_of word < 2 ^ 64)
+all_sized (x ∷ w) h = All-cons (λ word. number_of word < 2 ^ 64) (as_sent x) (map as_sent w) (rx_sized x (h 0 x refl)) (all_sized w (λ t word at. h (suc t) word at))
 
-later_sized : (n : ℕ) (w : List Word) → ((t : ℕ) (word : Word) → IsAt w t word → payload word < 2 ^ 64) → All (λ word. rx_number word < 2 ^ 64) (map as_sent (drop n w))
+later_sized : (n : ℕ) (w : List Word) → ((t : ℕ) (word : Word) → IsAt w t word → payload word < 2 ^ 64) → All (λ word. number_of word < 2 ^ 64) (map as_sent (drop n w))
 later_sized zero w h = all_sized w h
-later_sized (suc n) [] h = All-nil (λ word. rx_number word < 2 ^ 64)
+later_sized (suc n) [] h = All-nil (λ word. number_of word < 2 ^ 64)
 later_sized (suc n) (x ∷ w) h = later_sized n w (λ t word at. h (suc t) word at)
 
 -- a file within the limit is read whole

@@ -2,7 +2,6 @@
 pub mod StripeWork
 -- What this crate alone cites.
 mod Filling
-mod SentBytes
 mod LaneMaking
 mod StripeLaws
 mod NoWords

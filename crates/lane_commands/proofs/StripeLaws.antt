@@ -11,7 +11,7 @@ use Rattle.stream_model.specs.BurstStream.{Source, IsBurstStream}
 use Rattle.stream_model.proofs.OneStream.{one_stream}
 use Rattle.words_files.specs.WordsFile.{words_file}
 use Rattle.words_files.specs.WordsOfFile.{sent_words_of_file}
-use Rattle.words_files.proofs.SentAgain.{sent_again}
+use Rattle.words_files.proofs.Again.{sent_again}
 use Rattle.tx_end.proofs.Shapes.{whole_groups}
 use Rattle.plan_inputs.proofs.SameSource.{same_source}
 use Rattle.run_stops.specs.Reading.{behind, bytes_by, bytes_in}

@@ -65,6 +65,7 @@ stripe_work name = record {
   IsHeld = λ i. ⊥;
   Creates = λ i q. (lane : ℕ) × (lane < i.plan.settings.lanes) × (q ≡ lane_name i.plan.out lane);
   Names = IsReadFor name;
+  IsReadLate = λ files q. ⊥;
 }
 
 abbrev pub stripe_meaning : List ℕ → Meaning

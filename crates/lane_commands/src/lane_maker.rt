@@ -9,15 +9,20 @@ ghost use Rattle.tx_end.specs.Lanes.{AreEnded, AreFilled};
 ghost use Rattle.lane_commands.specs.Stripe.{filler};
 
 use crate::plan_words::StripeInputs;
-use crate::sent_file::SentFile;
+use control_words::{Control, Eop, sealed};
 use link_reports::slots_line;
 use lk_base::{OutOfMemory, Word};
 use run_shell::{Finished, Maker, Outputs, Step, lane_names};
 use std::alloc::Global;
 use tx_end::{LaneFiller, group_room};
+use words_files::SentFile;
 
-// An idle that resets the calendar, with all flow bits 1 and the CRC24 of itself alone.
-const FILLER: Word = Word::Control(0x81FF_FF00_0018_8177);
+// The word that fills a group: an idle that resets the calendar, with all flow bits 1 and the CRC24 of itself alone.
+fn filler() -> Word
+    ensures { result ≡ filler }
+{
+    Word::Control(sealed(Control::idle(Eop::Going, true, u16::MAX), &[]))
+}
 
 // Reads the words from number `first` on into a group. After the last word come fillers.
 fn read_group(words: &SentFile, first: usize, group: &mut [Word])
@@ -25,8 +30,9 @@ fn read_group(words: &SentFile, first: usize, group: &mut [Word])
     requires few { length words.now < 2 ^ 60 }
     ensures { group.new ≡ take (length group.old) (drop first words.now ++ replicate (length group.old) filler) }
 {
+    let idle = filler();
     for place in 0..group.len() {
-        group[place] = words.get(first + place).unwrap_or(FILLER);
+        group[place] = words.get(first + place).unwrap_or(idle);
     }
 }
 

@@ -4,7 +4,6 @@
 mod lane_maker;
 pub mod laws;
 mod plan_words;
-mod sent_file;
 mod sent_words;
 mod stripe;
 

@@ -8,7 +8,6 @@ ghost use Rattle.lane_commands.specs.SentWords.{sent_words_in};
 ghost use Rattle.lane_commands.specs.Stripe.{IsReadFor, plan_words_in};
 ghost use Rattle.lane_commands.specs.Values.{words_value};
 
-use crate::sent_file::SentFile;
 use crate::sent_words::read_sent_words_file;
 use link_plan::Plan;
 use lk_outside::Store;
@@ -16,6 +15,7 @@ use plan_inputs::read_plan_file;
 use run_shell::words_name;
 use run_stops::Stop;
 use std::alloc::Global;
+use words_files::SentFile;
 
 /// A plan and the words of its words file.
 #[derive(Drop)]

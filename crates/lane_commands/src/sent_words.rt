@@ -4,11 +4,11 @@ ghost use Rattle.run_stops.specs.Stops.{StopCount};
 ghost use Rattle.run_stops.specs.Reading.{Reads};
 ghost use Rattle.lane_commands.specs.SentWords.{sent_words_in};
 
-use crate::sent_file::SentFile;
 use lk_base::WORDS_LIMIT;
 use lk_outside::Store;
 use run_stops::{InputError, Stop, input_stop, read_input};
 use std::alloc::Global;
+use words_files::SentFile;
 
 /// The words of the words file of this name. It is refused exactly where it is absent, has more than 1,073,741,824 bytes, or has a
 /// word that was not sent or is not whole, unless the store fails or memory runs out. The files are as they were.

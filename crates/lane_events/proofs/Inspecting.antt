@@ -344,7 +344,7 @@ split_at (b ∷ bits) zero h = refl
 split_at (b ∷ bits) (suc k) h = ap (λ bs. b ∷ bs) (split_at bits k (omega (arith, h)))
 
 -- of this many bits one, at this place, ends a word
-module _ (v u : InspectorView) (width place x : ℕ) (step : LaneStep) (lt : place < width) (most : width ≤ 56) (low : x < 2 ^ width)
+module _ (v u : InspectorView) (width place x : ℕ) (step : LaneStep) (lt : place < width) (most : width ≤ place + 56) (low : x < 2 ^ width)
     (brings : Brings v.lock u.lock (bits_of width x) (replicate place steps.Nothing ++ step ∷ replicate (width - 1 - place) steps.Nothing)) (pushed : IsPushed v u width x) where
   abbrev front : List Bool
   front = take place (bits_of width x)
@@ -390,7 +390,7 @@ module _ (v u : InspectorView) (width place x : ℕ) (step : LaneStep) (lt : pla
       (goes_past_word v u width x front bit back step brings_cut few pushed window_cut w (subst (λ (n : ℕ). IsPassed u w step n) (sym back_long) passed))
 
 -- one that is told after it was not passed over, with these events
-pub told_of : (v u p w : InspectorView) (width place x : ℕ) (step : LaneStep) (events : List LaneEvent) → place < width → width ≤ 56 → x < 2 ^ width →
+pub told_of : (v u p w : InspectorView) (width place x : ℕ) (step : LaneStep) (events : List LaneEvent) → place < width → width ≤ place + 56 → x < 2 ^ width →
     Brings v.lock u.lock (bits_of width x) (replicate place steps.Nothing ++ step ∷ replicate (width - 1 - place) steps.Nothing) → IsPushed v u width x → p ≡ u →
     IsTold p w step (width - 1 - place) events → GoesOn v w (bits_of width x) events
 told_of v u p w width place x step events lt most low brings pushed same told =

@@ -45,7 +45,7 @@ code_before bits rest window after q most l h e =
     ∙ ap (λ (x : ℕ). x % 2 ^ 67) (ap (λ (x : ℕ). x / 2 ^ after) cut ∙ div-mul-add (high_number bits) (2 ^ after) (high_number rest) low)
     ∙ window_is bits q h
 
-kept : (n k m b : ℕ) → (n % m * k + b) % m ≡ (n * k + b) % m
+pub kept : (n k m b : ℕ) → (n % m * k + b) % m ≡ (n * k + b) % m
 kept n k m b = add-mod (n % m * k) b m ∙ ap (λ (x : ℕ). (x + b % m) % m) (mul-mod_first n k m) ∙ sym (add-mod (n * k) b m)
 
 -- with some bits more
@@ -58,7 +58,7 @@ window_more bits window count x low e =
     ∙ ap (λ (n : ℕ). high_number bits * 2 ^ count + n) (number-bits_of count x low)))
 
 -- the shift
-pub pushed_is : (window bits count : ℕ) → count ≤ 56 → bits < 2 ^ count → bit_or (window * 2 ^ count % 2 ^ 128) bits ≡ (window * 2 ^ count + bits) % 2 ^ 128
+pub pushed_is : (window bits count : ℕ) → count ≤ 128 → bits < 2 ^ count → bit_or (window * 2 ^ count % 2 ^ 128) bits ≡ (window * 2 ^ count + bits) % 2 ^ 128
 pushed_is window bits count most few =
     let j : 128 ≡ (128 - count) + count = omega (arith, most) in
     let p = pow_pos count in

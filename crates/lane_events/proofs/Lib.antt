@@ -18,4 +18,5 @@ mod Inspecting
 mod Pieces
 mod Appending
 mod Until
+mod PassedCodes
 mod SendersBalance

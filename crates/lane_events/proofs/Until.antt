@@ -16,7 +16,7 @@ bits_added : (bytes : List ℕ) (i count : ℕ) → bits_of_bytes (take (i + cou
 bits_added bytes i count = ap bits_of_bytes (take-add i count bytes) ∙ flat_map-append (bits_of 8) (take i bytes) (take count (drop i bytes))
 
 -- some bits after others
-goes_after : (v u w : InspectorView) (a b : List Bool) (new : List LaneEvent) → GoesOn v u a [] → GoesOn u w b new → GoesOn v w (a ++ b) new
+pub goes_after : (v u w : InspectorView) (a b : List Bool) (new : List LaneEvent) → GoesOn v u a [] → GoesOn u w b new → GoesOn v w (a ++ b) new
 goes_after v u w a b new one two = record {
   inspects = λ s bits k. subst (λ (bs : List Bool). Inspects w s bs) (append_assoc bits a b) (two.inspects s (bits ++ a) (one.inspects s bits k));
   events = λ s bits events k are.
@@ -24,20 +24,24 @@ goes_after v u w a b new one two = record {
       subst (λ (bs : List Bool). AreLaneEvents s bs (events ++ new)) (append_assoc bits a b) (two.events s (bits ++ a) events (one.inspects s bits k) front);
 }
 
--- before the first byte
-pub goes_none : (v : InspectorView) (bytes : List ℕ) → GoesOn v v (bits_of_bytes (take 0 bytes)) []
-goes_none v bytes = record {
+-- no bits
+pub goes_none : (v : InspectorView) → GoesOn v v [] []
+goes_none v = record {
   inspects = λ s bits k. subst (λ (bs : List Bool). Inspects v s bs) (sym (append-nil bits)) k;
   events = λ s bits events k are.
       subst (λ (es : List LaneEvent). AreLaneEvents s (bits ++ []) es) (sym (append-nil events)) (subst (λ (bs : List Bool). AreLaneEvents s bs events) (sym (append-nil bits)) are);
 }
 
 -- the next bytes, after some that show nothing
+pub goes_bytes : (v u w : InspectorView) (bytes : List ℕ) (i count : ℕ) (new : List LaneEvent) → GoesOn v u (bits_of_bytes (take i bytes)) [] → GoesOn u w (bits_of_bytes (take count (drop i bytes))) new →
+    GoesOn v w (bits_of_bytes (take (i + count) bytes)) new
+goes_bytes v u w bytes i count new one two =
+    subst (λ (bs : List Bool). GoesOn v w bs new) (sym (bits_added bytes i count)) (goes_after v u w (bits_of_bytes (take i bytes)) (bits_of_bytes (take count (drop i bytes))) new one two)
+
+-- given by their number
 pub goes_more : (v u w : InspectorView) (bytes : List ℕ) (i count number : ℕ) (new : List LaneEvent) → bits_of (8 * count) number ≡ bits_of_bytes (take count (drop i bytes)) →
     GoesOn v u (bits_of_bytes (take i bytes)) [] → GoesOn u w (bits_of (8 * count) number) new → GoesOn v w (bits_of_bytes (take (i + count) bytes)) new
-goes_more v u w bytes i count number new is one two =
-    subst (λ (bs : List Bool). GoesOn v w bs new) (ap (λ bs. bits_of_bytes (take i bytes) ++ bs) is ∙ sym (bits_added bytes i count))
-    (goes_after v u w (bits_of_bytes (take i bytes)) (bits_of (8 * count) number) new one two)
+goes_more v u w bytes i count number new is one two = goes_bytes v u w bytes i count new one (subst (λ (bs : List Bool). GoesOn u w bs new) is two)
 
 -- they are the last
 pub goes_to_end : (v u w : InspectorView) (bytes : List ℕ) (i count number : ℕ) (new : List LaneEvent) → bits_of (8 * count) number ≡ bits_of_bytes (take count (drop i bytes)) → i + count ≡ length bytes →
@@ -51,8 +55,8 @@ none_shown None e = refl
 none_shown (Some w) e = absurd (true≢false e)
 
 -- what showed none
-pub sevens_on : (v u : InspectorView) (bytes : List ℕ) (at : ℕ) (shown : Option WordEvents) → is_some shown ≡ false → GoesOn v u (bits_of_bytes (take at bytes)) (shown_in shown) → GoesOn v u (bits_of_bytes (take at bytes)) []
-sevens_on v u bytes at shown none on = subst (λ (es : List LaneEvent). GoesOn v u (bits_of_bytes (take at bytes)) es) (none_shown shown none) on
+pub pieces_on : (v u : InspectorView) (bytes : List ℕ) (at : ℕ) (shown : Option WordEvents) → is_some shown ≡ false → GoesOn v u (bits_of_bytes (take at bytes)) (shown_in shown) → GoesOn v u (bits_of_bytes (take at bytes)) []
+pieces_on v u bytes at shown none on = subst (λ (es : List LaneEvent). GoesOn v u (bits_of_bytes (take at bytes)) es) (none_shown shown none) on
 
 pub none_if_not : (shown : Option WordEvents) → ((w : WordEvents) → shown ≡ Some w → ⊥) → shown_in shown ≡ []
 none_if_not None e = refl

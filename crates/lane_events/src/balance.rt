@@ -1,7 +1,8 @@
 ghost use Rattle.std.specs.Prelude.{◌≡◌, ◌<◌, ◌^◌, ◌≤ℤ◌, ◌+ℤ◌, ◌||◌, int_lt, pos, negsuc, Option, IfSome, if◌then◌else◌, Some, None};
+ghost use Rattle.lane_lock.specs.Run.{are_codes};
 ghost use Rattle.std.specs.Int.Count.{ones_in};
 ghost use Rattle.lane_model.specs.Coding.{excess};
-ghost use Rattle.lane_events.specs.Balance.{balance_after, is_far_off};
+ghost use Rattle.lane_events.specs.Balance.{balance_after, balance_over as balance_after_all, is_far_off};
 
 use lane_model::CODE_BITS;
 
@@ -31,6 +32,23 @@ pub fn balance_with(before: Option<i32>, code: u128) -> Option<i32>
         None => None,
         Some(n) => within(n + excess_of(code)),
     }
+}
+
+/// The ones less the zeros after eight codes more, where they were never over 129 apart.
+#[inline(always)]
+pub fn balance_over(before: Option<i32>, codes: &[u128; 8]) -> Option<i32>
+    requires codes { are_codes codes.now }
+    requires low { IfSome before (λ n. negsuc 128 ≤ℤ n) }
+    requires high { IfSome before (λ n. n ≤ℤ pos 129) }
+    ensures value { result ≡ balance_after_all before codes.now }
+    ensures low { IfSome result (λ n. negsuc 128 ≤ℤ n) }
+    ensures high { IfSome result (λ n. n ≤ℤ pos 129) }
+{
+    let mut balance = before;
+    for place in 0..8 {
+        balance = balance_with(balance, codes[place]);
+    }
+    balance
 }
 
 // The same number, where it is not over 129 from 0.

@@ -1,26 +1,34 @@
-ghost use Rattle.std.specs.Prelude.{◌≡◌, ◌<◌, ◌≤◌, ◌+◌, ◌-◌, ◌*◌, ◌/◌, ◌%◌, ◌^◌, ◌++◌, true, false, ℕ, Bool, List, [], length, take, OnOk, IfOk, IfSome, IfNone};
+ghost use Rattle.std.specs.Prelude.{◌≡◌, ◌<◌, ◌≤◌, ◌+◌, ◌-◌, ◌*◌, ◌/◌, ◌%◌, ◌^◌, ◌++◌, true, false, ℕ, Bool, List, [], length, drop, take, OnOk, IfOk, IfSome, IfNone};
 ghost use Rattle.lk_base.specs.Checksum.{bits_of, bits_of_bytes};
 ghost use Rattle.lk_base.specs.Link.{Settings};
+ghost use Rattle.lane_model.specs.LaneBits.{bits_of_codes};
 ghost use Rattle.lane_lock.specs.Bytes.{Brings, steps_of_bits};
+ghost use Rattle.lane_lock.specs.Run.{are_codes};
 ghost use Rattle.lane_lock.specs.Standing.{IsReport};
+ghost use Rattle.lane_lock.specs.Taken.{payloads_next};
 ghost use Rattle.lane_events.specs.declared.types.LaneEvent.{LaneEvent as Event};
 ghost use Rattle.lane_events.specs.Events.{AreLaneEvents};
 ghost use Rattle.lane_events.specs.Balance.{balance_after as balance_with};
 ghost use Rattle.lane_events.specs.Inspection.{Finds, GoesOn, Inspects, IsCounted, IsPassed, IsPushed, IsShown, IsTold, ShowsNone, events_if, events_in, excess_before, shown_in};
 
-use crate::balance::balance_with;
-use crate::told::{balance_after, balance_before, is_plain, told};
+use crate::balance::{balance_over, balance_with};
+use crate::told::{balance_after, balance_before, is_plain, told, unbalances};
 use crate::types::LaneEvent;
-use crate::windows::{code_in, number_at, pushed};
+use crate::windows::{code_in, last_of, number_at, pushed};
 use crate::word_events::WordEvents;
-use lane_lock::{Completed, LaneLock};
-use lk_base::{Link, OutOfMemory, tail};
+use lane_lock::{Completed, LaneLock, eight_codes};
+use lk_base::{Link, OutOfMemory, head, tail};
 use lock_model::{LaneReport, LaneStep};
 use std::alloc::Global;
 use std::marker::Model;
 
 // How many bytes are taken at once: a word has 67 bits, so at most one ends within the 56 of seven bytes.
 const PIECE: usize = 7;
+
+// The words that are taken at once if they show nothing, and their bytes.
+const WORDS: usize = 8;
+
+const WORDS_BYTES: usize = 67;
 
 /// What shows the events of one lane as its bytes come. It takes memory when it is made, and none after.
 #[derive(Drop)]
@@ -114,8 +122,8 @@ impl LaneInspector {
         let code = self.code(further);
         let started = balance_before(step, self.balance);
         self.balance = balance_after(step, started, code);
-        let unbalances = started.is_some() && self.balance.is_none();
-        let events = told(step, &self.counted, after, unbalances);
+        let is_lost = unbalances(started, self.balance);
+        let events = told(step, &self.counted, after, is_lost);
         self.counted = *after;
         events
     }
@@ -217,7 +225,7 @@ impl LaneInspector {
         ensures all { IfNone result.1 (result.0 ≡ length bytes.now) }
         ensures soon { (n : ℕ) → n + 7 ≤ result.0 → ShowsNone self.old (bits_of_bytes (take n bytes.now)) }
     {
-        let (at, shown) = self.take_sevens(bytes);
+        let (at, shown) = self.take_pieces(bytes);
         if shown.is_some() {
             return (at, shown);
         }
@@ -233,9 +241,65 @@ impl LaneInspector {
         (bytes.len(), None)
     }
 
-    // Takes bytes in pieces of seven, while more than seven are left and none showed an event. Returns how many it took, and the events
-    // of the word that showed some.
-    fn take_sevens(&mut self, bytes: &[u8]) -> (usize, Option<WordEvents>)
+    // Takes eight payload words of a declared lock at once by their codes, if they show nothing. Returns whether it did; if not, nothing
+    // changes.
+    #[inline(always)]
+    fn passes_codes(&mut self, codes: &[u128; 8]) -> bool
+        requires codes { are_codes codes.now }
+        requires ahead { 8 ≤ payloads_next self.old.lock }
+        requires few { self.old.taken + 536 ≤ 2 ^ 60 }
+        ensures taken { result ≡ true → self.new.taken ≡ self.old.taken + 536 }
+        ensures goes_on { result ≡ true → GoesOn self.old self.new (bits_of_codes codes.now) [] }
+        ensures same { result ≡ false → self.new ≡ self.old }
+    {
+        let after = balance_over(self.balance, codes);
+        if unbalances(self.balance, after) {
+            return false;
+        }
+        if !self.lock.take_codes(codes) {
+            return false;
+        }
+        self.balance = after;
+        self.window = last_of(codes);
+        true
+    }
+
+    // Takes the next eight words at once, if they are payload words that begin with this byte and show nothing. Returns whether it did;
+    // if not, nothing changes.
+    #[inline(always)]
+    fn passes_words(&mut self, bytes: &[u8], at: usize) -> bool
+        requires there { at ≤ length bytes.now }
+        requires few { self.old.taken + 8 * (length bytes.now - at) ≤ 2 ^ 60 }
+        ensures there { result ≡ true → at + 67 ≤ length bytes.now }
+        ensures taken { result ≡ true → self.new.taken ≡ self.old.taken + 536 }
+        ensures goes_on { result ≡ true → GoesOn self.old self.new (bits_of_bytes (take 67 (drop at bytes.now))) [] }
+        ensures same { result ≡ false → self.new ≡ self.old }
+    {
+        if bytes.len() - at < WORDS_BYTES || self.lock.payloads_left() < WORDS {
+            return false;
+        }
+        self.passes_codes(&eight_codes(head(tail(bytes, at), WORDS_BYTES)))
+    }
+
+    // How many bytes are taken next: seven, or fewer if the next word ends with one of them. So no word that begins with a byte is
+    // missed.
+    #[inline(always)]
+    fn piece(&self) -> usize
+        ensures some { 1 ≤ result }
+        ensures most { result ≤ 7 }
+    {
+        let left = self.lock.bits_left() as usize;
+        let bytes = left / 8;
+        if left % 8 == 0 && 1 <= bytes && bytes <= PIECE {
+            bytes
+        } else {
+            PIECE
+        }
+    }
+
+    // Takes bytes in pieces, while more than seven are left and none showed an event. Returns how many it took, and the events of the
+    // word that showed some.
+    fn take_pieces(&mut self, bytes: &[u8]) -> (usize, Option<WordEvents>)
         requires few { self.old.taken + 8 * length bytes.now ≤ 2 ^ 60 }
         ensures within { result.0 ≤ length bytes.now }
         ensures taken { self.new.taken ≡ self.old.taken + 8 * result.0 }
@@ -247,8 +311,13 @@ impl LaneInspector {
         let mut events = WordEvents::new(0);
         let mut at = 0;
         while bytes.len() - at > PIECE {
-            let shows = self.next_events(number_at(bytes, at, PIECE), PIECE as u32, &mut events);
-            at += PIECE;
+            if self.passes_words(bytes, at) {
+                at += WORDS_BYTES;
+                continue;
+            }
+            let count = self.piece();
+            let shows = self.next_events(number_at(bytes, at, count), count as u32, &mut events);
+            at += count;
             if shows {
                 return (at, Some(events));
             }

@@ -4,7 +4,7 @@ ghost use Rattle.lane_model.specs.Coding.{excess};
 ghost use Rattle.arrayvec.specs.ArrayVec.{array_vec_len};
 ghost use Rattle.lane_events.specs.Events.{is_no_skip as no_skip, is_unhealthy as unhealthy, loss_kind as kind_of_loss};
 ghost use Rattle.lane_events.specs.Inspection.{events_in};
-ghost use Rattle.lane_events.specs.Steps.{balance_before as before_step, balance_behind, covered_has, event_of, events_at, is_plain_word as plain_word, told as told_of};
+ghost use Rattle.lane_events.specs.Steps.{balance_before as before_step, balance_behind, covered_has, event_of, events_at, is_plain_word as plain_word, told as told_of, unbalances as unbalanced};
 
 use crate::balance::balance_with;
 use crate::types::EventKind;
@@ -73,6 +73,13 @@ pub fn balance_after(step: LaneStep, balance: Option<i32>, code: u128) -> Option
         LaneStep::Lost(_, _) => balance,
         LaneStep::Ended => balance,
     }
+}
+
+/// True if a code unbalances its lock: it is balanced before it and not after it.
+pub fn unbalances(before: Option<i32>, after: Option<i32>) -> bool
+    ensures { result ≡ unbalanced before after }
+{
+    before.is_some() && after.is_none()
 }
 
 // The events of a covered word.

@@ -1,5 +1,6 @@
-ghost use Rattle.std.specs.Prelude.{◌≡◌, ◌<◌, ◌≤◌, ◌+◌, ◌-◌, ◌*◌, ◌/◌, ◌%◌, ◌^◌, length, take, drop};
+ghost use Rattle.std.specs.Prelude.{◌≡◌, ◌<◌, ◌≤◌, ◌+◌, ◌-◌, ◌*◌, ◌/◌, ◌%◌, ◌^◌, get_or, length, take, drop};
 ghost use Rattle.lk_base.specs.Checksum.{bits_of, bits_of_bytes};
+ghost use Rattle.lane_lock.specs.Run.{are_codes};
 
 use lane_model::CODE_BITS;
 use lk_base::{eight_at, head, tail};
@@ -60,4 +61,12 @@ pub fn code_in(window: u128, after: u32) -> u128
     ensures below { result < 2 ^ 67 }
 {
     window >> (after % 64) & ((1 << CODE_BITS) - 1)
+}
+
+/// The last 128 bits of eight codes, the latest in bit 0.
+pub fn last_of(codes: &[u128; 8]) -> u128
+    requires { are_codes codes.now }
+    ensures { result ≡ (get_or codes.now 6 0 * 2 ^ 67 + get_or codes.now 7 0) % 2 ^ 128 }
+{
+    codes[6] << CODE_BITS | codes[7]
 }

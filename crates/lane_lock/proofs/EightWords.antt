@@ -18,15 +18,15 @@ use Rattle.lane_lock.proofs.WordsRan.{all_ran, key_more, keyed_more, polynomial,
 pub no_words : (given : List Bool) → AreWordsOf [] given
 no_words given = record { codes = []; below = tt; bits = no_codes; means = refl; legal = tt }
 
-codes_more : (codes : List ℕ) (code : ℕ) → are_codes codes → code < 2 ^ 67 → are_codes (codes ++ code ∷ [])
+pub codes_more : (codes : List ℕ) (code : ℕ) → are_codes codes → code < 2 ^ 67 → are_codes (codes ++ code ∷ [])
 codes_more [] code h k = (k, tt)
 codes_more (c ∷ codes) code h k = (h.0, codes_more codes code h.1 k)
 
-legal_more : (ws : List RxWord) (w : RxWord) → all_legal ws → is_bad w ≡ false → all_legal (ws ++ w ∷ [])
+pub legal_more : (ws : List RxWord) (w : RxWord) → all_legal ws → is_bad w ≡ false → all_legal (ws ++ w ∷ [])
 legal_more [] w h k = (k, tt)
 legal_more (x ∷ ws) w h k = (h.0, legal_more ws w h.1 k)
 
-means_more : (codes : List ℕ) (code : ℕ) → map word_of_code codes ++ word_of_code code ∷ [] ≡ map word_of_code (codes ++ code ∷ [])
+pub means_more : (codes : List ℕ) (code : ℕ) → map word_of_code codes ++ word_of_code code ∷ [] ≡ map word_of_code (codes ++ code ∷ [])
 means_more [] code = refl
 means_more (c ∷ codes) code = ap (λ (g : List RxWord). word_of_code c ∷ g) (means_more codes code)
 

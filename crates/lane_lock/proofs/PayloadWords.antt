@@ -4,7 +4,7 @@ use Rattle.std.proofs.lemmas.Bool.{le-leb, leb-true, ne_eqb}
 use Rattle.lane_lock.specs.Inside.{InsideState, is_last, payload_number, payloads_left}
 use Rattle.lane_lock.specs.Watch.{WatchState, payloads_ahead}
 
-some_where : (b : Bool) (n : ℕ) → 1 ≤ cond b n 0 → (b ≡ true) × (1 ≤ n)
+pub some_where : (b : Bool) (n : ℕ) → 1 ≤ cond b n 0 → (b ≡ true) × (1 ≤ n)
 some_where true n h = (refl, h)
 some_where false n h = absurd (omega (arith, h))
 

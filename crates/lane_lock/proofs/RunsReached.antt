@@ -20,9 +20,9 @@ use Rattle.lane_lock.specs.Run.{AreWordsOf, RunState, all_legal, are_codes, keye
 use Rattle.lane_lock.specs.Watch.{payloads_ahead}
 use Rattle.lane_lock.proofs.Batches.{Ran, ran_more}
 use Rattle.lane_lock.proofs.FoundSteps.{found_more, payload_more, payload_step}
-use Rattle.lane_lock.proofs.PayloadAnswers.{payload_answers, seen_counts, seen_payload}
-use Rattle.lane_lock.proofs.PayloadRuns.{answered_more, word_brings}
-use Rattle.lane_lock.proofs.PayloadWords.{ahead_inside, ahead_moves, number_next, payload_moves, payload_next}
+use Rattle.lane_lock.proofs.PayloadAnswers.{seen_payload}
+use Rattle.lane_lock.proofs.PayloadRuns.{ahead_taken, code_taken}
+use Rattle.lane_lock.proofs.PayloadWords.{ahead_inside, number_next, payload_next}
 
 -- ---- codes and their bits
 
@@ -98,19 +98,17 @@ module _ (v : LaneView) (given : List Bool) (found : List LaneStep) (number star
       let long = k.long in
       let next : 1 ≤ payloads_ahead (watch_ran v.watch done run) = omega (arith, more, ahead) in
       let inside = ahead_inside (watch_ran v.watch done run) next in
-      let left = payload_moves run.inside new.inside inside.1 refl refl in
-      let moves = ahead_moves (watch_ran v.watch done run) (watch_ran v.watch (done + 1) new) next refl left in
+      let moves = ahead_taken v.watch done run word next in
       let later = number_next run.inside new.inside inside.1 refl (payload_next run.inside new.inside inside.1 refl) in
       let seen = seen_payload run.inside word in
-      let here : start + 67 * done ≡ v.at + 67 * done = ap (λ (x : ℕ). x + 67 * done) place in
       let role : seen.role ≡ roles.Payload (number + done) = ap roles.Payload this in
       let step = payload_step number start done seen.word in
       let a = lane_ran v done last run in
       let b = lane_ran v (done + 1) code new in
       let brings : Brings a b (bits_of 67 code) (replicate 66 steps.Nothing ++ step ∷ []) =
-      subst (λ (r : Role). Brings a b (bits_of 67 code) (replicate 66 steps.Nothing ++ steps.Word seen.word r (start + 67 * done) ∷ [])) role
-      (word_brings v done last code run new word seen (start + 67 * done) ew begins low refl
-      (answered_more v.watch done run new word seen (payload_answers (watch_ran v.watch done run) word inside.1 legal inside.0)) (seen_counts run.inside word legal) here) in
+      subst (λ (x : ℕ). Brings a b (bits_of 67 code) (replicate 66 steps.Nothing ++ steps.Word seen.word (roles.Payload (number + done)) (x + 67 * done) ∷ [])) (sym place)
+      (subst (λ (r : Role). Brings a b (bits_of 67 code) (replicate 66 steps.Nothing ++ steps.Word seen.word r (v.at + 67 * done) ∷ [])) role
+      (code_taken v done last code run ew begins next low legal)) in
       record {
         ran = ran_more v a b given done code step found (found ++ payload_steps number start plain) _ k.ran (omega arith) (omega arith) bits (omega (arith, more, begins, place, few))
             (found_more found (payload_steps number start plain) step _

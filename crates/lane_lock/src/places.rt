@@ -1,6 +1,8 @@
-ghost use Rattle.std.specs.Prelude.{◌≡◌, ◌<◌, ◌≤◌, ◌+◌, ◌*◌, ◌^◌, drop, length, take, IfSome};
+ghost use Rattle.std.specs.Prelude.{◌≡◌, ◌<◌, ◌≤◌, ◌+◌, ◌*◌, ◌^◌, drop, length, map, take, IfNone, IfSome};
 ghost use Rattle.lk_base.specs.Checksum.{bits_of, bits_of_bytes};
-ghost use Rattle.lane_lock.specs.Run.{AreWordsOf};
+ghost use Rattle.lane_model.specs.Coding.{word_of_code};
+ghost use Rattle.lane_model.specs.LaneBits.{bits_of_codes};
+ghost use Rattle.lane_lock.specs.Run.{AreWordsOf, all_legal, are_codes};
 
 use crate::words::last_bits;
 use coding_67b::decode;
@@ -66,6 +68,38 @@ fn words_of(bytes: &[u8]) -> Option<[RxWord; 8]>
     let mut words = [RxWord::Bad; 8];
     for place in 0..8 {
         let word = decode(code_at(bytes, CODE_BITS as usize * place));
+        if word.is_bad() {
+            return None;
+        }
+        words[place] = word;
+    }
+    Some(words)
+}
+
+/// The codes of 67 bytes, the first bit of each highest.
+#[inline(always)]
+pub fn eight_codes(bytes: &[u8]) -> [u128; 8]
+    requires { length bytes.now ≡ 67 }
+    ensures bits { bits_of_codes result ≡ bits_of_bytes bytes.now }
+    ensures below { are_codes result }
+{
+    let mut codes = [0; 8];
+    for place in 0..8 {
+        codes[place] = code_at(bytes, CODE_BITS as usize * place);
+    }
+    codes
+}
+
+/// The words of eight codes, if each header is legal.
+#[inline(always)]
+pub fn legal_words(codes: &[u128; 8]) -> Option<[RxWord; 8]>
+    requires { are_codes codes.now }
+    ensures words { IfSome result (λ words. (words ≡ map word_of_code codes.now) × all_legal words) }
+    ensures illegal { IfNone result (all_legal (map word_of_code codes.now) → ⊥) }
+{
+    let mut words = [RxWord::Bad; 8];
+    for place in 0..8 {
+        let word = decode(codes[place]);
         if word.is_bad() {
             return None;
         }

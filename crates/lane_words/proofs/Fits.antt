@@ -24,12 +24,12 @@ use Rattle.event_model.specs.Fed.{Fed}
 use Rattle.event_model.specs.Given.{AreItems, lanes_at}
 use Rattle.receive_model.proofs.Cuts.{split}
 use Rattle.lane_words.specs.Gathered.{between, words_after}
-use Rattle.lane_words.specs.WordsFile.{rx_number}
+use Rattle.lk_base.specs.Words.{number_of}
 
 -- ---- a word of a lane
 
 abbrev Fits : RxWord → Type 0
-Fits word = rx_number word < 2 ^ 64
+Fits word = number_of word < 2 ^ 64
 
 bad_fits : Fits Bad
 bad_fits = lit< tt
@@ -163,5 +163,5 @@ words_fit broken (Word at word ∷ items) h =
 words_fit broken (Break at why ∷ items) h = All-append Fits (between broken) (words_after true items) (between_fits broken) (words_fit true items h)
 
 -- of the items of lanes
-pub gathered_fit : (s : Settings) (clock : ℕ) (fed : List Fed) (items : List Aligned) → AreItems s clock fed items → All (λ word. rx_number word < 2 ^ 64) (words_after false items)
+pub gathered_fit : (s : Settings) (clock : ℕ) (fed : List Fed) (items : List Aligned) → AreItems s clock fed items → All (λ word. number_of word < 2 ^ 64) (words_after false items)
 gathered_fit s clock fed items h = words_fit false items (items_fit s clock fed items h)

@@ -7,7 +7,7 @@ use Rattle.lk_base.specs.declared.word.RxWord.{RxWord}
 use Rattle.lk_base.specs.declared.word.RxWord.TheVariants.{Data, Control, Bad}
 use Rattle.lk_base.specs.declared.word.Word.{Word as SentWord}
 use Rattle.lk_base.specs.Link.{Settings}
-use Rattle.lk_base.specs.Words.{as_sent}
+use Rattle.lk_base.specs.Words.{as_sent, number_of}
 use Rattle.receive_model.specs.Positions.{Epoch}
 use Rattle.receive_model.specs.Pieces.{Packet}
 use Rattle.receive_model.specs.Events.{Event, Setting, delivered, events, word_events}
@@ -17,7 +17,7 @@ use Rattle.epoch_model.specs.KnownLaw.{AreLanes, all_over}
 use Rattle.epoch_model.specs.SoFar.{AreKnown, LaneSoFar, tracks_in}
 use Rattle.epoch_model.specs.StreamLaw.{Carries}
 use Rattle.words_files.specs.WordsOfFile.{words_of_file}
-use Rattle.lane_words.specs.WordsFile.{rx_number, rx_words_file}
+use Rattle.lane_words.specs.WordsFile.{rx_words_file}
 use Rattle.event_model.specs.Given.{AreEvents}
 use Rattle.lane_words.specs.Gathered.{epochs_in, gathered_words, words_of_epochs}
 use Rattle.lane_words.specs.Items.{AreAllItems}
@@ -35,7 +35,7 @@ WordsGrow = (items more : List Aligned) → Extends items more
 
 -- as the words that were received, each Bad one among them
 abbrev pub WrittenIsRead : Type 0
-WrittenIsRead = (words : List RxWord) → All (λ word. rx_number word < 2 ^ 64) words → words_of_file (rx_words_file words) ≡ Ok words
+WrittenIsRead = (words : List RxWord) → All (λ word. number_of word < 2 ^ 64) words → words_of_file (rx_words_file words) ≡ Ok words
 
 -- ---- epochs
 

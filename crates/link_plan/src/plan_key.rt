@@ -1,4 +1,4 @@
-/// A key of a plan file. The table of keys is in the same order.
+/// A key of a plan file. The table of keys is in the same order, which `PlanKey::rules` proves.
 #[derive(Clone, Copy, Debug, PartialEq, Eq)]
 pub enum PlanKey {
     /// `lanes`

@@ -11,7 +11,8 @@ use Rattle.epoch_model.specs.SoFar.{AreKnown, LaneSoFar}
 use Rattle.event_model.specs.Fed.{first_bits, longest, whole}
 use Rattle.event_model.specs.Given.{bits_in, lanes_at}
 use Rattle.event_model.proofs.Clocks.{length-bits}
-use Rattle.link_laws.specs.Accidents.{Accidents, AreAccidents}
+use Rattle.link_laws.specs.Accidents.{AreAccidents}
+use Rattle.report_model.specs.declared.counts.Accidents.{Accidents}
 use Rattle.link_laws.specs.Received.{bits_of_lanes, whole_lane}
 use Rattle.rx_front.specs.Standing.{locks_at}
 use Rattle.rx_front.specs.States.{State}

@@ -7,15 +7,15 @@ ghost use Rattle.epoch_model.specs.SoFar.{LaneSoFar};
 ghost use Rattle.rx_end.specs.Observing.{AreLater};
 ghost use Rattle.link_replay.specs.Groups.{starts_of};
 ghost use Rattle.link_replay.specs.Lanes.{HaveFew, strange_sum};
-ghost use Rattle.link_replay.specs.Standing.{Holds, IsSame, RunsOn, ShowsItem, TakesNext, TakesWord, TellsGroup, TellsItem, Watches, skews_of, with_break, with_group};
+ghost use Rattle.link_replay.specs.Standing.{Holds, IsSame, RunsOn, ShowsItem, TakesNext, TakesWord, TellsGroup, TellsItem, Watches, skews_of, with_group};
 
-use crate::counts::Accidents;
 use crate::group::is_sent_group;
 use crate::lanes::{fresh_lanes, note_locks, strange_locks};
 use crate::places::{group_slot, made, slot_in};
 use crate::watched_lane::WatchedLane;
 use crate::watched_stretch::WatchedStretch;
 use lk_base::{Aligned, Link, OutOfMemory, Pos, RxWord, head, tail};
+use report_model::Accidents;
 use rx_front::Front;
 use std::alloc::Global;
 use std::marker::Model;

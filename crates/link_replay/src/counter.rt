@@ -4,11 +4,10 @@ ghost use Rattle.lk_base.specs.Link.{Settings, group_of};
 ghost use Rattle.link_laws.specs.Accidents.{AreAccidents};
 ghost use Rattle.rx_front.specs.States.{State as FrontState};
 ghost use Rattle.link_replay.specs.Counting.{Counts, HasCounted, HasCountedAll, HasCountedSome, given_to};
-ghost use Rattle.link_replay.specs.Counts.{counts_value};
 
 use crate::accident_watch::AccidentWatch;
-use crate::counts::Accidents;
 use lk_base::{Aligned, Link, OutOfMemory, head};
+use report_model::Accidents;
 use rx_end::Observer;
 use rx_front::Front;
 use std::alloc::Global;
@@ -53,7 +52,7 @@ impl<'w> Counter<'w> {
     pub fn counts(&self) -> Accidents
         requires { HasCountedSome self.now }
         ensures { (f : FrontState) (s : Settings) (lanes : List (List ℕ)) → HasCountedAll self.now f s lanes →
-            AreAccidents (given_to self.now) (map bits_of_bytes lanes) (counts_value result) }
+            AreAccidents (given_to self.now) (map bits_of_bytes lanes) result }
     {
         self.watch.counts()
     }

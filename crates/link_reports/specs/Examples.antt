@@ -6,7 +6,7 @@ use Rattle.receive_model.specs.Events.{word_events, shown_spans}
 use Rattle.receive_model.specs.Rows.{channel0, whole, flipped, bad}
 use Rattle.lk_base.specs.declared.word.RxWord.{RxWord}
 use Rattle.lock_model.specs.declared.types.LaneReport.{LaneReport}
-use Rattle.link_reports.specs.declared.replay.Missing.{Missing}
+use Rattle.report_model.specs.declared.counts.Missing.{Missing}
 use Rattle.link_reports.specs.Lines.{line_end, sent_line, slots_line, got_line, spans_line, dropped_line, held_line, count_line, lane_line, accidents_line, missing_line, resend_line, end_line}
 use Rattle.link_reports.specs.Drops.{drop_counts}
 use Rattle.link_reports.specs.Table.{span_table}
@@ -50,7 +50,7 @@ pub record WorkedTexts : Type 0 where
   pub no_words_table : table_of [] ≡ under_heading (line (codes "-,-,-,-,start") [])
   pub got : got_line 0 1 60 ≡ line (codes "got channel=0 packets=1 bytes=60") []
   pub spans : spans_line 2 ≡ line (codes "spans 2") []
-  pub sent : sent_line 0 1 60 2 ≡ line (codes "sent channel=0 packets=1 bytes=60 left=2") []
+  pub sent : sent_line (record { channel = 0; packets = 1; bytes = 60; left = 2 }) ≡ line (codes "sent channel=0 packets=1 bytes=60 left=2") []
   pub slots : slots_line 12 ≡ line (codes "slots 12") []
   pub held : held_line 2 ≡ line (codes "held channel=2") []
   pub count : count_line (codes "samples") 7 ≡ line (codes "samples 7") []
@@ -62,5 +62,5 @@ pub record WorkedTexts : Type 0 where
   pub steady_lane : lane_line 0 steady ≡ line (codes "lane 0 locks=1 first=6432 lost=0 unframed=0 bad=0 sync=0 state=0 diag=0") []
   pub darkened_lane : lane_line 3 darkened ≡ line (codes "lane 3 locks=2 first=6432 lost=1 unframed=3 bad=15 sync=4 state=5 diag=6") []
   pub silent_lane : lane_line 1 silent ≡ line (codes "lane 1 locks=0 first=- lost=0 unframed=2 bad=0 sync=0 state=0 diag=0") []
-  pub accidents : accidents_line 1 2 3 ≡ line (codes "accidents locks=1 groups=2 stretches=3") []
+  pub accidents : accidents_line (record { locks = 1; groups = 2; stretches = 3 }) ≡ line (codes "accidents locks=1 groups=2 stretches=3") []
   pub missing : missing_line lost_packet ≡ line (codes "missing channel=1 packet=0 first=112 last=185 span=1") []

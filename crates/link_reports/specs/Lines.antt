@@ -5,7 +5,9 @@ use lib.Chars.{codes}
 use Rattle.lk_base.specs.declared.fault.DropWhy.{DropWhy}
 use Rattle.lock_model.specs.declared.types.LaneReport.{LaneReport}
 use Rattle.link_reports.specs.Drops.{all_drops, drop_name, drop_place}
-use Rattle.link_reports.specs.declared.replay.Missing.{Missing}
+use Rattle.report_model.specs.declared.counts.Accidents.{Accidents}
+use Rattle.report_model.specs.declared.counts.Missing.{Missing}
+use Rattle.report_model.specs.declared.counts.SentCount.{SentCount}
 
 -- a name of a value, its number, and what comes after it
 abbrev pub told : List ℕ → ℕ → List ℕ → List ℕ
@@ -15,12 +17,12 @@ abbrev pub line_end : List ℕ
 line_end = 10 ∷ []
 
 -- what was sent of a channel: its sent packets, their bytes, and how many others there are
-abbrev pub sent_line : ℕ → ℕ → ℕ → ℕ → List ℕ
-sent_line channel packets bytes left =
-    told (codes "sent channel=") channel
-    (told (codes " packets=") packets
-    (told (codes " bytes=") bytes
-    (told (codes " left=") left line_end)))
+abbrev pub sent_line : SentCount → List ℕ
+sent_line count =
+    told (codes "sent channel=") count.channel
+    (told (codes " packets=") count.packets
+    (told (codes " bytes=") count.bytes
+    (told (codes " left=") count.left line_end)))
 
 -- how many words the stream has
 abbrev pub slots_line : ℕ → List ℕ
@@ -86,11 +88,11 @@ lane_line lane report = lane_locks lane report ++ lane_words report
 
 -- the accidents of a replayed link: locks at no Sync that was sent, groups of Syncs that were not sent together, and stretches
 -- that pass and are not as they were sent
-abbrev pub accidents_line : ℕ → ℕ → ℕ → List ℕ
-accidents_line locks groups stretches =
-    told (codes "accidents locks=") locks
-    (told (codes " groups=") groups
-    (told (codes " stretches=") stretches line_end))
+abbrev pub accidents_line : Accidents → List ℕ
+accidents_line counts =
+    told (codes "accidents locks=") counts.locks
+    (told (codes " groups=") counts.groups
+    (told (codes " stretches=") counts.stretches line_end))
 
 -- a sent packet that did not come: its channel, its number there, the slots of its first and its last word, and the number of
 -- the first span that it meets

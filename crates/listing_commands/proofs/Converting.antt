@@ -16,7 +16,7 @@ use Rattle.run_shell.specs.Work.{refused_outcome, IsOfInputs}
 use Rattle.run_stops.specs.Reading as reading
 use Rattle.run_shell.specs.Writing.{Fills, Writes}
 use Rattle.run_stops.proofs.Moves.{told_refl, if_told_by}
-use Rattle.run_shell.proofs.Works.{store_stops, untouched}
+use Rattle.run_shell.proofs.Works.{fails_created, fails_first, store_stops, untouched}
 use Rattle.listing_commands.specs.Conversion.{Conversion, made_outcome, IsAccepted, IsRefused, Converts, CreatesBy, conversion_meaning, IsConversion, Gives}
 
 -- ---- what was read
@@ -105,7 +105,7 @@ module _ (c : Conversion) where
   stops-at : (s : Stop) (u : Files) (x : Option Files) → Reads vec_items (λ n. n ≡ c.name) (Err s) (bytes_in u c.name c.limit) → Comes (conversion_meaning c) x x (Err s) u
   stops-at (stop.Plan why) u x h = not-had u (reading.of_plan why) x h
   stops-at (stop.Input n why) u x h = not-had u (reading.of_input (string_bytes n) why) x h
-  stops-at (stop.Store n) u x h = ((string_bytes n, inl h, refl), untouched (conversion_meaning c) u x)
+  stops-at (stop.Store n) u x h = ((string_bytes n, fails_first (conversion_meaning c) u (string_bytes n) x (inl h), refl), untouched (conversion_meaning c) u x)
   stops-at stop.StoreNoMemory u x h = (refl, untouched (conversion_meaning c) u x)
   stops-at stop.OutOfMemory u x h = (refl, untouched (conversion_meaning c) u x)
 
@@ -172,7 +172,7 @@ module _ (c : Conversion) where
       })
       comes (Err s) u x y is h =
           store_stops (conversion_meaning c) (Contains (c.created ∷ [])) s u x y h.by_store
-          (λ q k. inr (creates-of u q is (one-name q k)))
+          (λ q k. let made = creates-of u q is (one-name q k) in fails_created (conversion_meaning c) u q x y (inr made) made)
           (λ o k. h.part o (one-of c law bytes o (made_outcome c.created c.counted content count) (to-bytes u o is k) (inl (content, count, made, refl))))
 
       pub writes_comes : (r : Result Finished Stop) (x y z : Option Files) → y ≡ x → IfSome x Had → Writes Only (c.created ∷ []) r y z → IfSome x (Comes (conversion_meaning c) x z r)

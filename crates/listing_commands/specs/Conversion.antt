@@ -51,6 +51,7 @@ conversion_meaning c = record {
   IsOutcome = λ files o. MatchResult (bytes_in files c.name c.limit) (λ bytes. Converts c bytes o) (λ r. o ≡ refused_outcome r);
   Creates = λ files q. MatchResult (bytes_in files c.name c.limit) (CreatesBy c q) (λ r. ⊥);
   Names = λ files q. (q ≡ c.name) ⊎ MatchResult (bytes_in files c.name c.limit) (CreatesBy c q) (λ r. ⊥);
+  IsReadLate = λ files q. ⊥;
   IsPlanRefused = λ files. ⊥;
   IsInputRefused = λ files. MatchResult (bytes_in files c.name c.limit) (IsRefused c) IsOfInputs;
   IsHeld = λ files. ⊥;

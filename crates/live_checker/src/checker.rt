@@ -1,5 +1,6 @@
 ghost use Rattle.std.specs.Prelude.{◌≡◌, ◌≤◌, ◌<◌, ◌^◌, [], ◌∷◌, List, IfOk, length, vec_capacity};
 ghost use Rattle.lk_base.specs.declared.word.RxWord.{RxWord};
+ghost use Rattle.duplex_model.specs.DuplexRun.{heard_word};
 ghost use Rattle.word_rules.specs.Checks.{Keeps};
 ghost use Rattle.word_rules.specs.Faults.{Plan};
 ghost use Rattle.word_rules.specs.Flows.{InOrder};
@@ -156,13 +157,14 @@ impl LiveChecker {
         true
     }
 
-    /// Takes a word of flow control of the far end. It counts from the next word on, if it is valid.
+    /// Hears a control word of the far end that was verified, whatever its checksum. It counts from the next word on, as a flow row with the
+    /// checksum of the word alone.
     ///
     /// # Errors
     ///
     /// In this order: the words were ended, faults are due. Nothing has changed then.
-    pub fn flow(&mut self, word: u64) -> Result<(), Misuse>
-        ensures { IsFlow self.old self.new word result }
+    pub fn hear(&mut self, word: u64) -> Result<(), Misuse>
+        ensures { IsFlow self.old self.new (heard_word word) result }
     {
         if let Some(why) = self.flow_refusal() {
             return Err(why);

@@ -1,6 +1,7 @@
 ghost use Rattle.std.specs.Prelude.{◌≡◌, ◌≤◌, ◌<◌, ◌+◌, ◌⊎◌, ◌↔◌, ℕ, List, true, false, length, IfOk};
 ghost use Rattle.std.specs.Bool.{OnFalse, OnTrue};
 ghost use Rattle.std.specs.List.{AllPairs};
+ghost use Rattle.duplex_model.specs.DuplexRun.{heard_word};
 ghost use Rattle.live_stream.specs.LiveStream.{IsWholeLiveStream};
 ghost use Rattle.live_stream.specs.Gives.{most_words};
 ghost use Rattle.live_lanes.specs.Lanes.{AreLonger, has_room, waiting_on, wants_payload};
@@ -86,15 +87,16 @@ impl LiveTransmitter {
         self.scheduler.packet(channel, bytes)
     }
 
-    /// Gives the word of a flow row of the far end. It counts from the next word on, if it is valid.
+    /// Hears a control word of the far end that was verified, whatever its checksum. It counts from the next word on, as a flow row with the
+    /// checksum of the word alone.
     ///
     /// # Errors
     ///
     /// It was closed. Nothing has changed then.
-    pub fn flow(&mut self, word: u64) -> Result<(), Closed>
-        ensures { IsFlow self.old self.new word result }
+    pub fn hear(&mut self, word: u64) -> Result<(), Closed>
+        ensures { IsFlow self.old self.new (heard_word word) result }
     {
-        self.scheduler.flow(word)
+        self.scheduler.hear(word)
     }
 
     /// Gives a state of this end's own. The control words tell it, from the next one on, if the channel has an entry in the calendar.

@@ -13,6 +13,7 @@ ghost use Rattle.live_gatherer.specs.Taking.{GivesNext, GivesShown, HasRun, IsTo
 use crate::items::next_item;
 use crate::numbering::Numbering;
 use crate::types::{Gathered, GatheredBreak, GatheredWord};
+use lane_model::CODE_BITS;
 use lk_base::{Aligned, Link, OutOfMemory, Pos, RxWord};
 use rx_front::Front;
 use std::alloc::Global;
@@ -34,7 +35,7 @@ fn bit_of(start: u64, skips: u32, row: u32) -> u64
     requires skips { skips ≤ 4 }
     ensures { result ≡ bit_in start skips row }
 {
-    start + 67 * (skips as u64 + 2 + row as u64)
+    start + CODE_BITS as u64 * (skips as u64 + 2 + row as u64)
 }
 
 impl Taker {

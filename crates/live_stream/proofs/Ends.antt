@@ -1,10 +1,10 @@
 -- Where the words end: after one control word more, after one data word more, and what is said of the whole stream.
-use Rattle.std.proofs.Common.{◌≡◌, ◌⊎◌, inl, inr, ℕ, ◌+◌, ◌-◌, ◌*◌, ◌/◌, ◌%◌, ◌<◌, ◌≤◌, List, [], ◌∷◌, ◌++◌, length, map, take, drop, get_or, Option, Some, None, refl, sym, ap, subst, ◌∙◌, arith, append_assoc}
+use Rattle.std.proofs.Common.{◌≡◌, ◌⊎◌, inl, inr, ℕ, ◌+◌, ◌-◌, ◌*◌, ◌/◌, ◌%◌, ◌<◌, ◌≤◌, List, [], ◌∷◌, ◌++◌, length, map, get_or, Option, Some, None, refl, sym, ap, subst, ◌∙◌, arith}
 use Rattle.std.specs.Option.{IsSome}
 use Rattle.std.proofs.Math.Nat.{div-mul-le_self, mod-eq-sub-div-mul}
 use Rattle.std.proofs.Math.Seq.{take-append_seam}
 use Rattle.std.proofs.lemmas.Bool.{cases_lt}
-use Rattle.std.proofs.lemmas.List.{take-append-le, length_push, length-take-le, get_or-take}
+use Rattle.std.proofs.lemmas.List.{take-append-le, length_push}
 use Rattle.std.proofs.lemmas.Nat.{mod_below}
 use Rattle.std.proofs.lemmas.Option.{slice_get_within}
 use Rattle.lk_base.specs.Least.{IsLeast}
@@ -12,14 +12,14 @@ use Rattle.lk_base.specs.Words.{block}
 use Rattle.lk_base.specs.declared.word.Word.{Word}
 use Rattle.lk_base.specs.declared.word.Word.TheVariants.{Data, Control}
 use Rattle.lk_base.proofs.LeastLemmas.{one_least}
-use Rattle.stream_model.specs.BurstStream.{Source, IsAt, IsReady, data_since, end_format}
+use Rattle.stream_model.specs.BurstStream.{Source, IsAt, IsReady}
 use Rattle.stream_model.proofs.Blocks.{at_cases}
 use Rattle.stream_model.proofs.Bursts.{at_seam}
 use Rattle.calendar.specs.Changes.{told_back}
-use Rattle.calendar.specs.Outgoing.{StandsOut}
 use Rattle.burst_scheduler.specs.Gives.{SpacesFit}
-use Rattle.burst_scheduler.proofs.DataSteps.{drop_next, same_controls}
-use Rattle.burst_scheduler.proofs.Filling.{IsInRange}
+use Rattle.burst_scheduler.specs.Bursts.{KeepsRun}
+use Rattle.burst_scheduler.specs.declared.line.BurstLine.{BurstLine}
+use Rattle.burst_scheduler.proofs.LineWords.{planned_data, holds_data}
 use Rattle.burst_scheduler.proofs.Prefix.{two_groups}
 use Rattle.live_stream.specs.LiveStream.{Given, source_at, warmup_of, IsLiveEnding, IsWholeLiveStream}
 use Rattle.live_stream.specs.Waiting.{channels_of}
@@ -154,17 +154,13 @@ module _ (s : LiveScheduler) (g : Given) (w : List Word) (h : Gives s g w) where
 
 -- ---- one data word more
 
-data_next : (w : List Word) (xs : List ℕ) (n : ℕ) → n < length xs → (w ++ Data (get_or xs n 0) ∷ []) ++ map Data (drop (n + 1) xs) ≡ w ++ map Data (drop n xs)
-data_next w xs n h = append_assoc w (Data (get_or xs n 0) ∷ []) (map Data (drop (n + 1) xs)) ∙ ap (λ ds. w ++ map Data ds) (sym (drop_next xs n h))
-
-pub data_step : (s : LiveScheduler) (range : IsInRange s.eop) (g : Given) (w : List Word) (d : ℕ) → Gives s g w → MayGoOn s → s.given < s.count → d ≡ get_or s.run.items s.given 0 → Gives (record s { given = s.given + 1; slot = s.slot + 1; end_in_range = range }) g (w ++ Data d ∷ [])
-data_step s range g w d h going below is =
+pub data_step : (s : LiveScheduler) (burst : BurstLine) (g : Given) (w : List Word) (d : ℕ) → Gives s g w → MayGoOn s → s.burst.given < s.burst.count → KeepsRun s.burst burst → burst.given ≡ s.burst.given + 1
+    → d ≡ get_or s.burst.run.items s.burst.given 0 → Gives (record s { slot = s.slot + 1; burst = burst }) g (w ++ Data d ∷ [])
+data_step s burst g w d h going below kept given is =
     let k = h.words in
-    let new : LiveScheduler = record s { given = s.given + 1; slot = s.slot + 1; end_in_range = range } in
+    let new : LiveScheduler = record s { slot = s.slot + 1; burst = burst } in
     let l : length (w ++ Data d ∷ []) ≡ length w + 1 = length_push w (Data d) in
-    let many : length (take s.count s.run.items) ≡ s.count = length-take-le s.count s.run.items (let c = k.within.1 in let r = k.long in omega (arith, c, r)) in
-    let value : d ≡ get_or (take s.count s.run.items) s.given 0 = is ∙ sym (get_or-take s.count s.run.items s.given 0 below) in
-    let same : planned new (w ++ Data d ∷ []) ≡ planned s w = ap (λ n. (w ++ Data n ∷ []) ++ map Data (drop (s.given + 1) (take s.count s.run.items))) value ∙ data_next w (take s.count s.run.items) s.given (omega (arith, below, many)) in
+    let same : planned new (w ++ Data d ∷ []) ≡ planned s w = planned_data s.burst burst (source_of g) w d k.burst kept below given is in
     record {
       words = record {
         settings = record { sizes = k.settings.sizes; short = k.settings.short; group = k.settings.group; warm = k.settings.warm };
@@ -179,13 +175,9 @@ data_step s range g w d h going below is =
         begun = λ t x at. let b = k.begun t x (subst (λ (v : List Word). IsAt v t (Control x)) same at) in omega (arith, b, l);
         has = subst (HasChunks (source_of g)) (sym same) k.has;
         incoming = k.incoming;
-        outgoing = subst (StandsOut s.outgoing g.entries g.local) (sym (same_controls w d)) k.outgoing;
         turns = subst (λ (v : List Word). AreInTurn g.channels (told_back g.entries g.flow) v (channels_of s.turns.items)) (sym same) k.turns;
         left = subst (HaveLeft s.turns.items s.sizes (source_of g)) (sym same) k.left;
-        long = k.long;
-        within = (omega (arith, below), k.within.1);
-        since = ap data_since same ∙ k.since;
-        end = k.end ∙ ap (end_format (source_of g)) (sym same);
+        burst = holds_data s.burst burst (source_of g) w d k.burst kept below given is;
         spaces = subst (SpacesFit s.free s.short) (sym same) k.spaces;
       };
       distinct = h.distinct;

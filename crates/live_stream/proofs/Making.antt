@@ -10,14 +10,13 @@ use Rattle.lk_base.specs.declared.shape.Shape.{Shape}
 use Rattle.lk_base.specs.declared.word.Word.{Word}
 use Rattle.lk_base.specs.declared.word.Word.TheVariants.{Data, Control}
 use Rattle.control_words.specs.ControlWord.{eop_format}
-use Rattle.control_words.specs.declared.fields.Eop.TheVariants.{Going}
 use Rattle.stream_model.specs.BurstStream.{IsAt, start_mark, mark_cmp, data_since, end_format}
 use Rattle.calendar.specs.Incoming.{Stands}
-use Rattle.calendar.specs.Outgoing.{StandsOut}
 use Rattle.burst_scheduler.specs.Queues.{sizes_of}
 use Rattle.burst_scheduler.proofs.Filling.{key_start}
 use Rattle.burst_scheduler.proofs.Lines.{less_row}
 use Rattle.burst_scheduler.proofs.Making.{no_words, since_none, no_end}
+use Rattle.burst_scheduler.specs.Bursts.{IsFreshLine}
 use Rattle.live_stream.specs.LiveStream.{Given}
 use Rattle.live_stream.specs.Waiting.{channels_of}
 use Rattle.live_stream.specs.Turns.{AreInTurn, HaveLeft}
@@ -33,9 +32,6 @@ pub record IsFresh (s : LiveScheduler) (shape : Shape) (max_packet : ℕ) : Type
   pub group : s.group ≡ shape.group
   pub warm : s.warm ≡ shape.warmup * shape.group
   pub slot : s.slot ≡ 0
-  pub count : s.count ≡ 0
-  pub given : s.given ≡ 0
-  pub eop : s.eop ≡ Going
   pub free : s.free ≡ 0
   pub longest : s.max_packet ≡ max_packet
   pub packets_closed : s.packets_closed ≡ false
@@ -56,13 +52,13 @@ first_turns channels line distinct same rising = record {
     below : (a b : ℕ) → a ≤ b → (a ≡ b → ⊥) → a < b
     below a b h ne = elim (cases_lt a b) [ inl l ↦ l | inr g ↦ absurd (ne (let s : a ≡ b = omega arith in s)) ]
 
-module _ (s : LiveScheduler) (shape : Shape) (max_packet : ℕ) (channels entries : List ℕ) (fresh : IsFresh s shape max_packet) where
+module _ (s : LiveScheduler) (shape : Shape) (max_packet : ℕ) (channels entries : List ℕ) (fresh : IsFresh s shape max_packet) (line : IsFreshLine s.burst entries) where
   none : planned s [] ≡ []
-  none = ap₂ (λ g n. map Data (drop g (take n s.run.items))) fresh.given fresh.count
+  none = ap₂ (λ g n. map Data (drop g (take n s.burst.run.items))) line.given line.count
 
-  pub nothing_yet : AllPairs (λ (x y : ℕ). x ≡ y → ⊥) channels → Stands s.incoming entries [] → StandsOut s.outgoing entries [] 0 → IsPermutation channels (channels_of s.turns.items) → IsNonDecreasing (channels_of s.turns.items)
-      → All IsEmpty s.turns.items → length s.run.items ≡ 512 → Gives s (nothing_given shape max_packet channels entries) []
-  nothing_yet distinct incoming outgoing same rising empty run =
+  pub nothing_yet : AllPairs (λ (x y : ℕ). x ≡ y → ⊥) channels → Stands s.incoming entries [] → IsPermutation channels (channels_of s.turns.items) → IsNonDecreasing (channels_of s.turns.items)
+      → All IsEmpty s.turns.items → Gives s (nothing_given shape max_packet channels entries) []
+  nothing_yet distinct incoming same rising empty =
       let g : Given = nothing_given shape max_packet channels entries in
       record {
         words = record {
@@ -73,13 +69,15 @@ module _ (s : LiveScheduler) (shape : Shape) (max_packet : ℕ) (channels entrie
           begun = λ t x at. no_words t (Control x) (subst (λ (v : List Word). IsAt v t (Control x)) none at);
           has = λ t x at b. no_words t (Control x) (subst (λ (v : List Word). IsAt v t (Control x)) none at);
           incoming = incoming;
-          outgoing = outgoing;
           turns = subst (λ (v : List Word). AreInTurn channels [] v (channels_of s.turns.items)) (sym none) (first_turns channels (channels_of s.turns.items) distinct same rising);
           left = subst (HaveLeft s.turns.items s.sizes (source_of g)) (sym none) (λ k d l. let e = empty k d l in empty_left s.sizes (get_or s.turns.items k d) e);
-          long = run;
-          within = (omega (arith, fresh.given), omega (arith, fresh.count));
-          since = ap data_since none ∙ since_none ∙ sym (ap (λ n. take n s.run.items) fresh.count);
-          end = ap eop_format fresh.eop ∙ sym (no_end (source_of g)) ∙ sym (ap (end_format (source_of g)) none);
+          burst = record {
+            outgoing = line.outgoing;
+            long = line.long;
+            given = (let a = line.given in let b = line.count in (omega (arith, a), omega (arith, b)));
+            since = ap data_since none ∙ since_none ∙ sym (ap (λ n. take n s.burst.run.items) line.count);
+            end = ap eop_format line.eop ∙ sym (no_end (source_of g)) ∙ sym (ap (end_format (source_of g)) none);
+          };
           spaces = record { near = λ t l e. absurd (let n = ap length none in omega (arith, l, n)); far = inl fresh.free };
         };
         distinct = distinct;

@@ -28,7 +28,8 @@ use Rattle.calendar.specs.Incoming.{Stands}
 use Rattle.calendar.specs.Outgoing.{StandsOut}
 use Rattle.calendar.specs.declared.incoming.CalendarIn.{CalendarIn}
 use Rattle.calendar.specs.declared.outgoing.CalendarOut.{CalendarOut}
-use Rattle.burst_scheduler.proofs.Filling.{IsInRange}
+use Rattle.burst_scheduler.specs.Bursts.{with_outgoing}
+use Rattle.burst_scheduler.specs.declared.line.BurstLine.{BurstLine}
 use Rattle.live_stream.proofs.InTurn.{apart}
 use Rattle.stream_model.specs.BurstStream.{controls_in}
 use Rattle.live_stream.specs.Gives.{AreCountsOf, IsAccepted, to_come, Gives, HasEnd, HasChunks, AreRight, packet_added, flow_added, local_added, packets_closed_in, closed_at, planned, source_of}
@@ -194,13 +195,13 @@ end_same g made v (Some z) h = ((h.0.0, h.0.1, (ending_same g h.0.0 v z h.0.2.0,
 
 -- ---- the calls
 
-abbrev pub with_turns : (s : LiveScheduler) → Vec Waiting Global → IsInRange s.eop → LiveScheduler
-with_turns s turns range = record s { turns = turns; end_in_range = range }
+abbrev pub with_turns : LiveScheduler → Vec Waiting Global → LiveScheduler
+with_turns s turns = record s { turns = turns }
 
 module _ (s : LiveScheduler) (g : Given) (w : List Word) (h : Gives s g w) where
-  pub packet_step : (turns : Vec Waiting Global) (range : IsInRange s.eop) (at : ℕ) (old new : Waiting) (channel : ℕ) (bytes : List ℕ) → turns.items ≡ set s.turns.items at new → at < length s.turns.items → old ≡ get_or s.turns.items at old → new.channel ≡ old.channel
-      → old.channel ≡ channel → ((sizes : BurstSizes) (packets : List (List ℕ)) (done : ℕ) → HasLeft old sizes packets done → HasLeft new sizes (packets ++ bytes ∷ []) done) → 1 ≤ length bytes → length bytes ≤ g.max_packet → g.closed ≡ None → Gives (with_turns s turns range) (packet_added g w channel bytes) w
-  packet_step turns range at old new channel bytes is below old_is same named more some short open_still =
+  pub packet_step : (turns : Vec Waiting Global) (at : ℕ) (old new : Waiting) (channel : ℕ) (bytes : List ℕ) → turns.items ≡ set s.turns.items at new → at < length s.turns.items → old ≡ get_or s.turns.items at old → new.channel ≡ old.channel
+      → old.channel ≡ channel → ((sizes : BurstSizes) (packets : List (List ℕ)) (done : ℕ) → HasLeft old sizes packets done → HasLeft new sizes (packets ++ bytes ∷ []) done) → 1 ≤ length bytes → length bytes ≤ g.max_packet → g.closed ≡ None → Gives (with_turns s turns) (packet_added g w channel bytes) w
+  packet_step turns at old new channel bytes is below old_is same named more some short open_still =
       let k = h.words in
       let c : Given = packet_added g w channel bytes in
       let v : List Word = planned s w in
@@ -222,7 +223,6 @@ module _ (s : LiveScheduler) (g : Given) (w : List Word) (h : Gives s g w) where
           begun = k.begun;
           has = more_chunks g w channel bytes v k.has;
           incoming = k.incoming;
-          outgoing = k.outgoing;
           turns = subst (AreInTurn g.channels (told_back g.entries g.flow) v) (sym line) (record { exact = k.turns.exact; ordered = k.turns.ordered });
           left = subst (λ ts. HaveLeft ts s.sizes (source_of c) v) (sym is)
               (all_set s.turns.items at old new below old_is same
@@ -235,10 +235,7 @@ module _ (s : LiveScheduler) (g : Given) (w : List Word) (h : Gives s g w) where
               (subst (λ (q : Waiting). HasLeft q s.sizes (packets_of (source_of g) q.channel) (bursts_in v q.channel)) (sym old_is) (k.left at old below))))))
               (λ i q inside ne l. subst (λ ps. HasLeft (get_or s.turns.items i q) s.sizes ps (bursts_in v (get_or s.turns.items i q).channel))
               (sym (other_packets g w channel bytes (get_or s.turns.items i q).channel (λ e. other_place i q inside ne (sym e)))) l));
-          long = k.long;
-          within = k.within;
-          since = k.since;
-          end = k.end ∙ sym (same_format g w channel bytes v k.has);
+          burst = record { outgoing = k.burst.outgoing; long = k.burst.long; given = k.burst.given; since = k.burst.since; end = k.burst.end ∙ sym (same_format g w channel bytes v k.has) };
           spaces = k.spaces;
         };
         distinct = h.distinct;
@@ -266,9 +263,9 @@ module _ (s : LiveScheduler) (g : Given) (w : List Word) (h : Gives s g w) where
       end_kept (Some z) e = let no : None ≡ Some e.0.0 = sym open_still ∙ e.0.1 in cc
 
   -- a queue that holds what it held
-  pub packet_kept : (turns : Vec Waiting Global) (range : IsInRange s.eop) (at : ℕ) (old new : Waiting) → turns.items ≡ set s.turns.items at new → at < length s.turns.items → old ≡ get_or s.turns.items at old → new.channel ≡ old.channel
-      → ((sizes : BurstSizes) (packets : List (List ℕ)) (done : ℕ) → HasLeft old sizes packets done → HasLeft new sizes packets done) → Gives (with_turns s turns range) g w
-  packet_kept turns range at old new is below old_is same more =
+  pub packet_kept : (turns : Vec Waiting Global) (at : ℕ) (old new : Waiting) → turns.items ≡ set s.turns.items at new → at < length s.turns.items → old ≡ get_or s.turns.items at old → new.channel ≡ old.channel
+      → ((sizes : BurstSizes) (packets : List (List ℕ)) (done : ℕ) → HasLeft old sizes packets done → HasLeft new sizes packets done) → Gives (with_turns s turns) g w
+  packet_kept turns at old new is below old_is same more =
       let k = h.words in
       let v : List Word = planned s w in
       let line : channels_of turns.items ≡ channels_of s.turns.items = ap channels_of is ∙ same_channels s.turns.items at old new below old_is same in
@@ -282,16 +279,12 @@ module _ (s : LiveScheduler) (g : Given) (w : List Word) (h : Gives s g w) where
           begun = k.begun;
           has = k.has;
           incoming = k.incoming;
-          outgoing = k.outgoing;
           turns = subst (AreInTurn g.channels (told_back g.entries g.flow) v) (sym line) (record { exact = k.turns.exact; ordered = k.turns.ordered });
           left = subst (λ ts. HaveLeft ts s.sizes (source_of g) v) (sym is)
               (all_set s.turns.items at old new below old_is same P P k.left
               (subst (λ (i : ℕ). HasLeft new s.sizes (packets_of (source_of g) i) (bursts_in v i)) (sym same) (more s.sizes (packets_of (source_of g) old.channel) (bursts_in v old.channel) (subst P (sym old_is) (k.left at old below))))
               (λ i q inside ne l. l));
-          long = k.long;
-          within = k.within;
-          since = k.since;
-          end = k.end;
+          burst = k.burst;
           spaces = k.spaces;
         };
         distinct = h.distinct;
@@ -307,10 +300,10 @@ module _ (s : LiveScheduler) (g : Given) (w : List Word) (h : Gives s g w) where
     end_open c same None e = λ closed z is_closed ending. let no : None ≡ Some closed = sym open_still ∙ sym same ∙ is_closed in cc
     end_open c same (Some z) e = let no : None ≡ Some e.0.0 = sym open_still ∙ e.0.1 in cc
 
-    pub flow_step : (turns : Vec Waiting Global) (incoming : CalendarIn) (range : IsInRange s.eop) (word : ℕ) → Stands incoming g.entries (flow_added g w word).flow
+    pub flow_step : (turns : Vec Waiting Global) (incoming : CalendarIn) (word : ℕ) → Stands incoming g.entries (flow_added g w word).flow
         → AreInTurn g.channels (told_back g.entries (flow_added g w word).flow) (planned s w) (channels_of turns.items) → HaveLeft turns.items s.sizes (source_of g) (planned s w)
-        → Gives (record s { turns = turns; incoming = incoming; end_in_range = range }) (flow_added g w word) w
-    flow_step turns incoming range word stands order left =
+        → Gives (record s { turns = turns; incoming = incoming }) (flow_added g w word) w
+    flow_step turns incoming word stands order left =
         let k = h.words in
         record {
           words = record {
@@ -326,13 +319,9 @@ module _ (s : LiveScheduler) (g : Given) (w : List Word) (h : Gives s g w) where
             begun = k.begun;
             has = k.has;
             incoming = stands;
-            outgoing = k.outgoing;
             turns = order;
             left = left;
-            long = k.long;
-            within = k.within;
-            since = k.since;
-            end = k.end;
+            burst = record { outgoing = k.burst.outgoing; long = k.burst.long; given = k.burst.given; since = k.burst.since; end = k.burst.end };
             spaces = k.spaces;
           };
           distinct = h.distinct;
@@ -343,11 +332,11 @@ module _ (s : LiveScheduler) (g : Given) (w : List Word) (h : Gives s g w) where
           finish = end_open (flow_added g w word) refl s.finish h.finish;
         }
 
-    pub local_step : (outgoing : CalendarOut) (range : IsInRange s.eop) (channel : ℕ) (on : Bool) → StandsOut outgoing g.entries (local_added g w channel on).local (controls_in w)
-        → Gives (record s { outgoing = outgoing; end_in_range = range }) (local_added g w channel on) w
-    local_step outgoing range channel on stands =
+    pub local_step : (burst : BurstLine) (outgoing : CalendarOut) (channel : ℕ) (on : Bool) → burst ≡ with_outgoing s.burst outgoing → StandsOut outgoing g.entries (local_added g w channel on).local (controls_in w)
+        → Gives (record s { burst = burst }) (local_added g w channel on) w
+    local_step burst outgoing channel on is stands =
         let k = h.words in
-        record {
+        subst (λ (l : BurstLine). Gives (record s { burst = l }) (local_added g w channel on) w) (sym is) (record {
           words = record {
             settings = record { sizes = k.settings.sizes; short = k.settings.short; group = k.settings.group; warm = k.settings.warm };
             given_by = record {
@@ -361,13 +350,9 @@ module _ (s : LiveScheduler) (g : Given) (w : List Word) (h : Gives s g w) where
             begun = k.begun;
             has = k.has;
             incoming = k.incoming;
-            outgoing = stands;
             turns = k.turns;
             left = k.left;
-            long = k.long;
-            within = k.within;
-            since = k.since;
-            end = k.end;
+            burst = record { outgoing = stands; long = k.burst.long; given = k.burst.given; since = k.burst.since; end = k.burst.end };
             spaces = k.spaces;
           };
           distinct = h.distinct;
@@ -376,11 +361,11 @@ module _ (s : LiveScheduler) (g : Given) (w : List Word) (h : Gives s g w) where
           closed = h.closed;
           closed_by = h.closed_by;
           finish = end_open (local_added g w channel on) refl s.finish h.finish;
-        }
+        })
 
     -- closed at this slot, which is after all control words that are planned
-    pub close_step : (range : IsInRange s.eop) → Gives (record s { closed = Some s.slot; end_in_range = range }) (closed_at g w) w
-    close_step range =
+    pub close_step : Gives (record s { closed = Some s.slot }) (closed_at g w) w
+    close_step =
         let k = h.words in
         let is : option_or g.closed (Some (length w)) ≡ Some (length w) = ap (λ o. option_or o (Some (length w))) open_still in
         record {
@@ -392,13 +377,9 @@ module _ (s : LiveScheduler) (g : Given) (w : List Word) (h : Gives s g w) where
             begun = k.begun;
             has = k.has;
             incoming = k.incoming;
-            outgoing = k.outgoing;
             turns = k.turns;
             left = k.left;
-            long = k.long;
-            within = k.within;
-            since = k.since;
-            end = k.end;
+            burst = k.burst;
             spaces = k.spaces;
           };
           distinct = h.distinct;
@@ -419,8 +400,8 @@ module _ (s : LiveScheduler) (g : Given) (w : List Word) (h : Gives s g w) where
         none_yet (Some z) e = let no : None ≡ Some e.0.0 = sym open_still ∙ e.0.1 in cc
 
   -- the packets are closed, and the stream goes on as it did
-  pub packets_step : (range : IsInRange s.eop) → Gives (record s { packets_closed = true; end_in_range = range }) (packets_closed_in g) w
-  packets_step range =
+  pub packets_step : Gives (record s { packets_closed = true }) (packets_closed_in g) w
+  packets_step =
       let k = h.words in
       record {
         words = record {
@@ -431,13 +412,9 @@ module _ (s : LiveScheduler) (g : Given) (w : List Word) (h : Gives s g w) where
           begun = k.begun;
           has = k.has;
           incoming = k.incoming;
-          outgoing = k.outgoing;
           turns = k.turns;
           left = k.left;
-          long = k.long;
-          within = k.within;
-          since = k.since;
-          end = k.end;
+          burst = k.burst;
           spaces = k.spaces;
         };
         distinct = h.distinct;

@@ -1,20 +1,20 @@
 -- The scheduler with one more control word, and the data words after it, which are still to come.
-use Rattle.std.proofs.Common.{◌≡◌, ◌≢◌, inl, inr, ℕ, suc, ◌+◌, ◌*◌, ◌^◌, ◌<◌, ◌≤◌, min, Bool, true, false, not, ◌&&◌, ◌==◌, nat_eq, List, [], ◌∷◌, ◌++◌, length, map, filter, take, drop, get_or, Option, Some, None, slice_get, if◌then◌else◌, Contains, IsTrue, refl, sym, ap, ap₂, subst, ◌∙◌, arith, append_assoc, append-nil, add-zero, eq-eqb}
+use Rattle.std.proofs.Common.{◌≡◌, ◌≢◌, inl, inr, ℕ, suc, ◌+◌, ◌*◌, ◌^◌, ◌<◌, ◌≤◌, Bool, true, false, not, ◌&&◌, ◌==◌, nat_eq, List, [], ◌∷◌, ◌++◌, length, filter, take, get_or, Option, Some, None, slice_get, if◌then◌else◌, Contains, IsTrue, refl, sym, ap, ap₂, subst, ◌∙◌, arith, add-zero, eq-eqb}
 use Rattle.std.specs.List.{AllPairs, remove}
 use Rattle.std.specs.Option.{option_map_or}
 use Rattle.std.specs.declared.cmp.Ordering.TheVariants.{Less}
 use Rattle.std.proofs.lemmas.Bool.{cases_lt, ne_eqb}
-use Rattle.std.proofs.lemmas.List.{drop_all, length-take, length_push, get_or-map, get_or-take, length-take-le, take-append-le}
+use Rattle.std.proofs.lemmas.List.{length_push, get_or-map, get_or-take, length-take-le, take-append-le}
 use Rattle.std.proofs.Math.Seq.{take-append_seam}
 use Rattle.std.proofs.lemmas.List.Elements.{All-append, All-cons, All-nil, Contains-get_or}
 use Rattle.lk_base.specs.Words.{block, word_at}
 use Rattle.lk_base.specs.Fields.{burst_field, channel_number}
 use Rattle.lk_base.specs.Checksum.{digit}
 use Rattle.lk_base.specs.declared.word.Word.{Word}
-use Rattle.lk_base.specs.declared.word.Word.TheVariants.{Data, Control}
+use Rattle.lk_base.specs.declared.word.Word.TheVariants.{Control}
 use Rattle.stream_model.specs.Calendar.{Told, on_by_latest, last_turn_on}
-use Rattle.stream_model.specs.BurstStream.{Source, Chunk, IsAt, IsReady, IsSpaced, IsRightControl, key, mark_cmp, row_mark, start_mark, burst_mark, later, last_burst, is_burst, is_burst_on, chunk_of_burst, chunks_of, data_since, data_words, end_format, format_after, packets_of, bursts_in, controls_in, warmup_slots}
-use Rattle.stream_model.proofs.Blocks.{IsWhole, at_cases, data_since_block, end_format_block}
+use Rattle.stream_model.specs.BurstStream.{Source, Chunk, IsAt, IsReady, IsSpaced, IsRightControl, key, mark_cmp, row_mark, start_mark, burst_mark, later, last_burst, is_burst, is_burst_on, chunk_of_burst, chunks_of, data_words, format_after, packets_of, bursts_in, controls_in, warmup_slots}
+use Rattle.stream_model.proofs.Blocks.{IsWhole, at_cases}
 use Rattle.stream_model.proofs.Growing.{burst_cases, bursts_block}
 use Rattle.stream_model.proofs.NextBlock.{chunk_here}
 use Rattle.control_words.specs.ControlWord.{eop_format}
@@ -27,15 +27,16 @@ use Rattle.burst_scheduler.specs.Ring.{key_by}
 use Rattle.burst_scheduler.specs.Gives.{SpacesFit}
 use Rattle.burst_scheduler.specs.Queues.{chunks_in}
 use Rattle.burst_scheduler.specs.declared.sizes.BurstSizes.{BurstSizes}
-use Rattle.burst_scheduler.proofs.Adds.{one_control, begun_block, old_word, block_word}
+use Rattle.burst_scheduler.proofs.Adds.{begun_block, old_word, block_word}
 use Rattle.burst_scheduler.proofs.Blocks.{length_block}
-use Rattle.burst_scheduler.proofs.ControlWords.{IsSealed, right_idle, right_burst}
-use Rattle.burst_scheduler.proofs.Filling.{IsInRange}
+use Rattle.burst_scheduler.specs.Bursts.{IsSealed}
+use Rattle.burst_scheduler.proofs.ControlWords.{right_idle, right_burst}
+use Rattle.burst_scheduler.proofs.LineWords.{all_given, planned_block, holds_block}
 use Rattle.burst_scheduler.proofs.FlowRows.{told_early}
 use Rattle.live_stream.specs.LiveStream.{Given, source_at}
 use Rattle.live_stream.specs.Waiting.{HasLeft, channels_of, has_packets}
 use Rattle.live_stream.specs.Turns.{AreInTurn, HaveLeft, may_burst, IsFirstReady}
-use Rattle.live_stream.specs.Gives.{Holds, HasChunks, AddsBlock, AreRight, IsIdleTime, IsBurstTime, planned, to_come, source_of}
+use Rattle.live_stream.specs.Gives.{Holds, HasChunks, AddsBlock, AreRight, IsIdleTime, IsBurstTime, planned, source_of}
 use Rattle.live_stream.specs.declared.waiting.Waiting.{Waiting}
 use Rattle.live_stream.specs.declared.scheduler.LiveScheduler.{LiveScheduler}
 use Rattle.live_stream.proofs.Sources.{is_given}
@@ -46,11 +47,8 @@ use Rattle.live_stream.proofs.InTurn.{turns_idle, turns_burst, apart, moved_back
 
 -- ---- where a control word is due nothing is to come of the last burst
 
-pub none_to_come : (s : LiveScheduler) (w : List Word) → s.count ≤ s.given → planned s w ≡ w
-none_to_come s w h =
-    let few : length (take s.count s.run.items) ≡ min s.count (length s.run.items) = length-take s.count s.run.items in
-    let none : to_come s ≡ [] = drop_all s.given (take s.count s.run.items) (omega arith) in
-    ap (λ ds. w ++ map Data ds) none ∙ append-nil w
+pub none_to_come : (s : LiveScheduler) (w : List Word) → s.burst.count ≤ s.burst.given → planned s w ≡ w
+none_to_come s w h = all_given s.burst w h
 
 -- ---- one block more
 
@@ -58,29 +56,23 @@ pub record KeepsForBlock (old new : LiveScheduler) : Type 0 where
   pub settings : (new.sizes ≡ old.sizes) × (new.short ≡ old.short) × (new.group ≡ old.group) × (new.warm ≡ old.warm)
   pub incoming : new.incoming ≡ old.incoming
   pub slot : new.slot ≡ old.slot + 1
-  pub given : new.given ≡ 0
+  pub given : new.burst.given ≡ 0
   pub end : (new.closed ≡ old.closed) × (new.finish ≡ old.finish)
   pub accepts : (new.max_packet ≡ old.max_packet) × (new.packets_closed ≡ old.packets_closed)
 
 pub record IsBlock (new : LiveScheduler) (g : Given) (w : List Word) (x : ℕ) (ds : List ℕ) : Type 0 where
-  pub run : take new.count new.run.items ≡ ds
-  pub count : new.count ≤ 512
-  pub long : length new.run.items ≡ 512
+  pub run : take new.burst.count new.burst.run.items ≡ ds
+  pub count : new.burst.count ≤ 512
+  pub long : length new.burst.run.items ≡ 512
   pub fits : x < 2 ^ 64
   pub data_fit : (k d : ℕ) → slice_get ds k ≡ Some d → d < 2 ^ 64
   pub right : IsRightControl (source_of g) w x
   pub whole : IsWhole (source_of g) w x ds
-  pub outgoing : StandsOut new.outgoing g.entries g.local (controls_in w + 1)
+  pub outgoing : StandsOut new.burst.outgoing g.entries g.local (controls_in w + 1)
   pub turns : AreInTurn g.channels (told_back g.entries g.flow) (w ++ block x ds) (channels_of new.turns.items)
   pub left : HaveLeft new.turns.items new.sizes (source_of g) (w ++ block x ds)
-  pub end : eop_format new.eop ≡ option_map_or format_after (chunk_of_burst (source_of g) w (Control x)) 0
+  pub end : eop_format new.burst.eop ≡ option_map_or format_after (chunk_of_burst (source_of g) w (Control x)) 0
   pub spaces : SpacesFit new.free new.short (w ++ block x ds)
-
-planned_block : (new : LiveScheduler) (w : List Word) (x : ℕ) (ds : List ℕ) → new.given ≡ 0 → take new.count new.run.items ≡ ds → planned new (w ++ Control x ∷ []) ≡ w ++ block x ds
-planned_block new w x ds given run =
-    ap (λ n. (w ++ Control x ∷ []) ++ map Data (drop n (take new.count new.run.items))) given
-    ∙ ap (λ xs. (w ++ Control x ∷ []) ++ map Data xs) run
-    ∙ append_assoc w (Control x ∷ []) (map Data ds)
 
 has_block : (source : Source) (w : List Word) (x : ℕ) (ds : List ℕ) → HasChunks source w → IsRightControl source w x → HasChunks source (w ++ block x ds)
 has_block source w x ds has right t y at burst = elim (at_cases w x ds t (Control y) at) [
@@ -98,7 +90,7 @@ has_block source w x ds has right t y at burst = elim (at_cases w x ds t (Contro
 pub block_step : (s new : LiveScheduler) (g : Given) (w : List Word) (x : ℕ) (ds : List ℕ) → Holds s g w → planned s w ≡ w → KeepsForBlock s new → IsBlock new g w x ds → Holds new g (w ++ Control x ∷ []) × AddsBlock s new w x
 block_step s new g w x ds h none k is =
     let l : length (w ++ Control x ∷ []) ≡ length w + 1 = length_push w (Control x) in
-    let words : planned new (w ++ Control x ∷ []) ≡ w ++ block x ds = planned_block new w x ds k.given is.run in
+    let words : planned new (w ++ Control x ∷ []) ≡ w ++ block x ds = planned_block new.burst w x ds k.given is.run in
     let here : source_at g (length w) ≡ source_of g = is_given g (length w) (length w) h.given_by (omega arith) in (
       record {
         settings = record { sizes = k.settings.0 ∙ h.settings.sizes; short = k.settings.1 ∙ h.settings.short; group = k.settings.2 ∙ h.settings.group; warm = k.settings.3 ∙ h.settings.warm };
@@ -114,13 +106,9 @@ block_step s new g w x ds h none k is =
         begun = subst (λ (v : List Word). (t y : ℕ) → IsAt v t (Control y) → t < length (w ++ Control x ∷ [])) (sym words) (begun_block w x ds);
         has = subst (HasChunks (source_of g)) (sym words) (has_block (source_of g) w x ds (subst (HasChunks (source_of g)) none h.has) is.right);
         incoming = subst (λ c. Stands c g.entries g.flow) (sym k.incoming) h.incoming;
-        outgoing = subst (StandsOut new.outgoing g.entries g.local) (sym (one_control w x)) is.outgoing;
         turns = subst (λ (v : List Word). AreInTurn g.channels (told_back g.entries g.flow) v (channels_of new.turns.items)) (sym words) is.turns;
         left = subst (HaveLeft new.turns.items new.sizes (source_of g)) (sym words) is.left;
-        long = is.long;
-        within = (let z = k.given in omega (arith, z), is.count);
-        since = ap data_since words ∙ data_since_block w x ds ∙ sym is.run;
-        end = is.end ∙ sym (end_format_block (source_of g) w x ds) ∙ ap (end_format (source_of g)) (sym words);
+        burst = holds_block new.burst w x ds k.given is.run (source_of g) is.outgoing is.long is.count is.end;
         spaces = subst (SpacesFit new.free new.short) (sym words) is.spaces;
       },
       record { run = ds; words = words; end = k.end; accepts = k.accepts },
@@ -257,14 +245,14 @@ module _ (s : LiveScheduler) (g : Given) (w : List Word) (h : Holds s g w) (none
       same_bursts : (c : ℕ) → bursts_in (w ++ block x []) c ≡ bursts_in w c
       same_bursts c = bursts_block w x [] c ∙ ap (λ b. bursts_in w c + (if b then 1 else 0)) (on_none c) ∙ add-zero (bursts_in w c)
 
-      pub idle_step : IsIdleTime s told → StandsOut new.outgoing g.entries g.local (controls_in w + 1) → new.turns ≡ s.turns → new.run ≡ s.run → new.count ≡ 0 → new.free ≡ s.free → eop_format new.eop ≡ 0 → Holds new g (w ++ Control x ∷ []) × AddsBlock s new w x
+      pub idle_step : IsIdleTime s told → StandsOut new.burst.outgoing g.entries g.local (controls_in w + 1) → new.turns ≡ s.turns → new.burst.run ≡ s.burst.run → new.burst.count ≡ 0 → new.free ≡ s.free → eop_format new.burst.eop ≡ 0 → Holds new g (w ++ Control x ∷ []) × AddsBlock s new w x
       idle_step idle out same_turns same_run count free end =
           let long : length (w ++ block x []) ≡ 0 + suc (length w) = length_block w x [] in
           let own : SpacesFit new.free new.short w = subst (λ (n : ℕ). SpacesFit new.free n w) (sym k.settings.1) (subst (λ (n : ℕ). SpacesFit n s.short w) (sym free) spaces) in
           block_step s new g w x [] h none k (record {
-            run = ap (λ n. take n new.run.items) count;
+            run = ap (λ n. take n new.burst.run.items) count;
             count = omega (arith, count);
-            long = ap (λ r. length r.items) same_run ∙ h.long;
+            long = ap (λ r. length r.items) same_run ∙ h.burst.long;
             fits = seal.fits;
             data_fit = λ i d at. cc;
             right = right_idle (source_of g) w fields x seal fb fs fc fm (idle_only idle);
@@ -350,8 +338,8 @@ module _ (s : LiveScheduler) (g : Given) (w : List Word) (h : Holds s g w) (none
           ]
 
       pub burst_step : (taken : Waiting) → new.turns.items ≡ remove turns at ++ taken ∷ [] → taken.channel ≡ ch → HasLeft taken s.sizes (packets_of (source_of g) ch) (bursts_in w ch + 1)
-          → StandsOut new.outgoing g.entries g.local (controls_in w + 1) → take new.count new.run.items ≡ ds → new.count ≤ 512 → length new.run.items ≡ 512 → ((i d : ℕ) → slice_get ds i ≡ Some d → d < 2 ^ 64)
-          → eop_format new.eop ≡ format_after chunk → new.free ≡ s.slot + 1 + s.short → Holds new g (w ++ Control x ∷ []) × AddsBlock s new w x
+          → StandsOut new.burst.outgoing g.entries g.local (controls_in w + 1) → take new.burst.count new.burst.run.items ≡ ds → new.burst.count ≤ 512 → length new.burst.run.items ≡ 512 → ((i d : ℕ) → slice_get ds i ≡ Some d → d < 2 ^ 64)
+          → eop_format new.burst.eop ≡ format_after chunk → new.free ≡ s.slot + 1 + s.short → Holds new g (w ++ Control x ∷ []) × AddsBlock s new w x
       burst_step taken back same_channel after out run count long data_fit end free =
           let words : length (w ++ block x ds) ≡ length ds + suc (length w) = length_block w x ds in
           let slot : s.slot ≡ length w = h.slot in
@@ -389,8 +377,8 @@ module _ (s : LiveScheduler) (g : Given) (w : List Word) (h : Holds s g w) (none
           })
 
 -- the ending does not show in what the scheduler holds
-pub settle_holds : (s : LiveScheduler) (f : Option ℕ) (range : IsInRange s.eop) (g : Given) (w : List Word) → Holds s g w → Holds (record s { finish = f; end_in_range = range }) g w
-settle_holds s f range g w k = record {
+pub settle_holds : (s : LiveScheduler) (f : Option ℕ) (g : Given) (w : List Word) → Holds s g w → Holds (record s { finish = f }) g w
+settle_holds s f g w k = record {
   settings = record { sizes = k.settings.sizes; short = k.settings.short; group = k.settings.group; warm = k.settings.warm };
   given_by = k.given_by;
   slot = k.slot;
@@ -398,12 +386,8 @@ settle_holds s f range g w k = record {
   begun = k.begun;
   has = k.has;
   incoming = k.incoming;
-  outgoing = k.outgoing;
   turns = k.turns;
   left = k.left;
-  long = k.long;
-  within = k.within;
-  since = k.since;
-  end = k.end;
+  burst = k.burst;
   spaces = k.spaces;
 }

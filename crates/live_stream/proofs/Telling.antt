@@ -4,7 +4,8 @@ use Rattle.lk_base.specs.Checksum.{differ}
 use Rattle.lk_base.specs.declared.word.Word.{Word}
 use Rattle.stream_model.specs.Calendar.{Told}
 use Rattle.stream_model.specs.BurstStream.{last_burst}
-use Rattle.calendar.specs.Changes.{state_in, changes}
+use Rattle.calendar.specs.declared.change.Change.{Change}
+use Rattle.calendar.specs.Changes.{change, state_in, changes}
 use Rattle.burst_scheduler.specs.Gives.{AreLater}
 use Rattle.burst_scheduler.proofs.Telling.{key_less, same_state, told_again, cons_head, cons_tail}
 use Rattle.live_stream.specs.Turns.{AreInTurn, IsTurn}
@@ -23,7 +24,7 @@ module _ (channels line : List ℕ) (w : List Word) where
   line_kept told e h d = turns_kept channels told w line e (inl (same_state e.on (state_in told e.channel) d)) h
 
   -- the entries up to the next change
-  pub record NextChange (told : List Told) (es : List Told) (channel : ℕ) (on : Bool) (more : List (ℕ × Bool)) : Type 0 where
+  pub record NextChange (told : List Told) (es : List Told) (channel : ℕ) (on : Bool) (more : List Change) : Type 0 where
     pub entry : Told
     pub before : List Told
     pub after : List Told
@@ -35,24 +36,24 @@ module _ (channels line : List ℕ) (w : List Word) where
     pub left : changes (entry ∷ before) after ≡ more
     pub later_on : AreLater (entry ∷ before) w after
 
-  next_change : (told : List Told) (es : List Told) (channel : ℕ) (on : Bool) (more : List (ℕ × Bool)) → AreInTurn channels told w line → changes told es ≡ (channel, on) ∷ more → AreLater told w es → NextChange told es channel on more
+  next_change : (told : List Told) (es : List Told) (channel : ℕ) (on : Bool) (more : List Change) → AreInTurn channels told w line → changes told es ≡ change channel on ∷ more → AreLater told w es → NextChange told es channel on more
   next_change told [] channel on more h is l = cc
   next_change told (e ∷ es) channel on more h is l = by (differ e.on (state_in told e.channel)) refl is (λ k eq. next_change (e ∷ told) es channel on more k eq l.2)
     where
-      by : (b : Bool) → differ e.on (state_in told e.channel) ≡ b → (if b then (e.channel, e.on) ∷ [] else []) ++ changes (e ∷ told) es ≡ (channel, on) ∷ more
-          → (AreInTurn channels (e ∷ told) w line → changes (e ∷ told) es ≡ (channel, on) ∷ more → NextChange (e ∷ told) es channel on more) → NextChange told (e ∷ es) channel on more
+      by : (b : Bool) → differ e.on (state_in told e.channel) ≡ b → (if b then change e.channel e.on ∷ [] else []) ++ changes (e ∷ told) es ≡ change channel on ∷ more
+          → (AreInTurn channels (e ∷ told) w line → changes (e ∷ told) es ≡ change channel on ∷ more → NextChange (e ∷ told) es channel on more) → NextChange told (e ∷ es) channel on more
       by true d eq again =
-          let one = cons_head (e.channel, e.on) (channel, on) (changes (e ∷ told) es) more eq in
+          let one = cons_head (change e.channel e.on) (change channel on) (changes (e ∷ told) es) more eq in
           record {
             entry = e;
             before = told;
             after = es;
             all = told_again es told e;
             order = h;
-            is_channel = ap (λ (p : ℕ × Bool). p.0) one;
-            is_on = ap (λ (p : ℕ × Bool). p.1) one;
+            is_channel = ap (λ (p : Change). p.channel) one;
+            is_on = ap (λ (p : Change). p.on) one;
             come = comes told e es l d;
-            left = cons_tail (e.channel, e.on) (channel, on) (changes (e ∷ told) es) more eq;
+            left = cons_tail (change e.channel e.on) (change channel on) (changes (e ∷ told) es) more eq;
             later_on = l.2;
           }
       by false d eq again =
@@ -74,14 +75,14 @@ module _ (channels line : List ℕ) (w : List Word) where
   no_change told [] h is = h
   no_change told (e ∷ es) h is = by (differ e.on (state_in told e.channel)) refl is (λ k eq. no_change (e ∷ told) es k eq)
     where
-      by : (b : Bool) → differ e.on (state_in told e.channel) ≡ b → (if b then (e.channel, e.on) ∷ [] else []) ++ changes (e ∷ told) es ≡ []
+      by : (b : Bool) → differ e.on (state_in told e.channel) ≡ b → (if b then change e.channel e.on ∷ [] else []) ++ changes (e ∷ told) es ≡ []
           → (AreInTurn channels (e ∷ told) w line → changes (e ∷ told) es ≡ [] → AreInTurn channels (reverse es ++ (e ∷ told)) w line) → AreInTurn channels (reverse (e ∷ es) ++ told) w line
       by true d eq again = cc
       by false d eq again = subst (λ (ts : List Told). AreInTurn channels ts w line) (told_again es told e) (again (line_kept told e h d) eq)
 
 -- ---- the changes so far
 
-pub record HasTold (channels line : List ℕ) (told : List Told) (w : List Word) (es : List Told) (left : List (ℕ × Bool)) : Type 0 where
+pub record HasTold (channels line : List ℕ) (told : List Told) (w : List Word) (es : List Told) (left : List Change) : Type 0 where
   pub so_far : List Told
   pub to_tell : List Told
   pub all : reverse to_tell ++ so_far ≡ reverse es ++ told
@@ -89,13 +90,13 @@ pub record HasTold (channels line : List ℕ) (told : List Told) (w : List Word)
   pub changes_left : changes so_far to_tell ≡ left
   pub later_on : AreLater so_far w to_tell
 
-pub told_begun : (channels line : List ℕ) (told : List Told) (w : List Word) (es : List Told) (left : List (ℕ × Bool)) → AreInTurn channels told w line → left ≡ changes told es → AreLater told w es → HasTold channels line told w es left
+pub told_begun : (channels line : List ℕ) (told : List Told) (w : List Word) (es : List Told) (left : List Change) → AreInTurn channels told w line → left ≡ changes told es → AreLater told w es → HasTold channels line told w es left
 told_begun channels line told w es left h is l = record { so_far = told; to_tell = es; all = refl; order = h; changes_left = sym is; later_on = l }
 
 pub told_end : (channels line : List ℕ) (told : List Told) (w : List Word) (es : List Told) → HasTold channels line told w es [] → AreInTurn channels (reverse es ++ told) w line
 told_end channels line told w es h = subst (λ (ts : List Told). AreInTurn channels ts w line) h.all (no_change channels line w h.so_far h.to_tell h.order h.changes_left)
 
-pub told_next : (channels line now : List ℕ) (told : List Told) (w : List Word) (es : List Told) (channel : ℕ) (on : Bool) (more : List (ℕ × Bool)) → HasTold channels line told w es ((channel, on) ∷ more)
+pub told_next : (channels line now : List ℕ) (told : List Told) (w : List Word) (es : List Told) (channel : ℕ) (on : Bool) (more : List Change) → HasTold channels line told w es (change channel on ∷ more)
     → ((before : List Told) (e : Told) → AreInTurn channels before w line → e.channel ≡ channel → e.on ≡ on → IsTurn before w e → AreInTurn channels (e ∷ before) w now) → HasTold channels now told w es more
 told_next channels line now told w es channel on more h turn =
     let n = next_change channels line w h.so_far h.to_tell channel on more h.order h.changes_left h.later_on in

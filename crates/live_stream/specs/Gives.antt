@@ -1,5 +1,5 @@
 -- What a scheduler was given and which words it made of it.
-use Rattle.std.specs.Prelude.{◌≡◌, ◌⊎◌, ℕ, ◌+◌, ◌-◌, ◌*◌, ◌/◌, ◌^◌, ◌<◌, ◌≤◌, min, Bool, true, false, not, ◌||◌, List, [], ◌∷◌, ◌++◌, length, map, take, drop, sum_by, All, Contains, Option, Some, None, is_some, if◌then◌else◌, nat_lt, nat_eq}
+use Rattle.std.specs.Prelude.{◌≡◌, ◌⊎◌, ℕ, ◌+◌, ◌-◌, ◌*◌, ◌/◌, ◌^◌, ◌<◌, ◌≤◌, min, Bool, true, false, not, ◌||◌, List, [], ◌∷◌, ◌++◌, length, map, take, sum_by, All, Contains, Option, Some, None, is_some, if◌then◌else◌, nat_lt, nat_eq}
 use Rattle.std.specs.List.{AllPairs}
 use Rattle.std.specs.Option.{option_or}
 use Rattle.lk_base.specs.Words.{payload, block}
@@ -8,16 +8,15 @@ use Rattle.lk_base.specs.Least.{IsLeast}
 use Rattle.lk_base.specs.declared.word.Word.{Word}
 use Rattle.lk_base.specs.declared.word.Word.TheVariants.{Data, Control}
 use Rattle.lk_base.specs.declared.shape.Shape.{Shape}
-use Rattle.stream_model.specs.BurstStream.{Source, Chunk, IsAt, StandsInBurst, IsRightControl, chunk_of_burst, data_after, data_words, data_since, end_format, controls_in, bursts_in, chunks_of, packets_of}
+use Rattle.stream_model.specs.BurstStream.{Source, Chunk, IsAt, StandsInBurst, IsRightControl, chunk_of_burst, data_after, data_words, bursts_in, chunks_of, packets_of}
 use Rattle.stream_model.specs.Calendar.{Told}
 use Rattle.stream_model.specs.declared.rows.FlowRow.{FlowRow}
 use Rattle.stream_model.specs.declared.rows.LocalRow.{LocalRow}
-use Rattle.control_words.specs.ControlWord.{eop_format}
 use Rattle.calendar.specs.Changes.{told_back}
 use Rattle.calendar.specs.Incoming.{Stands}
-use Rattle.calendar.specs.Outgoing.{StandsOut}
 use Rattle.burst_scheduler.specs.Queues.{sizes_of}
 use Rattle.burst_scheduler.specs.Gives.{SpacesFit}
+use Rattle.burst_scheduler.specs.Bursts.{HoldsBurst, left_of, planned_after}
 use Rattle.live_stream.specs.LiveStream.{LivePacket, Given, as_sent, source_at, IsLiveEnding}
 use Rattle.live_stream.specs.Waiting.{channels_of, bytes_in, ends_in, most_bytes, AreCounts}
 use Rattle.live_stream.specs.declared.counts.Counts.{Counts}
@@ -79,11 +78,11 @@ source_of g = record { shape = g.shape; channels = g.channels; entries = g.entri
 
 -- the data words of the burst under way that are still to come
 abbrev pub to_come : LiveScheduler → List ℕ
-to_come s = drop s.given (take s.count s.run.items)
+to_come s = left_of s.burst
 
 -- the words made, and the rest of the burst that is under way
 abbrev pub planned : LiveScheduler → List Word → List Word
-planned s w = w ++ map Data (to_come s)
+planned s w = planned_after s.burst w
 
 -- each of these words is right by what was given up to its slot, and each burst is whole
 pub record AreRight (g : Given) (w : List Word) : Type 0 where
@@ -138,17 +137,13 @@ pub record Holds (s : LiveScheduler) (g : Given) (w : List Word) : Type 0 where
   pub right : AreRight g (planned s w)
   pub begun : (t x : ℕ) → IsAt (planned s w) t (Control x) → t < length w
   pub has : HasChunks (source_of g) (planned s w)
-  -- the calendars
+  -- the calendar of the far end
   pub incoming : Stands s.incoming g.entries g.flow
-  pub outgoing : StandsOut s.outgoing g.entries g.local (controls_in w)
   -- the queues, in the order of their channels' turns
   pub turns : AreInTurn g.channels (told_back g.entries g.flow) (planned s w) (channels_of s.turns.items)
   pub left : HaveLeft s.turns.items s.sizes (source_of g) (planned s w)
   -- the burst under way
-  pub long : length s.run.items ≡ 512
-  pub within : (s.given ≤ s.count) × (s.count ≤ 512)
-  pub since : data_since (planned s w) ≡ take s.count s.run.items
-  pub end : eop_format s.eop ≡ end_format (source_of g) (planned s w)
+  pub burst : HoldsBurst s.burst (source_of g) w
   pub spaces : SpacesFit s.free s.short (planned s w)
 
 -- the scheduler was given this, and made these words
@@ -183,7 +178,7 @@ MayGoOn s = (z : ℕ) → s.finish ≡ Some z → s.slot ≡ s.group * (z / s.gr
 
 -- the last burst is given as a whole, and a control word may follow
 pub record IsDue (s : LiveScheduler) : Type 0 where
-  pub given : s.count ≤ s.given
+  pub given : s.burst.count ≤ s.burst.given
   pub slot : s.slot < most_words
 
 -- no burst may start: in the warm-up, too near the last burst word, or where no channel may burst

@@ -1,14 +1,10 @@
-ghost use Rattle.std.specs.Prelude.{◌≡◌, ℕ, ◌≤◌};
-ghost use Rattle.control_words.specs.declared.fields.Eop.TheVariants.{End};
-
 use super::counts::Counts;
 use super::refused::{Closed, LocalRefused, Refused};
 use super::turns::{first_ready, place, to_back, turn_all};
 use super::waiting::{Waiting, empty_queues, packets_left};
 use arrayvec::ArrayVec;
-use burst_scheduler::{BurstSizes, end_of};
-use calendar::{CalendarIn, CalendarOut, valid_word};
-use control_words::{Control, Eop, sealed};
+use burst_scheduler::{BurstLine, BurstSizes};
+use calendar::{CalendarIn, verified_word};
 use lk_base::{OutOfMemory, Shape, Word};
 use std::alloc::Global;
 
@@ -34,13 +30,8 @@ pub struct LiveScheduler {
     // The listed channels in the order of their turns.
     turns: Vec<Waiting>,
     incoming: CalendarIn,
-    outgoing: CalendarOut,
     slot: u64,
-    // The data words of the last burst, or none after an idle, how many of them were given, and how they end.
-    run: Vec<u64>,
-    count: usize,
-    given: usize,
-    eop: Eop,
+    burst: BurstLine,
     // The first slot that is far enough from the last burst word.
     free: u64,
     // No packet is accepted any more.
@@ -48,7 +39,6 @@ pub struct LiveScheduler {
     // The slots at which it was closed, and at which the ending was found.
     closed: Option<u64>,
     finish: Option<u64>,
-    ghost end_in_range: { (n : ℕ) → eop ≡ End n → (1 ≤ n) × (n ≤ 8) },
 }
 
 impl LiveScheduler {
@@ -59,6 +49,7 @@ impl LiveScheduler {
     ghost use Rattle.live_stream.specs.LiveStream.{Given, IsWholeLiveStream};
     ghost use Rattle.live_stream.specs.Gives.{Gives, nothing_given, packet_added, flow_added, local_added, packets_closed_in, closed_at, words_of, most_words, is_among, refuses_packets, refusal_of, local_refusal_of, left_in_all, AreCountsOf, Holds, IsDue, IsIdleTime, IsBurstTime, AddsBlock, MayGoOn, as_control, as_data};
     ghost use Rattle.calendar.specs.Changes.{told_back};
+    ghost use Rattle.duplex_model.specs.DuplexRun.{heard_word};
     ghost use Rattle.live_stream.specs.declared.refused.Refused.TheVariants as refused;
 
     /// Nothing was given yet, and no word was made. A packet may have up to `max_packet` bytes.
@@ -74,9 +65,8 @@ impl LiveScheduler {
         requires distinct { AllPairs (λ x y. x ≡ y → ⊥) channels.now }
         ensures { IfOk result (λ s. Gives s (nothing_given shape max_packet channels.now entries.now) []) }
     {
-        let run = Vec::from_array(alloc, [0; 512])?;
         let incoming = CalendarIn::new(alloc, entries)?;
-        let outgoing = CalendarOut::new(alloc, entries)?;
+        let burst = BurstLine::new(alloc, entries)?;
         let turns = empty_queues(alloc, channels)?;
         Ok(LiveScheduler {
             alloc,
@@ -90,12 +80,8 @@ impl LiveScheduler {
             max_packet,
             turns,
             incoming,
-            outgoing,
             slot: 0,
-            run,
-            count: 0,
-            given: 0,
-            eop: Eop::Going,
+            burst,
             free: 0,
             packets_closed: false,
             closed: None,
@@ -152,22 +138,22 @@ impl LiveScheduler {
         Ok(())
     }
 
-    /// Gives the word of a flow row of the far end. It counts from the next word on, if it is valid: a control word with the checksum of
-    /// itself alone.
+    /// Hears a control word of the far end that was verified, whatever its checksum. It counts from the next word on, as a flow row with the
+    /// checksum of the word alone.
     ///
     /// # Errors
     ///
     /// The stream was closed. Nothing has changed then.
-    pub fn flow(&mut self, word: u64) -> Result<(), Closed>
+    pub fn hear(&mut self, word: u64) -> Result<(), Closed>
         requires { (g : Given) × (w : List Word) × Gives self.old g w }
-        ensures open { (g : Given) (w : List Word) → Gives self.old g w → g.closed ≡ None → (result ≡ Ok tt) × Gives self.new (flow_added g w word) w }
+        ensures open { (g : Given) (w : List Word) → Gives self.old g w → g.closed ≡ None → (result ≡ Ok tt) × Gives self.new (flow_added g w (heard_word word)) w }
         ensures closed { (g : Given) (w : List Word) (slot : ℕ) → Gives self.old g w → g.closed ≡ Some slot → (is_err result ≡ true) × Gives self.new g w }
     {
         if self.closed.is_some() {
             return Err(Closed);
         }
         let mut changed = ArrayVec::new();
-        self.incoming.take(valid_word(word), &mut changed);
+        self.incoming.take(verified_word(word), &mut changed);
         turn_all(&mut self.turns, &changed);
         Ok(())
     }
@@ -190,7 +176,7 @@ impl LiveScheduler {
         if !self.lists(channel) {
             return Err(LocalRefused::UnknownChannel);
         }
-        self.outgoing.set(channel, on);
+        self.burst.local(channel, on);
         Ok(())
     }
 
@@ -220,36 +206,23 @@ impl LiveScheduler {
         requires due { IsDue self.old }
         ensures { (g : Given) (w : List Word) → Holds self.old g w → IsIdleTime self.old (told_back g.entries g.flow) → Holds self.new g (w ++ as_control result ∷ []) × AddsBlock self.old self.new w result }
     {
-        let (reset, flow) = self.outgoing.next();
-        let x = sealed(
-            Control::idle(self.eop, reset, flow),
-            &self.run[..self.count],
-        );
-        self.count = 0;
-        self.given = 0;
-        self.eop = Eop::Going;
+        let x = self.burst.idle();
         self.slot += 1;
         x
     }
 
-    // A burst word on the channel of the queue at this place, which goes to the back. The channel's number has its remainder by 256 in
-    // the bits for the channel, and its quotient in those for multiple use.
+    // A burst word on the channel of the queue at this place, which goes to the back.
     fn burst(&mut self, at: usize) -> u64
         requires words { (g : Given) × (w : List Word) × Holds self.old g w × IsBurstTime self.old (told_back g.entries g.flow) at }
         requires due { IsDue self.old }
         ensures { (g : Given) (w : List Word) → Holds self.old g w → IsBurstTime self.old (told_back g.entries g.flow) at → Holds self.new g (w ++ as_control result ∷ []) × AddsBlock self.old self.new w result }
     {
         let channel = self.turns[at].channel;
-        let (reset, flow) = self.outgoing.next();
-        let x = sealed(
-            Control::burst(channel, self.turns[at].is_first(), self.eop, reset, flow),
-            &self.run[..self.count],
-        );
-        let taken = self.turns[at].take(self.sizes, &mut self.run);
+        let first = self.turns[at].is_first();
+        let x = self.burst.burst(channel, first);
+        let taken = self.turns[at].take(self.sizes, &mut self.burst.run);
+        self.burst.start(taken);
         to_back(&mut self.turns, at);
-        self.count = taken.words;
-        self.given = 0;
-        self.eop = end_of(taken.bytes, taken.last);
         self.free = self.slot + 1 + self.short;
         self.slot += 1;
         x
@@ -305,12 +278,11 @@ impl LiveScheduler {
     // The next data word of the burst that is under way.
     fn data(&mut self) -> u64
         requires gives { (g : Given) × (w : List Word) × Gives self.old g w × MayGoOn self.old }
-        requires going { self.old.given < self.old.count }
+        requires going { self.old.burst.given < self.old.burst.count }
         requires slot { self.old.slot < most_words }
         ensures { (g : Given) (w : List Word) → Gives self.old g w → MayGoOn self.old → Gives self.new g (w ++ as_data result ∷ []) }
     {
-        let x = self.run[self.given];
-        self.given += 1;
+        let x = self.burst.data();
         self.slot += 1;
         x
     }
@@ -326,7 +298,7 @@ impl LiveScheduler {
         if self.slot >= MOST_WORDS || self.ends_here() {
             return None;
         }
-        if self.given < self.count {
+        if self.burst.given < self.burst.count {
             Some(Word::Data(self.data()))
         } else {
             Some(Word::Control(self.control()))

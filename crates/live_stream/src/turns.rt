@@ -14,7 +14,7 @@ ghost use Rattle.live_stream.specs.declared.waiting.Waiting.{Waiting};
 
 use super::waiting::Waiting;
 use arrayvec::ArrayVec;
-use calendar::CalendarIn;
+use calendar::{CalendarIn, Change};
 
 /// The place of a channel's queue, or the number of queues where it has none.
 pub fn place(turns: &[Waiting], channel: u16) -> usize
@@ -76,12 +76,12 @@ fn turn(turns: &mut Vec<Waiting>, channel: u16, on: bool)
 }
 
 /// Channels are on or off from now on, by the entries of one word that change them.
-pub fn turn_all(turns: &mut Vec<Waiting>, changed: &ArrayVec<(u16, bool), 16>)
+pub fn turn_all(turns: &mut Vec<Waiting>, changed: &ArrayVec<Change, 16>)
     ensures turns { (channels : List ℕ) (told : List Told) (w : List Word) (es : List Told) → AreInTurn channels told w (channels_of turns.old.items) → changed.now.items ≡ changes told es → AreLater told w es → AreInTurn channels (reverse es ++ told) w (channels_of turns.new.items) }
     ensures left { (sizes : BurstSizes) (source : Source) (w : List Word) → HaveLeft turns.old.items sizes source w → HaveLeft turns.new.items sizes source w }
 {
     for i in 0..changed.len() {
-        let (channel, on) = changed[i];
+        let Change { channel, on } = changed[i];
         turn(turns, channel, on);
     }
 }

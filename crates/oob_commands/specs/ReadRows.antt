@@ -62,6 +62,7 @@ oob_read_work name = record {
   IsHeld = λ i. ⊥;
   Creates = λ i q. q ≡ flow_name i.plan.out;
   Names = λ files q. IsSamplesRead files name q;
+  IsReadLate = λ files q. ⊥;
 }
 
 abbrev pub oob_read_meaning : List ℕ → Meaning

@@ -53,6 +53,7 @@ oob_write_work name = record {
   IsHeld = λ i. ⊥;
   Creates = λ i q. q ≡ samples_name i.plan.out;
   Names = λ files q. IsLocalRead files name q;
+  IsReadLate = λ files q. ⊥;
 }
 
 abbrev pub oob_write_meaning : List ℕ → Meaning

@@ -1,14 +1,11 @@
 -- Worked examples of frames, of the samples that are written, and of what samples give.
 use Rattle.std.specs.Prelude.{◌≡◌, ℕ, true, false, List, [], ◌∷◌, ◌++◌, replicate, take, drop}
-use Rattle.stream_model.specs.declared.rows.FlowRow.{FlowRow}
 use Rattle.stream_model.specs.declared.rows.LocalRow.{LocalRow}
+use Rattle.stream_model.specs.Examples.{flow_row}
 use Rattle.oob_flow.specs.Frames.{block_sizes, block_checksum, frame_bits, frame_samples, frame_length}
 use Rattle.oob_flow.specs.Written.{AreWritten}
 use Rattle.oob_flow.specs.Taken.{taken}
 use Rattle.oob_flow.specs.Reading.{rows_of_samples}
-
-abbrev pub row : ℕ → ℕ → FlowRow
-row slot word = record { slot = slot; word = word }
 
 abbrev pub turned_off : ℕ → ℕ → LocalRow
 turned_off slot channel = record { slot = slot; channel = channel; on = false }
@@ -51,20 +48,20 @@ pub record WrittenExamples : Type 0 where
 -- ---- what samples give
 
 pub record ReadExamples : Type 0 where
-  pub second_off : rows_of_samples 2 first_on_second_off ≡ row 11 0x81BFFF00004B8D9D ∷ []
+  pub second_off : rows_of_samples 2 first_on_second_off ≡ flow_row 11 0x81BFFF00004B8D9D ∷ []
   -- the last checksum bit is inverted
-  pub wrong : rows_of_samples 2 (0x06 ∷ 0x07 ∷ 0x00 ∷ 0x01 ∷ 0x00 ∷ 0x01 ∷ 0x00 ∷ 0x01 ∷ 0x00 ∷ 0x01 ∷ 0x00 ∷ 0x03 ∷ []) ≡ row 11 0 ∷ []
-  pub two_frames : rows_of_samples 1 on_and_then_off ≡ row 9 0x81FFFF0000188177 ∷ row 19 0x817FFF0000BE98A3 ∷ []
+  pub wrong : rows_of_samples 2 (0x06 ∷ 0x07 ∷ 0x00 ∷ 0x01 ∷ 0x00 ∷ 0x01 ∷ 0x00 ∷ 0x01 ∷ 0x00 ∷ 0x01 ∷ 0x00 ∷ 0x03 ∷ []) ≡ flow_row 11 0 ∷ []
+  pub two_frames : rows_of_samples 1 on_and_then_off ≡ flow_row 9 0x81FFFF0000188177 ∷ flow_row 19 0x817FFF0000BE98A3 ∷ []
   -- without its first bit a frame is none
-  pub from_within : rows_of_samples 1 (0x00 ∷ 0x01 ∷ on_and_then_off) ≡ row 11 0x81FFFF0000188177 ∷ row 21 0x817FFF0000BE98A3 ∷ []
+  pub from_within : rows_of_samples 1 (0x00 ∷ 0x01 ∷ on_and_then_off) ≡ flow_row 11 0x81FFFF0000188177 ∷ flow_row 21 0x817FFF0000BE98A3 ∷ []
   pub nothing : rows_of_samples 1 [] ≡ []
   -- 64 entries that are on, and one that is off
-  pub two_blocks : rows_of_samples 65 (frame_samples (replicate 64 true ++ false ∷ [])) ≡ row 135 0x81FFFF0000188177 ∷ row 135 0x80FFFF00006639BC ∷ row 135 0x80FFFF00006639BC ∷ row 135 0x80FFFF00006639BC ∷ row 145 0x807FFF0000C02068 ∷ []
+  pub two_blocks : rows_of_samples 65 (frame_samples (replicate 64 true ++ false ∷ [])) ≡ flow_row 135 0x81FFFF0000188177 ∷ flow_row 135 0x80FFFF00006639BC ∷ flow_row 135 0x80FFFF00006639BC ∷ flow_row 135 0x80FFFF00006639BC ∷ flow_row 145 0x807FFF0000C02068 ∷ []
   -- 16 entries that are on, and one that is off
-  pub seventeen : rows_of_samples 17 (frame_samples (replicate 16 true ++ false ∷ [])) ≡ row 41 0x81FFFF0000188177 ∷ row 41 0x807FFF0000C02068 ∷ []
+  pub seventeen : rows_of_samples 17 (frame_samples (replicate 16 true ++ false ∷ [])) ≡ flow_row 41 0x81FFFF0000188177 ∷ flow_row 41 0x807FFF0000C02068 ∷ []
   -- the first of two blocks is wrong: the last of its checksum bits, which is 1, is sent as 0
-  pub first_block_wrong : rows_of_samples 65 (take 134 (frame_samples (replicate 64 true ++ false ∷ [])) ++ 0x00 ∷ 0x01 ∷ drop 136 (frame_samples (replicate 64 true ++ false ∷ []))) ≡ row 135 0 ∷ []
+  pub first_block_wrong : rows_of_samples 65 (take 134 (frame_samples (replicate 64 true ++ false ∷ [])) ++ 0x00 ∷ 0x01 ∷ drop 136 (frame_samples (replicate 64 true ++ false ∷ []))) ≡ flow_row 135 0 ∷ []
   -- a sync bit within a frame begins another
-  pub sync_within : rows_of_samples 1 (0x06 ∷ 0x07 ∷ 0x00 ∷ 0x01 ∷ 0x00 ∷ 0x01 ∷ 0x04 ∷ 0x05 ∷ 0x00 ∷ 0x01 ∷ 0x00 ∷ 0x01 ∷ 0x02 ∷ 0x03 ∷ 0x00 ∷ 0x01 ∷ []) ≡ row 15 0x817FFF0000BE98A3 ∷ []
+  pub sync_within : rows_of_samples 1 (0x06 ∷ 0x07 ∷ 0x00 ∷ 0x01 ∷ 0x00 ∷ 0x01 ∷ 0x04 ∷ 0x05 ∷ 0x00 ∷ 0x01 ∷ 0x00 ∷ 0x01 ∷ 0x02 ∷ 0x03 ∷ 0x00 ∷ 0x01 ∷ []) ≡ flow_row 15 0x817FFF0000BE98A3 ∷ []
   -- a bit is taken where the clock goes from 0 to 1: of the samples 7, 7, 1, 0, 1, 2, 3 at the first, the fifth and the last
   pub clock : taken (7 ∷ 7 ∷ 1 ∷ 0 ∷ 1 ∷ 2 ∷ 3 ∷ []) ≡ record { number = 0; state = true; sync = true } ∷ record { number = 4; state = false; sync = false } ∷ record { number = 6; state = true; sync = false } ∷ []

@@ -9,15 +9,15 @@ use Rattle.plan_inputs.specs.Inputs.{plan_in}
 use Rattle.run_stops.specs.declared.stop.Stop.{Stop}
 use Rattle.run_shell.specs.declared.finished.Finished.{Finished}
 use Rattle.run_shell.specs.Outcome.{LeavesOthers, Outcome}
-use Rattle.run_shell.specs.Ends.{Comes}
+use Rattle.run_shell.specs.Ends.{Comes, FailsAt}
 use Rattle.run_shell.specs.Work.{Work, meaning_by}
 use Rattle.run_stops.specs.Reading.{Reads, behind}
 use Rattle.run_shell.specs.Writing.{Fills}
 use Rattle.run_stops.proofs.Readings.{first_stops, second_reads}
 use Rattle.run_stops.proofs.Readings.{behind_stops}
-use Rattle.run_shell.proofs.Works.{made_of, names_by, store_stops}
+use Rattle.run_shell.proofs.Works.{fails_late, fails_made, made_of, store_stops}
 use Rattle.run_shell.proofs.Writing.{writes_comes}
-use Rattle.receive_commands.specs.Receive.{IsReceiveInput, PlanLanes, lanes_in, lanes_work, plan_lanes_in, with_lanes}
+use Rattle.receive_commands.specs.Receive.{IsLaneInput, IsReceiveInput, PlanLanes, lanes_in, lanes_work, plan_lanes_in, with_lanes}
 use Rattle.lane_receipts.specs.LaneReports.{names_of_lanes}
 
 -- ---- reading
@@ -88,10 +88,13 @@ module _ (Makes : PlanLanes → Outcome → Type 0) (names : PlanValue → List 
     ends (Err s) z leaves h =
         store_stops (meaning_by work) (Contains (names plan ++ names_of_lanes plan)) s u (Some u) z (h lanes got).by_store named (λ o k. (h lanes got).part o (made_of work u i o is_in k))
       where
-        named : (q : List ℕ) → Contains (names plan ++ names_of_lanes plan) q → (meaning_by work).Names u q
+        read_late : (q : List ℕ) → IsLaneInput file u q → FailsAt (meaning_by work) u q (Some u) z
+        read_late q lane = fails_late (meaning_by work) u q (Some u) z (inl (inr lane)) lane
+
+        named : (q : List ℕ) → Contains (names plan ++ names_of_lanes plan) q → FailsAt (meaning_by work) u q (Some u) z
         named q c = elim (Contains-append_cases (names plan) (names_of_lanes plan) q c) [
-          | inl made ↦ names_by work u i q is_in made
-          | inr lane ↦ inl (inr (subst (λ r. MatchResult r (λ p. Contains (names_of_lanes p) q) (λ e. ⊥)) (sym had) lane))
+          | inl made ↦ fails_made work u i q (Some u) z is_in made
+          | inr lane ↦ read_late q (subst (λ r. MatchResult r (λ p. Contains (names_of_lanes p) q) (λ e. ⊥)) (sym had) lane)
         ]
 
   pub lanes_come : (r : Result Finished Stop) (x y z : Option Files) → y ≡ x → IfSome x (λ files. plan_in files file ≡ Ok plan) → IfSome x (λ files. (lanes : List (List ℕ)) × (lanes_in files (names_of_lanes plan) ≡ Ok lanes))

@@ -35,9 +35,13 @@ with_lanes files plan = behind (lanes_in files (names_of_lanes plan)) (λ lanes.
 abbrev pub plan_lanes_in : Files → List ℕ → Result PlanLanes Refusal
 plan_lanes_in files name = behind (plan_in files name) (with_lanes files)
 
+-- where the plan is accepted, the files of its lanes
+abbrev pub IsLaneInput : List ℕ → Files → List ℕ → Type 0
+IsLaneInput name files q = MatchResult (plan_in files name) (λ plan. Contains (names_of_lanes plan) q) (λ r. ⊥)
+
 -- the plan's own file, and where it is accepted the files of its lanes
 abbrev pub IsReceiveInput : List ℕ → Files → List ℕ → Type 0
-IsReceiveInput name files q = (q ≡ name) ⊎ MatchResult (plan_in files name) (λ plan. Contains (names_of_lanes plan) q) (λ r. ⊥)
+IsReceiveInput name files q = (q ≡ name) ⊎ IsLaneInput name files q
 
 -- ---- what they come to
 
@@ -54,7 +58,8 @@ pub record IsReceived (i : PlanLanes) (o : Outcome) : Type 0 where
   pub are_reports : AreLaneReports i.plan.settings i.lanes reports
   pub is : o ≡ received_outcome setting i.plan.link_type i.plan.out (lane_lines 0 reports) events
 
--- A plan and its lanes are read, these are made of them, and files of these names are created. No stream is held.
+-- A plan and its lanes are read, these are made of them, and files of these names are created. The lanes are asked for before, and
+-- read after that. No stream is held.
 abbrev pub lanes_work : (PlanLanes → Outcome → Type 0) → (PlanValue → List (List ℕ)) → List ℕ → Work
 lanes_work IsMade names name = record {
   Inputs = PlanLanes;
@@ -63,6 +68,7 @@ lanes_work IsMade names name = record {
   IsHeld = λ i. ⊥;
   Creates = λ i q. Contains (names i.plan) q;
   Names = IsReceiveInput name;
+  IsReadLate = IsLaneInput name;
 }
 
 -- The lanes of the plan become the captures of its channels by number, of its link type, and the span table, under names that

@@ -15,6 +15,7 @@ resend_work name = record {
   IsHeld = λ i. ⊥;
   Creates = λ i q. q ≡ words_name i.reading.plan.out;
   Names = λ files q. IsResendRead files name q;
+  IsReadLate = λ files q. ⊥;
 }
 
 abbrev pub resend_meaning : List ℕ → Meaning

@@ -9,7 +9,7 @@ ghost use Rattle.resend_commands.specs.Values.{reading_with};
 
 use crate::carrying::carry;
 use crate::place::Place;
-use link_reports::resend_line;
+use link_reports::{ResendCounts, resend_line};
 use lk_base::OutOfMemory;
 use plan_inputs::PlanReading;
 use resend_events::EventRow;
@@ -34,15 +34,14 @@ fn begin(alloc: Global, reading: &PlanReading, window: u32) -> Result<Resend, Ou
 fn told(alloc: Global, resend: &Resend) -> Result<Vec<u8>, OutOfMemory>
     ensures { IfOk result (λ line. line.items ≡ line_of resend.now) }
 {
+    let counts = ResendCounts {
+        pieces: resend.pieces(),
+        accepted: resend.accepted(),
+        acknowledged: resend.acknowledged(),
+        sent: resend.sent(),
+    };
     let mut line = Vec::new(alloc);
-    resend_line(
-        alloc,
-        &mut line,
-        resend.pieces(),
-        resend.accepted(),
-        resend.acknowledged(),
-        resend.sent(),
-    )?;
+    resend_line(alloc, &mut line, &counts)?;
     Ok(line)
 }
 

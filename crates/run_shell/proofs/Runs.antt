@@ -9,8 +9,8 @@ use Rattle.run_stops.specs.Lines.{store_line}
 use Rattle.run_shell.specs.Outcome.{Output, Outcome, IsFault, IsAnswer, Holds, HoldsPart, content_of, cut}
 use Rattle.run_shell.specs.Meaning.{Meaning}
 use Rattle.run_stops.specs.Stops.{StoreCount}
-use Rattle.run_shell.specs.Ends.{Ends, Answers}
-use Rattle.run_shell.specs.Run.{TellsStore, Says, said, cut_off, no_memory, sink_failed, AddsPart, AddsAll, Found, Settles, Tells, IsText}
+use Rattle.run_shell.specs.Ends.{Ends, Answers, FailsAt}
+use Rattle.run_shell.specs.Run.{TellsStore, Says, said, cut_off, no_memory, sink_failed, AddsPart, AddsAll, Found, Settles, Tells, IsText, FaultsAt}
 use Rattle.run_shell.specs.Ended.{Ended}
 use Rattle.run_shell.specs.Ending.{IsEnding, Ran}
 use Rattle.run_stops.proofs.Moves.{told_by, if_told_by}
@@ -90,7 +90,7 @@ store_rose f sb sa e c = subst (λ x. StoreCount x sb sa) e c
 all_is_part : (text u v : List ℕ) → AddsAll text u v → AddsPart text u v
 all_is_part text u v h = (length text, omega arith, h ∙ ap (λ t. u ++ t) (sym (whole_take text)))
 
-ends_store : (m : Meaning) (u : Files) (status : Status) (text : List ℕ) (x y : Option Files) → status ≡ StoreFault → Ends m u status text x y → (name : List ℕ) × m.Names u name × (text ≡ store_line name)
+ends_store : (m : Meaning) (u : Files) (status : Status) (text : List ℕ) (x y : Option Files) → status ≡ StoreFault → Ends m u status text x y → (name : List ℕ) × FailsAt m u name x y × (text ≡ store_line name)
 ends_store m u status text x y is e = (subst (λ s. Ends m u s text x y) is e).0
 
 cut_from_store : (status : Status) (f : Bool) → sink_failed status f ≡ StoreFault → status ≡ StoreFault
@@ -99,7 +99,7 @@ cut_from_store status false e = cc
 
 module _ (m : Meaning) (one : (files : Files) (o p : Outcome) → m.IsOutcome files o → m.IsOutcome files p → o ≡ p) (u : Files) (o : Outcome) (w : m.IsOutcome u o) where
   ends_text : (status : Status) (text : List ℕ) (x y : Option Files) → Ends m u status text x y → IsText o (m.Names u) text
-  ends_text StoreFault text x y e = inr (inl e.0)
+  ends_text StoreFault text x y e = let (name, it, line) = e.0 in inr (inl (name, it.0, line))
   ends_text OutOfMemory text x y e = inr (inr e.0)
   ends_text SinkFault text x y e = absurd e
   ends_text Done text x y e = inl (e.text ∙ ap (λ (p : Outcome). p.text) (one u e.outcome o e.is_outcome w))
@@ -130,13 +130,13 @@ module _ (m : Meaning) (one : (files : Files) (o p : Outcome) → m.IsOutcome fi
     whole = λ a. elim (ends_answer m one u o w status text x y e) [ inl b ↦ absurd (a b) | inr b ↦ subst (λ s. Told was is (AddsAll s)) b.1 h ];
     store_fault = λ s. let (name, it, line) = ends_store m u status text x y s e in
         let all : Told was is (AddsAll (store_line name)) = subst (λ z. Told was is (AddsAll z)) line h in
-        (name, it, told_by was is (all_is_part (store_line name)) all, inr all);
+        (name, it.0, told_by was is (all_is_part (store_line name)) all, inr all);
     part = λ a. (text, ends_text status text x y e, told_by was is (all_is_part text) h);
   }
   tell status f text result kb ka was is x y t (cut_off rose h) e = record {
     whole = λ a. absurd (a (cut_is_fault status f t));
     store_fault = λ s. let (name, it, line) = ends_store m u status text x y (cut_from_store status f s) e in
-        (name, it, subst (λ z. Told was is (AddsPart z)) line h, inl (omega arith));
+        (name, it.0, subst (λ z. Told was is (AddsPart z)) line h, inl (omega arith));
     part = λ a. (text, ends_text status text x y e, h);
   }
   tell status f text result kb ka was is x y t (no_memory same h) e = record {
@@ -160,6 +160,17 @@ module _ (m : Meaning) (one : (files : Files) (o p : Outcome) → m.IsOutcome fi
   complete_after status f text result sb sa kb ka was is x y t c (said same h) e s k = complete_work status f text sb sa x y t c e s
   complete_after status f text result sb sa kb ka was is x y t c (cut_off rose h) e s k = absurd (omega arith)
   complete_after status f text result sb sa kb ka was is x y t c (no_memory same h) e s k = inr refl
+
+-- at which file the store failed, and what has changed then
+first_after : (m : Meaning) (u : Files) (status : Status) (f : Bool) (text : List ℕ) (result : Status) (kb ka : ℕ) (was is : Option (List ℕ)) (x y : Option Files) → Says status f text result kb ka was is → Ends m u status text x y → result ≡ StoreFault → FaultsAt (m.Names u) (m.Creates u) (m.IsReadLate u) kb ka was is x y
+first_after m u status f text result kb ka was is x y (said same h) e s =
+    let (name, it, line) = ends_store m u status text x y s e in
+    let all : Told was is (AddsAll (store_line name)) = subst (λ z. Told was is (AddsAll z)) line h in
+    record { name = name; is_named = it.0; part = told_by was is (all_is_part (store_line name)) all; whole = inr all; unchanged = it.1 }
+first_after m u status f text result kb ka was is x y (cut_off rose h) e s =
+    let (name, it, line) = ends_store m u status text x y (cut_from_store status f s) e in
+    record { name = name; is_named = it.0; part = subst (λ z. Told was is (AddsPart z)) line h; whole = inl (omega arith); unchanged = it.1 }
+first_after m u status f text result kb ka was is x y (no_memory same h) e s = cc
 
 -- one run raises each count by one at most
 store_once : (f : Bool) (sb sa : ℕ) → StoreCount f sb sa → sa ≤ sb + 1
@@ -241,5 +252,6 @@ ran accepted m e result sb sa kb ka x y was is h says =
       complete = if_told_by x (λ u k o w. complete_after m one u o w e.status e.store_failed e.text result sb sa kb ka was is x y h.store h.count says k) h.ends;
       settled = if_told_by x (λ u k o w. settle m one u o w e.status e.store_failed e.text result kb ka was is x y h.store says k) h.ends;
       others = h.others;
+      inputs_first = if_told_by x (λ u k. first_after m u e.status e.store_failed e.text result kb ka was is x y says k) h.ends;
       text = if_told_by x (λ u k o w. tell m one u o w e.status e.store_failed e.text result kb ka was is x y h.store says k) h.ends;
     }

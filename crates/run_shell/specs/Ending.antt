@@ -11,7 +11,7 @@ use Rattle.run_shell.specs.Outcome.{Outcome, IsFault, IsAnswer, LeavesOthers}
 use Rattle.run_shell.specs.Meaning.{Meaning, IsLawful}
 use Rattle.run_stops.specs.Stops.{StoreCount, stop_text, is_of_store}
 use Rattle.run_shell.specs.Ends.{Ends, stop_status}
-use Rattle.run_shell.specs.Run.{TellsStore, Found, Settles, Tells}
+use Rattle.run_shell.specs.Run.{TellsStore, Found, Settles, Tells, FaultsAt}
 use Rattle.run_shell.specs.Ended.{Ended}
 
 abbrev pub text_bytes : EndingText → List ℕ
@@ -43,6 +43,7 @@ misused_meaning = record {
   IsOutcome = λ files o. o ≡ misused;
   Creates = λ files q. ⊥;
   Names = λ files q. ⊥;
+  IsReadLate = λ files q. ⊥;
   IsPlanRefused = λ files. ⊥;
   IsInputRefused = λ files. ⊥;
   IsHeld = λ files. ⊥;
@@ -82,4 +83,5 @@ pub record Ran (accepted : Type 0) (m : Meaning) (status : Status) (store_before
   pub complete : IfSome old (λ files. (o : Outcome) → m.IsOutcome files o → store_now ≡ store_before → sink_now ≡ sink_before → (status ≡ o.status) ⊎ (status ≡ OutOfMemory))
   pub settled : IfSome old (λ files. (o : Outcome) → m.IsOutcome files o → Settles o status old new)
   pub others : Told old new (LeavesOthers m.Creates)
+  pub inputs_first : IfSome old (λ files. status ≡ StoreFault → FaultsAt (m.Names files) (m.Creates files) (m.IsReadLate files) sink_before sink_now was is old new)
   pub text : IfSome old (λ files. (o : Outcome) → m.IsOutcome files o → Tells o (m.Names files) status sink_before sink_now was is)

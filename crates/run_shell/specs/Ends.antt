@@ -8,7 +8,7 @@ use Rattle.run_stops.specs.declared.stop.Stop.TheVariants as stop
 use Rattle.run_shell.specs.declared.finished.Finished.{Finished}
 use Rattle.run_shell.specs.declared.status.Status.{Status}
 use Rattle.run_shell.specs.declared.status.Status.TheVariants.{Done, StoreFault, Usage, Held, PlanRefused, InputRefused, OutOfMemory, SinkFault}
-use Rattle.run_shell.specs.Outcome.{Outcome, Holds, HoldsPart}
+use Rattle.run_shell.specs.Outcome.{Outcome, Holds, HoldsPart, Unchanged}
 use Rattle.run_shell.specs.Meaning.{Meaning}
 
 abbrev pub stop_status : Stop → Status
@@ -34,9 +34,14 @@ pub record Answers (m : Meaning) (before : Files) (its_status : Status) (its_tex
 abbrev pub Stopped : Meaning → Files → Option Files → Option Files → Type 0
 Stopped m files old new = (o : Outcome) → m.IsOutcome files o → Told old new (HoldsPart o.files)
 
+-- the store failed at the file of this name, which the command reads or creates; and if it neither creates it nor reads it late, no
+-- file has changed
+abbrev pub FailsAt : Meaning → Files → List ℕ → Option Files → Option Files → Type 0
+FailsAt m files name old new = m.Names files name × ((m.Creates files name → ⊥) → (m.IsReadLate files name → ⊥) → Told old new Unchanged)
+
 -- the status and text that the work came to, and the files then
 abbrev pub Ends : Meaning → Files → Status → List ℕ → Option Files → Option Files → Type 0
-Ends m files StoreFault text old new = ((name : List ℕ) × m.Names files name × (text ≡ store_line name)) × Stopped m files old new
+Ends m files StoreFault text old new = ((name : List ℕ) × FailsAt m files name old new × (text ≡ store_line name)) × Stopped m files old new
 Ends m files OutOfMemory text old new = (text ≡ memory_line) × Stopped m files old new
 Ends m files SinkFault text old new = ⊥
 Ends m files Done text old new = Answers m files Done text old new

@@ -4,7 +4,7 @@ use Rattle.run_shell.specs.declared.status.Status.{Status}
 use Rattle.run_shell.specs.declared.status.Status.TheVariants.{Done, StoreFault, Usage, Held, PlanRefused, InputRefused, OutOfMemory, SinkFault}
 use Rattle.lk_outside.specs.Files.{Files, Told}
 use Rattle.run_stops.specs.Lines.{store_line, memory_line}
-use Rattle.run_shell.specs.Outcome.{Outcome, IsFault, IsAnswer, Holds, HoldsPart}
+use Rattle.run_shell.specs.Outcome.{Outcome, IsFault, IsAnswer, Holds, HoldsPart, Unchanged}
 
 -- the store failed where that is the status, and did not at an answer; out of memory may hide it
 abbrev pub TellsStore : Status → Bool → Type 0
@@ -55,3 +55,13 @@ pub record Tells (o : Outcome) (named : List ℕ → Type 0) (status : Status) (
   -- the whole line, or a prefix of it where the sink failed too
   pub store_fault : status ≡ StoreFault → (name : List ℕ) × named name × Told was is (AddsPart (store_line name)) × ((sink_before < sink_now) ⊎ Told was is (AddsAll (store_line name)))
   pub part : IsFault status → (text : List ℕ) × IsText o named text × Told was is (AddsPart text)
+
+-- At which file the store failed, by names that are read or created, those that are created, and those that are read late.
+pub record FaultsAt (named created late : List ℕ → Type 0) (sink_before sink_now : ℕ) (was is : Option (List ℕ)) (old new : Option Files) : Type 0 where
+  pub name : List ℕ
+  pub is_named : named name
+  -- its line was said whole, or a prefix of it where the sink failed too
+  pub part : Told was is (AddsPart (store_line name))
+  pub whole : (sink_before < sink_now) ⊎ Told was is (AddsAll (store_line name))
+  -- a file that is read before an output is created: no file has changed
+  pub unchanged : (created name → ⊥) → (late name → ⊥) → Told old new Unchanged

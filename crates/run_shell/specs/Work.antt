@@ -32,12 +32,15 @@ pub record Work : Type 1 where
   pub Creates : Inputs → List ℕ → Type 0
   -- the names that it reads
   pub Names : Files → List ℕ → Type 0
+  -- those that it reads when an output may already be there
+  pub IsReadLate : Files → List ℕ → Type 0
 
 abbrev pub meaning_by : Work → Meaning
 meaning_by w = record {
   IsOutcome = λ files o. MatchResult (w.inputs_in files) (λ i. w.IsMade i o) (λ r. o ≡ refused_outcome r);
   Creates = λ files q. MatchResult (w.inputs_in files) (λ i. w.Creates i q) (λ r. ⊥);
   Names = λ files q. w.Names files q ⊎ MatchResult (w.inputs_in files) (λ i. w.Creates i q) (λ r. ⊥);
+  IsReadLate = w.IsReadLate;
   IsPlanRefused = λ files. MatchResult (w.inputs_in files) (λ i. ⊥) IsOfPlan;
   IsInputRefused = λ files. MatchResult (w.inputs_in files) (λ i. ⊥) IsOfInputs;
   IsHeld = λ files. MatchResult (w.inputs_in files) w.IsHeld (λ r. ⊥);

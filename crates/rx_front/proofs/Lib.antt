@@ -5,6 +5,7 @@ pub mod Feeding
 pub mod Known
 pub mod Waiting
 -- What this crate alone cites.
+mod Shows
 mod AtPlaces
 mod Moving
 mod FirstDid

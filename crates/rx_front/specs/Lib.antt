@@ -1,4 +1,6 @@
 pub mod States
+pub mod Shows
+pub mod Steps
 pub mod Lanes
 pub mod Batches
 pub mod Calls

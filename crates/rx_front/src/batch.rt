@@ -3,10 +3,10 @@ ghost use Rattle.lk_base.specs.Checksum.{bits_of_bytes};
 ghost use Rattle.deskew.specs.Steps.{steps_taken};
 ghost use Rattle.lane_lock.specs.Bytes.{BringsBatch};
 
+use crate::steps::LaneSteps;
 use circular_buffer::HeapCircularBuffer;
 use deskew::Deskew;
 use lane_lock::{MOST_BYTES, StepList};
-use lane_steps::LaneSteps;
 use lk_base::OutOfMemory;
 use std::alloc::Global;
 use std::marker::Model;

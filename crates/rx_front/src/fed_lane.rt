@@ -12,9 +12,9 @@ ghost use Rattle.rx_front.specs.Locks.{lock_of};
 ghost use Rattle.rx_front.specs.Lanes.{Covers, HasBytes, IsFresh, IsTaken, LaneStands, fed_lane, finished_lane, is_empty as has_no_byte, is_ready as can_take, step_at};
 
 use crate::batch::Batch;
+use crate::steps::LaneSteps;
 use circular_buffer::HeapCircularBuffer;
 use deskew::Deskew;
-use lane_steps::LaneSteps;
 use lk_base::{Link, OutOfMemory, eight_at};
 use lock_model::{LaneReport, LaneState, LaneStep};
 use std::alloc::Global;

@@ -7,5 +7,7 @@ mod block;
 mod fed_lane;
 mod front;
 mod lanes;
+mod shown;
+mod steps;
 
 pub use front::Front;

@@ -10,7 +10,7 @@ use lk_base::OutOfMemory;
 use run_shell::{Finished, Maker, Outputs, Step, only_name, words_name};
 use std::alloc::Global;
 use tx_words::{StreamSource, StreamWords};
-use words_files::{WORD_BYTES, write_data, write_word};
+use words_files::{FileWord, WORD_BYTES, write_data, write_word};
 
 // The words that are made at a time. Their bytes take 9 KiB, which stay in a processor's first cache, and a block costs little besides
 // its words.
@@ -59,7 +59,7 @@ fn write_few(words: &mut StreamWords, bytes: &mut [u8]) -> usize
     }
     match words.next() {
         Some(word) => {
-            write_word(bytes, 0, word);
+            write_word(bytes, 0, FileWord::from(word));
             WORD_BYTES
         }
         None => 0,

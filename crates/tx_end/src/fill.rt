@@ -1,5 +1,5 @@
 //! The next metaframe of a lane, of the payload words of one group.
-ghost use Rattle.std.specs.Prelude.{◌≡◌, ◌+◌, ◌^◌, ◌<◌, ◌≤◌, ℕ, List, [], ◌∷◌, ◌++◌, true, length, take, vec_capacity, IfOk};
+ghost use Rattle.std.specs.Prelude.{◌≡◌, ◌+◌, ◌*◌, ◌^◌, ◌<◌, ◌≤◌, ℕ, List, [], ◌∷◌, ◌++◌, true, length, take, vec_capacity, IfOk};
 ghost use Rattle.lk_base.specs.Link.{Settings, IsLink, group_of};
 ghost use Rattle.lk_base.specs.declared.word.Word.{Word as SentWord};
 ghost use Rattle.lane_model.specs.Striping.{lane_payload};
@@ -49,37 +49,85 @@ fn next_eight(group: &[Word], lanes: u32, number: u32, place: usize) -> [Word; 8
     ensures { take (place + 8) (lane_payload lanes group.now number) ≡ take place (lane_payload lanes group.now number) ++ result }
 {
     let mut eight = [Word::Data(0); 8];
+    let mut at = place * lanes as usize + number as usize;
     for k in 0..8 {
-        eight[k] = payload_at(group, lanes, number, place + k);
+        eight[k] = group[at];
+        at += lanes as usize;
     }
     eight
 }
 
-// Appends bytes for which there is room.
-fn append(bytes: &mut Vec<u8>, more: &[u8])
-    requires room { length bytes.old.items + length more.now ≤ vec_capacity bytes.old }
-    ensures items { bytes.new.items ≡ bytes.old.items ++ more.now }
+// Puts these bytes at a place.
+fn put_bytes(bytes: &mut [u8], at: usize, more: &[u8])
+    requires { at + length more.now ≤ length bytes.old }
+    ensures { take (at + length more.now) bytes.new ≡ take at bytes.old ++ more.now }
+{
+    bytes[at..at + more.len()].copy_from_slice(more);
+}
+
+// Puts the whole bytes that wait at a place, and returns the place after them.
+fn give_bytes(lane: &mut LaneWriter, bytes: &mut [u8], at: usize) -> usize
+    requires many { 64 ≤ length lane.old.bits }
+    requires few { length lane.old.bits < 80 }
+    requires room { at + 9 ≤ length bytes.old }
+    ensures carries { (s : Settings) (number : ℕ) (given : List SentWord) (made : ℕ) (before : List ℕ) → Carries lane.old s number given made (before ++ take at bytes.old) → Carries lane.new s number given made (before ++ take result bytes.new) }
+    ensures waiting { length lane.new.bits < 8 }
+    ensures most { result ≤ at + 9 }
+{
+    let mut piece = [0; 9];
+    let count = lane.give(&mut piece);
+    put_bytes(bytes, at, &piece[..count]);
+    at + count
+}
+
+// Makes the words of a lane's next metaframe, as `fill_lane` does. Their whole bytes become the first of the block, and the answer
+// counts them.
+fn fill_block(
+    lane: &mut LaneWriter,
+    link: &Link,
+    group: &[Word],
+    number: u32,
+    block: &mut [u8],
+) -> usize
+    requires limits { IsLink link.now }
+    requires group { length group.now ≡ group_of link.now }
+    requires lane { number < link.now.lanes }
+    requires filled { (given : List SentWord) × (made : ℕ) × (before : List ℕ) × HasFilled lane.old link.now number given made before }
+    requires room { 9 * link.now.metaframe ≤ length block.old }
+    ensures { Fills link.now number group.now lane.old lane.new (take result block.new) }
+{
+    let lanes = link.lanes();
+    let metaframe = link.metaframe();
+    let mut taken = 0;
+    let mut place = 0;
+    let mut at = 0;
+    while place < metaframe {
+        if lane.takes_eight() {
+            let eight = next_eight(group, lanes, number, taken);
+            lane.put_eight(&eight, block, at);
+            taken += 8;
+            place += 8;
+            at += 67;
+        } else {
+            taken = next_word(lane, group, lanes, number, taken);
+            at = give_bytes(lane, block, at);
+            place += 1;
+        }
+    }
+    at
+}
+
+// Gives the list this many bytes, for which there is room.
+fn set_count(bytes: &mut Vec<u8>, count: usize)
+    requires { count ≤ vec_capacity bytes.old }
+    ensures count { length bytes.new.items ≡ count }
     ensures room { vec_capacity bytes.old ≤ vec_capacity bytes.new }
 {
-    match bytes.extend_from_slice(more) {
+    match bytes.resize(count, 0) {
         Ok(()) => {}
         // There is room.
         Err(_) => unreachable!(),
     }
-}
-
-// Gives the whole bytes that wait.
-fn give_bytes(lane: &mut LaneWriter, bytes: &mut Vec<u8>)
-    requires many { 64 ≤ length lane.old.bits }
-    requires few { length lane.old.bits < 80 }
-    requires room { length bytes.old.items + 9 ≤ vec_capacity bytes.old }
-    ensures carries { (s : Settings) (number : ℕ) (given : List SentWord) (made : ℕ) (before : List ℕ) → Carries lane.old s number given made (before ++ bytes.old.items) → Carries lane.new s number given made (before ++ bytes.new.items) }
-    ensures waiting { length lane.new.bits < 8 }
-    ensures room { vec_capacity bytes.old ≤ vec_capacity bytes.new }
-{
-    let mut piece = [0; 9];
-    let count = lane.give(&mut piece);
-    append(bytes, &piece[..count]);
 }
 
 /// Makes the words of a lane's next metaframe, whose payload words are the lane's own among those of a group. The bytes
@@ -99,23 +147,9 @@ pub fn fill_lane(
     ensures fills { Fills link.now number group.now lane.old lane.new bytes.new.items }
     ensures room { HasRoom link.now bytes.new }
 {
-    let lanes = link.lanes();
-    let metaframe = link.metaframe();
-    let mut taken = 0;
-    let mut place = 0;
-    bytes.clear();
-    while place < metaframe {
-        if lane.takes_eight() {
-            let eight = next_eight(group, lanes, number, taken);
-            append(bytes, &lane.payload_eight(&eight));
-            taken += 8;
-            place += 8;
-        } else {
-            taken = next_word(lane, group, lanes, number, taken);
-            give_bytes(lane, bytes);
-            place += 1;
-        }
-    }
+    set_count(bytes, 9 * link.metaframe() as usize);
+    let count = fill_block(lane, link, group, number, bytes);
+    bytes.truncate(count);
 }
 
 /// The bytes become the last one of a lane, where bits wait, and none elsewhere.

@@ -20,7 +20,7 @@ use Rattle.stream_model.specs.declared.rows.FlowRow.{FlowRow}
 use Rattle.stream_model.specs.declared.rows.LocalRow.{LocalRow}
 use Rattle.stream_model.proofs.Cutting.{cut_of, some_chunks_of}
 use Rattle.delivery_laws.specs.SentPackets.{burst_slots, packet_on, sent_from, sent_packets}
-use Rattle.tx_words.specs.declared.counts.SentCount.{SentCount}
+use Rattle.report_model.specs.declared.counts.SentCount.{SentCount}
 use Rattle.tx_words.specs.declared.counts.Tally.{Tally}
 use Rattle.tx_words.specs.declared.packet.Packet.{Packet}
 use Rattle.tx_words.specs.Sources.{packets_by, source_by}

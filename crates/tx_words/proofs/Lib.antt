@@ -1,13 +1,13 @@
 -- What other crates cite.
 pub mod ListedSent
 pub mod SomeList
-pub mod NumbersLaw
 pub mod SentLists
 pub mod Making
 pub mod FirstWords
 pub mod HeldOn
 pub mod BlockWords
 -- What this crate alone cites.
+mod NumbersLaw
 mod Passing
 mod Loading
 mod Steps

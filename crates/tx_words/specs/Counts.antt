@@ -4,7 +4,7 @@ use Rattle.lk_base.specs.declared.word.Word.{Word}
 use Rattle.receive_model.specs.Pieces as received
 use Rattle.stream_model.specs.BurstStream.{Source, packets_of}
 use Rattle.delivery_laws.specs.SentPackets.{sent_packets}
-use Rattle.tx_words.specs.declared.counts.SentCount.{SentCount}
+use Rattle.report_model.specs.declared.counts.SentCount.{SentCount}
 
 -- the sent packets of a channel, their bytes, and how many of its packets are not sent
 abbrev pub count_of : Source → List Word → ℕ → SentCount

@@ -2,7 +2,7 @@
 use Rattle.std.specs.Prelude.{◌≡◌, ℕ, ◌+◌, ◌-◌, ◌<◌, nat_le, cond, ◌==◌, ◌&&◌, is_some, Bool, List, length, fold, count_by, slice_index_or}
 use Rattle.stream_model.specs.BurstStream.{parts}
 use Rattle.tx_words.specs.declared.counts.Tally.{Tally}
-use Rattle.tx_words.specs.declared.counts.SentCount.{SentCount}
+use Rattle.report_model.specs.declared.counts.SentCount.{SentCount}
 use Rattle.tx_words.specs.declared.packet.Packet.{Packet}
 use Rattle.tx_words.specs.declared.sent.Sent.{Sent}
 

@@ -12,21 +12,9 @@ use crate::packet::Packet;
 use crate::sent::Sent;
 use crate::source::StreamSource;
 use lk_base::{LONGEST_PACKET, OutOfMemory, Word};
+use report_model::SentCount;
 use std::alloc::Global;
 use word_list::WordList;
-
-/// What became of the packets of a channel.
-#[derive(Clone, Copy, Debug, PartialEq, Eq)]
-pub struct SentCount {
-    /// The channel's number.
-    pub channel: u16,
-    /// How many of its packets are sent: those whose end word is in the stream.
-    pub packets: u64,
-    /// The bytes of its sent packets together.
-    pub bytes: u64,
-    /// How many of its packets are not sent.
-    pub left: u64,
-}
 
 // What is known of a channel's packets while they are gone over.
 #[derive(Clone, Copy)]

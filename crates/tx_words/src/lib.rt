@@ -14,7 +14,7 @@ mod stream_packets;
 mod stream_words;
 mod word_maker;
 
-pub use counts::{SentCount, count_listed, count_sent};
+pub use counts::{count_listed, count_sent};
 pub use packet::{MadeStream, Packet};
 pub use sent::Sent;
 pub use sent_list::SentList;

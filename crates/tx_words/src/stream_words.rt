@@ -5,10 +5,11 @@ ghost use Rattle.lk_base.specs.declared.word.Word.TheVariants.{Data};
 ghost use Rattle.tx_words.specs.Counts.{AreCounts};
 ghost use Rattle.tx_words.specs.Sources.{IsHeldOn};
 
-use crate::counts::{SentCount, Tally, count_burst, count_bursts_by, no_tallies};
+use crate::counts::{Tally, count_burst, count_bursts_by, no_tallies};
 use crate::source::StreamSource;
 use crate::word_maker::WordMaker;
 use lk_base::{OutOfMemory, Word};
+use report_model::SentCount;
 use std::alloc::Global;
 
 /// The words of a payload stream as they are made, a run of data words or a word at a time. Its packets and rows are lent.

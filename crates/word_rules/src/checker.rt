@@ -4,6 +4,7 @@ ghost use Rattle.std.specs.Bool.{OnFalse, OnTrue};
 ghost use Rattle.std.specs.Option.{option_to_list};
 ghost use Rattle.lk_base.specs.declared.word.RxWord.{RxWord};
 ghost use Rattle.lk_base.specs.declared.word.RxWord.TheVariants.{Data, Control, Bad};
+ghost use Rattle.calendar.specs.Incoming.{IsHeardAs};
 ghost use Rattle.word_rules.specs.Faults.{Plan, empty_rows, faults, faults_at, faults_from, plan_by, with_flow};
 ghost use Rattle.word_rules.specs.Made.{AreUnused, unused};
 ghost use Rattle.word_rules.specs.Checks.{Keeps};
@@ -136,11 +137,11 @@ impl Checker {
         self.before.empty_before(self.limits, next)
     }
 
-    /// Hears a word of flow control: it counts from the next word on, as a row whose slot is the number of words so far. No row of the
-    /// plan is of a later slot.
+    /// Hears a control word of the far end that was verified, whatever its checksum. It counts from the next word on, as a row with the
+    /// checksum of the word alone, whose slot is the number of words so far. No row of the plan is of a later slot.
     pub fn hear(&mut self, word: u64)
         requires { (p : Plan) × (earlier : List RxWord) × Keeps self.old p earlier }
-        ensures { (p : Plan) (earlier : List RxWord) → Keeps self.old p earlier → NoneLater p.flow (length earlier) → Keeps self.new (with_flow p (with_row p.flow (length earlier) word)) earlier }
+        ensures { (p : Plan) (earlier : List RxWord) (heard : ℕ) → Keeps self.old p earlier → NoneLater p.flow (length earlier) → IsHeardAs word heard → Keeps self.new (with_flow p (with_row p.flow (length earlier) heard)) earlier }
     {
         self.flow.hear(word, self.before.number);
     }

@@ -2,22 +2,31 @@
 ghost use Rattle.std.specs.Prelude.{◌≡◌, ◌≤◌, ◌<◌, ◌++◌, ◌∷◌, [], ℕ, List, IfOk, length, take, get_or, not};
 ghost use Rattle.stream_model.specs.Calendar.{is_on};
 ghost use Rattle.stream_model.specs.declared.rows.FlowRow.{FlowRow};
-ghost use Rattle.calendar.specs.Incoming.{Stands};
+ghost use Rattle.calendar.specs.Incoming.{IsHeardAs, Stands, StandsFor};
 ghost use Rattle.word_rules.specs.Flows.{InOrder, IsFlow, NoneLater, no_row, with_row};
 
 use arrayvec::ArrayVec;
-use calendar::{CalendarIn, valid_word};
+use calendar::{CalendarIn, valid_word, verified_word};
+use control_words::Control;
 use lk_base::OutOfMemory;
 use std::alloc::Global;
 use stream_model::FlowRow;
+
+// Takes the next word, `None` for one that is not valid.
+fn take_word(calendar: &mut CalendarIn, word: Option<Control>)
+    requires stands { (entries : List ℕ) × (rows : List FlowRow) × Stands calendar.old entries rows }
+    ensures { (entries : List ℕ) (rows : List FlowRow) (row : FlowRow) → Stands calendar.old entries rows → StandsFor word row.word → Stands calendar.new entries (rows ++ row ∷ []) }
+{
+    let mut changed = ArrayVec::new();
+    calendar.take(word, &mut changed);
+}
 
 // Takes the word of one row.
 fn take_row(calendar: &mut CalendarIn, row: FlowRow)
     requires stands { (entries : List ℕ) × (rows : List FlowRow) × Stands calendar.old entries rows }
     ensures { (entries : List ℕ) (rows : List FlowRow) → Stands calendar.old entries rows → Stands calendar.new entries (rows ++ row ∷ []) }
 {
-    let mut changed = ArrayVec::new();
-    calendar.take(valid_word(row.word), &mut changed);
+    take_word(calendar, valid_word(row.word));
 }
 
 // Takes the rows up to a slot, from number `taken` on, and returns how many are taken then.
@@ -71,13 +80,14 @@ impl Flow {
         !self.calendar.is_on(channel)
     }
 
-    /// Takes a word that counts from a slot on, after all rows. None of these is of a later slot, and they are not kept any more.
+    /// Takes a control word that was verified, whatever its checksum: it counts from a slot on, after all rows, as one with the checksum of
+    /// the word alone. None of the rows is of a later slot, and they are not kept any more.
     pub fn hear(&mut self, word: u64, slot: u64)
         requires flow { (entries : List ℕ) × (rows : List FlowRow) × (s : ℕ) × IsFlow self.old entries rows s }
-        ensures flow { (entries : List ℕ) (rows : List FlowRow) (s : ℕ) → IsFlow self.old entries rows s → NoneLater rows slot → IsFlow self.new entries (with_row rows slot word) slot }
+        ensures flow { (entries : List ℕ) (rows : List FlowRow) (s heard : ℕ) → IsFlow self.old entries rows s → NoneLater rows slot → IsHeardAs word heard → IsFlow self.new entries (with_row rows slot heard) slot }
     {
         take_rows(&mut self.calendar, &self.rows, self.taken, slot);
-        take_row(&mut self.calendar, FlowRow { slot, word });
+        take_word(&mut self.calendar, verified_word(word));
         self.rows.clear();
         self.taken = 0;
     }

@@ -1,75 +1,40 @@
 -- A file has a listing.
-use Rattle.std.proofs.Common.{inl, inr, ◌≡◌, ℕ, zero, suc, ◌+◌, ◌*◌, ◌<◌, ◌≤◌, ◌^◌, ◌==◌, Bool, true, false, Ok, Err, Some, None, cond, List, [], ◌∷◌, ◌++◌, All, length, drop, take, slice_index_or, refl, sym, ap, ◌∙◌, append_assoc, arith}
-use Rattle.std.proofs.lemmas.Bool.{cases_lt, eqb-true, eqb-false}
+use Rattle.std.proofs.Common.{inl, inr, ◌≡◌, ℕ, zero, suc, ◌+◌, ◌<◌, ◌≤◌, ◌^◌, Bool, true, false, Ok, Err, Some, None, cond, List, [], ◌∷◌, ◌++◌, All, length, drop, take, slice_index_or, refl, sym, ap, ◌∙◌, append_assoc, arith}
+use Rattle.std.proofs.lemmas.Bool.{cases_lt}
 use Rattle.std.proofs.lemmas.Bool.Decides.{nat_tests}
 use Rattle.std.proofs.lemmas.List.{length-take, length-drop, length-take-le, take-append-drop}
 use Rattle.std.proofs.lemmas.List.Elements.{All-nil, All-cons, All-drop, All-get_or}
 use Rattle.std.proofs.lemmas.List.Concat.{flat_map-cons}
-use Rattle.std.proofs.lemmas.Nat.{mul-add-lt}
 use Rattle.std.proofs.Math.ListN.{get_or-eq_default}
 use Rattle.std.specs.List.{flat_map}
-use Rattle.byteorder.specs.Endian.{big_from}
 use Rattle.lk_base.specs.Checksum.{bits_of, bits_of_bytes}
 use Rattle.lk_base.specs.declared.word.RxWord.{RxWord}
 use Rattle.lane_model.specs.Bits.{high_number}
 use Rattle.lane_model.specs.LaneBits.{bits_of_codes}
 use Rattle.lane_model.proofs.Numbers.{bits_of-number, below-high_number}
-use Rattle.words_files.specs.WordsOfFile.{has_wrong_tag, is_short, first_refusal, words_of_file}
+use Rattle.words_files.specs.WordsOfFile.{file_word_in, has_wrong_tag, is_short, first_refusal, words_of_file}
+use Rattle.words_files.specs.declared.tags.Tags.TheVariants as tags
+use Rattle.words_files.proofs.Nine.{first_nine, low_first, number_sized}
 use Rattle.words_files.specs.declared.error.WordsError.{WordsError}
 use Rattle.words_files.specs.declared.error.WordsError.TheVariants as at
-use Rattle.word_text.specs.declared.word.FileWord.{FileWord}
-use Rattle.word_text.specs.declared.word.FileWord.TheVariants as file
+use Rattle.words_files.specs.declared.file_word.FileWord.{FileWord}
+use Rattle.words_files.specs.declared.file_word.FileWord.TheVariants as file
 use Rattle.word_text.specs.Lines.{text_of}
 use Rattle.word_text.specs.CodeLines.{rest_lines}
-use Rattle.word_text.specs.WordLines.{nine_bytes, IsSized}
+use Rattle.words_files.specs.FileWord.{nine_bytes}
+use Rattle.word_text.specs.WordLines.{IsSized}
 use Rattle.word_text.specs.Listings.{words_head, lane_head, IsWordsListing, IsLaneListing}
-use Rattle.word_text.proofs.Nine.{nine, third}
 use Rattle.word_text.proofs.Growing.{ReadSoFar, read-none, read-more, read-refused, first-nine}
 use Rattle.word_text.proofs.WordLine.{words-told}
 use Rattle.word_text.proofs.CodeLine.{codes-told}
 
 -- ---- words files
 
-number-below : (i n : ℕ) (xs : List ℕ) → ((k : ℕ) → slice_index_or xs k 0 < 256) → big_from i n xs < 256 ^ n
-number-below i zero xs h = omega arith
-number-below i (suc n) xs h =
-    let first = h i in
-    let others = number-below (suc i) n xs h in
-    let power : 256 ^ suc n ≡ 256 * 256 ^ n = omega arith in
-    high-below (slice_index_or xs i 0) (big_from (suc i) n xs) (256 ^ n) (256 ^ suc n) first others power
-  where
-    high-below : (a b p q : ℕ) → a < 256 → b < p → q ≡ 256 * p → a * p + b < q
-    high-below a b p q h k e = let fits = mul-add-lt a p b 256 h k in omega (arith, fits, e)
-
 octets-below : (xs : List ℕ) → All (λ b. b < 2 ^ 8) xs → (k : ℕ) → slice_index_or xs k 0 < 256
 octets-below xs h k = elim (cases_lt k (length xs)) [
   | inl less ↦ let e = All-get_or (λ (b : ℕ). b < 2 ^ 8) xs k 0 less h in omega (arith, e)
   | inr more ↦ rw (get_or-eq_default xs 0 more) (omega arith)
 ]
-
-tail-below : (xs : List ℕ) → ((k : ℕ) → slice_index_or xs k 0 < 256) → (k : ℕ) → slice_index_or (drop 1 xs) k 0 < 256
-tail-below [] h k = h k
-tail-below (x ∷ xs) h k = h (suc k)
-
--- the word in the first nine bytes
-record FirstWord (rest : List ℕ) : Type 0 where
-  word : FileWord
-  sized : IsSized word
-  bytes : take 9 rest ≡ nine_bytes word
-
-first-word : (rest : List ℕ) → 9 ≤ length rest → has_wrong_tag (take 9 rest) ≡ false → ((k : ℕ) → slice_index_or rest k 0 < 256) → FirstWord rest
-first-word rest h tag f = by-data (slice_index_or rest 0 0 == 1) refl
-  where
-    low : big_from 0 8 (drop 1 rest) < 2 ^ 64
-    low = let b = number-below 0 8 (drop 1 rest) (tail-below rest f) in omega (arith, b)
-
-    by-control : (slice_index_or rest 0 0 ≡ 1 → ⊥) → (t : Bool) → (slice_index_or rest 0 0 == 2) ≡ t → FirstWord rest
-    by-control n true e = record { word = file.Control (big_from 0 8 (drop 1 rest)); sized = low; bytes = nine rest (big_from 0 8 (drop 1 rest)) 2 h f refl (eqb-true (slice_index_or rest 0 0) 2 e) }
-    by-control n false e = record { word = file.Bad (big_from 0 8 (drop 1 rest)); sized = low; bytes = nine rest (big_from 0 8 (drop 1 rest)) 3 h f refl (third rest h tag n (eqb-false (slice_index_or rest 0 0) 2 e)) }
-
-    by-data : (t : Bool) → (slice_index_or rest 0 0 == 1) ≡ t → FirstWord rest
-    by-data true e = record { word = file.Data (big_from 0 8 (drop 1 rest)); sized = low; bytes = nine rest (big_from 0 8 (drop 1 rest)) 1 h f refl (eqb-true (slice_index_or rest 0 0) 1 e) }
-    by-data false e = by-control (eqb-false (slice_index_or rest 0 0) 1 e) (slice_index_or rest 0 0 == 2) refl
 
 -- the words of these bytes
 record WordsOf (bytes : List ℕ) : Type 0 where
@@ -80,11 +45,11 @@ record WordsOf (bytes : List ℕ) : Type 0 where
 no-word : WordsOf []
 no-word = record { words = []; sized = All-nil IsSized; file = refl }
 
-one-more : (rest : List ℕ) (f : FirstWord rest) → WordsOf (drop 9 rest) → WordsOf rest
-one-more rest f w = record {
-  words = f.word ∷ w.words;
-  sized = All-cons IsSized f.word w.words f.sized w.sized;
-  file = first-nine rest f.word f.bytes ∙ ap (λ (l : List ℕ). nine_bytes f.word ++ l) w.file ∙ sym (flat_map-cons nine_bytes f.word w.words);
+one-more : (rest : List ℕ) (word : FileWord) → IsSized word → take 9 rest ≡ nine_bytes word → WordsOf (drop 9 rest) → WordsOf rest
+one-more rest word sized bytes w = record {
+  words = word ∷ w.words;
+  sized = All-cons IsSized word w.words sized w.sized;
+  file = first-nine rest word bytes ∙ ap (λ (l : List ℕ). nine_bytes word ++ l) w.file ∙ sym (flat_map-cons nine_bytes word w.words);
 }
 
 pub never-both : (bytes : List ℕ) (words : List RxWord) (why : WordsError) → words_of_file bytes ≡ Ok words → words_of_file bytes ≡ Err why → ⊥
@@ -120,9 +85,12 @@ module _ (bytes : List ℕ) (read : List RxWord) (accepted : words_of_file bytes
   words-of (suc fuel) (b ∷ rest) offset h o r =
       let some : 0 < length (b ∷ rest) = omega arith in
       let long = is-whole (b ∷ rest) offset some r in
-      let f = first-word (b ∷ rest) long (tag-right (b ∷ rest) offset some r) (octets-below (b ∷ rest) o) in
+      let low = octets-below (b ∷ rest) o in
+      let word = file_word_in (take 9 (b ∷ rest)) in
+      let bytes_are = first_nine tags.Received (b ∷ rest) long low (tag-right (b ∷ rest) offset some r) in
       let size = length-drop 9 (b ∷ rest) in
-      one-more (b ∷ rest) f (words-of fuel (drop 9 (b ∷ rest)) (offset + 9) (omega (arith, size, long, h)) (All-drop (λ (x : ℕ). x < 2 ^ 8) 9 (b ∷ rest) o) (read-more bytes (b ∷ rest) offset f.word some f.bytes r))
+      one-more (b ∷ rest) word (number_sized (take 9 (b ∷ rest)) (low_first 9 (b ∷ rest) low)) bytes_are
+      (words-of fuel (drop 9 (b ∷ rest)) (offset + 9) (omega (arith, size, long, h)) (All-drop (λ (x : ℕ). x < 2 ^ 8) 9 (b ∷ rest) o) (read-more bytes (b ∷ rest) offset word some bytes_are r))
 
 pub words-listing : (bytes : List ℕ) (words : List RxWord) → All (λ b. b < 2 ^ 8) bytes → words_of_file bytes ≡ Ok words → (text : List ℕ) × IsWordsListing text bytes
 words-listing bytes words o e =

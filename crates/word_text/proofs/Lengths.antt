@@ -13,14 +13,15 @@ use Rattle.control_words.specs.declared.fields.Eop.{Eop}
 use Rattle.control_words.specs.declared.fields.Eop.TheVariants.{Going, End, Error}
 use Rattle.control_words.specs.declared.fields.Control.{Control}
 use Rattle.control_words.specs.ControlWord.{IsWordOf}
-use Rattle.word_text.specs.declared.word.FileWord.{FileWord}
-use Rattle.word_text.specs.declared.word.FileWord.TheVariants as file
+use Rattle.words_files.specs.declared.file_word.FileWord.{FileWord}
+use Rattle.words_files.specs.declared.file_word.FileWord.TheVariants as file
 use Rattle.word_text.specs.Digits.{bit_glyph}
 use Rattle.lk_base.specs.Hex.{hex}
 use Rattle.lk_base.proofs.HexDigits.{length-hex}
 use Rattle.coding_67b.proofs.Runs.{codes_length}
 use Rattle.word_text.specs.Lines.{ended, text_of, AreLinesOf}
-use Rattle.word_text.specs.WordLines.{nine_bytes, IsWordLine, control_text}
+use Rattle.words_files.specs.FileWord.{nine_bytes}
+use Rattle.word_text.specs.WordLines.{IsWordLine, control_text}
 use Rattle.word_text.specs.CodeLines.{IsSync, IsState, IsCodeLine, rest_line, rest_lines}
 use Rattle.word_text.specs.Listings.{words_head, lane_head, IsWordsListing, IsLaneListing}
 use Rattle.word_text.proofs.Fields.{cut-fields, from_kind, from_sop, from_eop, from_reset, from_flow, from_channel, from_multi}

@@ -5,9 +5,9 @@ use Rattle.lk_base.specs.declared.word.RxWord.{RxWord}
 use Rattle.words_files.specs.WordsOfFile.{words_of_file}
 use Rattle.words_files.specs.declared.error.WordsError.{WordsError}
 use Rattle.words_files.specs.declared.text_error.TextError.{TextError}
-use Rattle.word_text.specs.declared.word.FileWord.{FileWord}
+use Rattle.words_files.specs.declared.file_word.FileWord.{FileWord}
 use Rattle.word_text.specs.Lines.{ended}
-use Rattle.word_text.specs.WordLines.{nine_bytes}
+use Rattle.words_files.specs.FileWord.{nine_bytes}
 use Rattle.word_text.specs.Listings.{words_head, lane_head, IsWordsListing, IsLaneListing, IsListing}
 use Rattle.word_text.specs.Answers.{ListsWords, AnswersWords, ListsLane, Assembles}
 use Rattle.word_text.proofs.Growing.{ReadSoFar, read-none, read-more, read-all}

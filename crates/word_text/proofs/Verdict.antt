@@ -9,9 +9,10 @@ use Rattle.lane_model.specs.LaneBits.{bits_of_codes}
 use Rattle.lane_model.proofs.FilesHold.{files_determined, length-flat_map_bits}
 use Rattle.words_files.specs.declared.text_error.TextError.{TextError}
 use Rattle.words_files.specs.declared.text_error.TextError.TheVariants.{Head, Line, Length}
-use Rattle.word_text.specs.declared.word.FileWord.{FileWord}
+use Rattle.words_files.specs.declared.file_word.FileWord.{FileWord}
 use Rattle.word_text.specs.Lines.{ended, text_of, AreLinesOf}
-use Rattle.word_text.specs.WordLines.{nine_bytes, IsWordLine, IsSized}
+use Rattle.words_files.specs.FileWord.{nine_bytes}
+use Rattle.word_text.specs.WordLines.{IsWordLine, IsSized}
 use Rattle.word_text.specs.CodeLines.{IsCodeLine, rest_line, rest_lines}
 use Rattle.word_text.specs.Listings.{words_head, lane_head, IsListing}
 use Rattle.word_text.specs.Refusals.{HasNoHead, IsWordLineOfAny, IsCodeLineOfAny, IsRestLine, IsRefusedFor}

@@ -10,8 +10,8 @@ use Rattle.control_words.specs.declared.fields.Eop.TheVariants.{Going, End, Erro
 use Rattle.control_words.specs.declared.fields.Control.{Control}
 use Rattle.control_words.specs.ControlWord.{IsWordOf, end_of, end_of_format, eop_format}
 use Rattle.lk_base.specs.Checksum.{digit}
-use Rattle.word_text.specs.declared.word.FileWord.{FileWord}
-use Rattle.word_text.specs.declared.word.FileWord.TheVariants as file
+use Rattle.words_files.specs.declared.file_word.FileWord.{FileWord}
+use Rattle.words_files.specs.declared.file_word.FileWord.TheVariants as file
 use Rattle.lk_base.specs.Hex.{hex}
 use Rattle.lk_base.proofs.Bits.{digit_small}
 use Rattle.control_words.proofs.SameControl.{highest}

@@ -5,7 +5,7 @@ use Rattle.std.proofs.lemmas.List.Elements.{All-nil, All-cons}
 use Rattle.lk_base.specs.Checksum.{bits_of}
 use Rattle.lane_model.specs.LaneBits.{bits_of_codes}
 use Rattle.words_files.specs.declared.text_error.TextError.TheVariants.{Head, Line, Length}
-use Rattle.word_text.specs.declared.word.FileWord.TheVariants as file
+use Rattle.words_files.specs.declared.file_word.FileWord.TheVariants as file
 use Rattle.lk_base.specs.Hex.{hex}
 use Rattle.word_text.specs.Lines.{ended}
 use Rattle.word_text.specs.WordLines.{IsSized, IsWordLine}

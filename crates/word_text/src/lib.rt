@@ -13,7 +13,6 @@ mod piece;
 mod rest;
 mod text_of_lane;
 mod text_of_words;
-mod word;
 mod word_of_line;
 mod words_of_text;
 

@@ -5,9 +5,9 @@ ghost use Rattle.lk_base.specs.Hex.{hex};
 ghost use Rattle.word_text.specs.WordLines.{kind_text, end_text, control_text, IsWordLine, IsControlLine};
 
 use crate::digits::{put, put_bit, put_decimal, put_digits};
-use crate::word::FileWord;
 use control_words::{Control, ControlWord, Eop};
 use lk_base::OutOfMemory;
+use words_files::FileWord;
 
 // The name of a control word.
 fn kind_text(burst: bool) -> &'static [u8]

@@ -1,51 +1,16 @@
-ghost use Rattle.std.specs.Prelude.{false, Err, OnOk, IfErr, ◌≡◌, ◌<◌, ◌≤◌, ◌++◌, ℕ, List, Some, length, take, IfOk, OnErr, MatchResult};
-ghost use Rattle.words_files.specs.WordsOfFile.{first_refusal, has_wrong_tag, words_of_file};
+ghost use Rattle.std.specs.Prelude.{Err, OnOk, ◌≡◌, ◌++◌, ℕ, List, IfOk, OnErr, MatchResult};
+ghost use Rattle.words_files.specs.WordsOfFile.{words_of_file};
 ghost use Rattle.word_text.specs.Bytes.{IsKept};
 ghost use Rattle.word_text.specs.Answers.{ListsWords, AnswersWords};
-ghost use Rattle.word_text.specs.WordLines.{nine_bytes, IsSized, IsWordLine};
+ghost use Rattle.word_text.specs.WordLines.{IsWordLine};
 ghost use Rattle.word_text.specs.Lines.{ended};
 
 use crate::cut::after;
 use crate::digits::{put, put_byte};
 use crate::line_of_word::word_line;
-use crate::word::FileWord;
-use byteorder::{BigEndian, ByteOrder};
 use lk_base::OutOfMemory;
 use std::alloc::Global;
-use words_files::{BAD_TAG, CONTROL_TAG, DATA_TAG, WORD_BYTES, WordsError};
-
-// The word in nine bytes whose first is 1, 2 or 3.
-fn word_in(bytes: &[u8]) -> FileWord
-    requires whole { 9 ≤ length bytes.now }
-    requires tag { has_wrong_tag (take 9 bytes.now) ≡ false }
-    ensures sized { IsSized result }
-    ensures bytes { take 9 bytes.now ≡ nine_bytes result }
-{
-    let number = BigEndian::read_u64(&bytes[1..]);
-    let tag = bytes[0];
-    if tag == DATA_TAG {
-        FileWord::Data(number)
-    } else if tag == CONTROL_TAG {
-        FileWord::Control(number)
-    } else {
-        FileWord::Bad(number)
-    }
-}
-
-// The first word of these bytes, which stand at an offset, or its refusal.
-fn first_word(offset: u64, bytes: &[u8]) -> Result<FileWord, WordsError>
-    requires { 0 < length bytes.now }
-    ensures word { IfOk result (λ word. IsSized word × (9 ≤ length bytes.now) × (take 9 bytes.now ≡ nine_bytes word)) }
-    ensures refusal { IfErr result (λ e. first_refusal offset (take 9 bytes.now) ≡ Some e) }
-{
-    if !matches!(bytes[0], DATA_TAG | CONTROL_TAG | BAD_TAG) {
-        return Err(WordsError::Tag(offset));
-    }
-    if bytes.len() < WORD_BYTES {
-        return Err(WordsError::Short(offset));
-    }
-    Ok(word_in(bytes))
-}
+use words_files::{FileWord, Tags, WORD_BYTES, WordsError, read_word};
 
 // Appends the line of a word, ended, to a text. It is spelled in the buffer.
 fn put_word(line: &mut Vec<u8>, text: &mut Vec<u8>, word: FileWord) -> Result<(), OutOfMemory>
@@ -74,7 +39,7 @@ fn put_words_text(
     let mut rest = bytes;
     let mut offset = 0u64;
     while !rest.is_empty() {
-        let word = match first_word(offset, rest) {
+        let word = match read_word(Tags::Received, offset, rest) {
             Ok(word) => word,
             Err(refusal) => return Ok(Err(refusal)),
         };

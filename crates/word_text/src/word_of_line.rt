@@ -1,16 +1,16 @@
 ghost use Rattle.std.specs.Prelude.{◌≡◌, ◌<◌, ℕ, IfOk, MatchOption};
 ghost use Rattle.control_words.specs.declared.fields.Control.{Control};
 ghost use Rattle.control_words.specs.ControlWord.{IsWordOf};
-ghost use Rattle.word_text.specs.declared.word.FileWord.{FileWord};
+ghost use Rattle.words_files.specs.declared.file_word.FileWord.{FileWord};
 ghost use Rattle.word_text.specs.Read.{byte_at, end_at};
 ghost use Rattle.word_text.specs.WordLines.{IsWordLine, IsSized, control_text};
 
 use crate::cut::{after_equals, after_start, byte_at};
 use crate::digits::number_of;
 use crate::line_of_word::word_line;
-use crate::word::FileWord;
 use control_words::{Control, Eop, to_word};
 use lk_base::OutOfMemory;
+use words_files::FileWord;
 
 // How the data before a control word end, from the text where that is written.
 fn end_of(text: &[u8]) -> Eop

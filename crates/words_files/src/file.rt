@@ -1,62 +1,33 @@
 //! An accepted words file, whose words are read from its bytes one by one.
-ghost use Rattle.std.specs.Prelude.{◌≡◌, ◌≤◌, ◌+◌, ◌*◌, MatchResult, Ok, Err, length, take, drop, slice_get};
-ghost use Rattle.std.specs.Result.{result_err};
+ghost use Rattle.std.specs.Prelude.{◌≡◌, MatchResult, Ok, Err, length, slice_get};
 ghost use Rattle.words_files.specs.WordsOfFile.{words_of_file};
 
 use crate::error::WordsError;
-use crate::format::WORD_BYTES;
-use crate::reader::{first_refusal, word_in};
+use crate::file_words::FileWords;
 use crate::tags::Tags;
-use lk_base::{RxWord, tail};
+use lk_base::RxWord;
 use std::marker::Model;
 
-// The refusal of a file, if it is refused.
-fn refusal_of(bytes: &[u8]) -> Option<WordsError>
-    ensures { result ≡ result_err (words_of_file bytes.now) }
-{
-    let mut rest = bytes;
-    let mut offset = 0;
-    while !rest.is_empty() {
-        if let Some(refusal) = first_refusal(Tags::Received, offset, rest) {
-            return Some(refusal);
-        }
-        rest = tail(rest, WORD_BYTES);
-        offset += WORD_BYTES as u64;
-    }
-    None
-}
-
-// The bytes of the word of this number.
-fn bytes_of_word(bytes: &[u8], index: usize) -> &[u8]
-    requires { 9 * index + 9 ≤ length bytes.now }
-    ensures { result.now ≡ take 9 (drop (9 * index) bytes.now) }
-{
-    let at = WORD_BYTES * index;
-    &bytes[at..at + WORD_BYTES]
-}
-
-/// An accepted words file. Contracts see its words; each is read from the bytes of the file where it is asked for.
+/// An accepted words file. Contracts see its words; each is read from the bytes of the file when it is requested.
 #[derive(Drop)]
 pub struct WordsFile {
-    bytes: Vec<u8>,
-    // How many words there are.
-    count: usize,
+    words: FileWords,
 }
 
 impl Model for WordsFile {
-    ghost use Rattle.std.specs.Prelude.{◌≡◌, List, Ok, length, map};
+    ghost use Rattle.std.specs.Prelude.{List, map};
     ghost use Rattle.lk_base.specs.declared.word.RxWord.{RxWord};
-    ghost use Rattle.words_files.specs.WordsOfFile.{cut_file, word_in, words_of_file};
+    ghost use Rattle.words_files.specs.FileWord.{received_of};
 
     ghost Value = { List RxWord };
 
-    ghost view = { λ f. map word_in (cut_file f.bytes.items) };
-
-    ghost invariant = { λ f. (words_of_file f.bytes.items ≡ Ok (map word_in (cut_file f.bytes.items))) × (f.count ≡ length (map word_in (cut_file f.bytes.items))) };
+    ghost view = { λ f. map received_of f.words };
 }
 
 impl WordsFile {
-    /// The words file of these bytes, nine for each word, as `read_words` reads them.
+    /// The words file of these bytes, nine for each word: 1 if it is data, 2 if it is control and 3 if it is bad, and then its
+    /// number, the highest byte first. The number of a bad word is ignored. The file is refused for the least offset at which
+    /// something is wrong: a byte that should be 1, 2 or 3 and is not, or otherwise a last word that is not whole.
     ///
     /// # Errors
     ///
@@ -66,12 +37,9 @@ impl WordsFile {
             (λ words. words_of_file bytes.items ≡ Ok words)
             (λ refusal. words_of_file bytes.items ≡ Err refusal) }
     {
-        match refusal_of(&bytes) {
-            Some(refusal) => Err(refusal),
-            None => {
-                let count = bytes.len() / WORD_BYTES;
-                Ok(WordsFile { bytes, count })
-            }
+        match FileWords::new(Tags::Received, bytes) {
+            Ok(words) => Ok(WordsFile { words }),
+            Err(refusal) => Err(refusal),
         }
     }
 
@@ -79,17 +47,16 @@ impl WordsFile {
     pub fn len(&self) -> usize
         ensures { result ≡ length self.now }
     {
-        self.count
+        self.words.len()
     }
 
     /// The word of this number, from 0; none exactly after the last.
     pub fn get(&self, index: usize) -> Option<RxWord>
         ensures { result ≡ slice_get self.now index }
     {
-        if index < self.count {
-            Some(word_in(bytes_of_word(&self.bytes, index)))
-        } else {
-            None
+        match self.words.get(index) {
+            Some(word) => Some(RxWord::from(word)),
+            None => None,
         }
     }
 }

@@ -1,6 +1,6 @@
 -- A receiver in a box.
 use Rattle.std.proofs.Common.{sym, subst}
-use Rattle.c_receiver.specs.Opens.{IsOfPlan}
+use Rattle.live_receiver.specs.Opens.{IsOfPlan}
 use Rattle.c_receiver.proofs.calls.boxed.Goals as goal
 
 pub returns-clause-made : goal.returns-clause-made

@@ -1,6 +1,6 @@
 -- Some of the bytes that bits complete are taken.
 use Rattle.std.proofs.Common.{Ok, arith, inr, refl}
-use Rattle.c_receiver.specs.Calls.{IsFeed}
+use Rattle.live_receiver.specs.Calls.{IsFeed}
 use Rattle.c_bits.proofs.Feeding.{are_fed}
 use Rattle.c_receiver.proofs.calls.feed_completed.Goals as goal
 

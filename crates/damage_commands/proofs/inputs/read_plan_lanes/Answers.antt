@@ -6,7 +6,8 @@ use Rattle.std.proofs.lemmas.Result.{err_from_is_err_and}
 use Rattle.link_plan.specs.Views.{plan_value}
 use Rattle.run_stops.specs.Reading.{Reads, vec_items}
 use Rattle.run_shell.specs.Names.{lane_name, lane_names}
-use Rattle.damage_commands.specs.PlanLanes.{lanes_in, names_of_lanes}
+use Rattle.lane_receipts.specs.LaneReports.{names_of_lanes}
+use Rattle.damage_commands.specs.PlanLanes.{lanes_in}
 use Rattle.damage_commands.proofs.Damages.{out_of_memory}
 use Rattle.damage_commands.proofs.inputs.read_plan_lanes.Goals as goal
 

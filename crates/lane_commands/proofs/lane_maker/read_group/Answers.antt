@@ -1,7 +1,6 @@
-use Rattle.std.proofs.Common.{◌<◌, ◌∙◌, length, ap, arith}
+use Rattle.std.proofs.Common.{◌+◌, ◌<◌, ◌∙◌, length, slice_get, ap, arith}
 use Rattle.std.proofs.lemmas.List.{length-set}
 use Rattle.std.specs.Option.{unwrap_or}
-use Rattle.lane_commands.specs.Stripe.{filler}
 use Rattle.lane_commands.proofs.LaneMaking.{group_read, place_read}
 use Rattle.lane_commands.proofs.lane_maker.read_group.Goals as goal
 
@@ -12,7 +11,7 @@ loop-place-preserved c =
     let i = c.loop-place.invariant in
     let low : k < length c.args.group.now = omega (arith, c.loop-place-test.true, i.0) in (
       length-set block k c.unwrap_or.result ∙ i.0,
-      place_read c.args.words.now block c.args.first k (length c.args.group.now) c.unwrap_or.result c.requires.there i.0 low i.1 (c.unwrap_or.ensures ∙ ap (λ o. unwrap_or o filler) c.get.ensures),
+      place_read c.args.words.now block c.args.first k (length c.args.group.now) c.unwrap_or.result c.requires.there i.0 low i.1 (c.unwrap_or.ensures ∙ ap (λ o. unwrap_or o c.filler-idle.result) c.get.ensures ∙ ap (λ w. unwrap_or (slice_get c.args.words.now (c.args.first + k)) w) c.filler-idle.ensures),
     )
 
 pub returns : goal.returns

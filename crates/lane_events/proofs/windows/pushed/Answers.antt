@@ -7,4 +7,4 @@ pub returns : goal.returns
 returns c =
     let most = c.requires.most in
     let e : c.args.count % 64 ≡ c.args.count = omega (arith, most) in
-    ap (λ (n : ℕ). bit_or (c.args.window * 2 ^ n % 2 ^ 128) c.args.bits) e ∙ pushed_is c.args.window c.args.bits c.args.count most c.requires.bits
+    ap (λ (n : ℕ). bit_or (c.args.window * 2 ^ n % 2 ^ 128) c.args.bits) e ∙ pushed_is c.args.window c.args.bits c.args.count (omega (arith, most)) c.requires.bits

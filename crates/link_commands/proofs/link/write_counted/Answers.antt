@@ -4,7 +4,6 @@ use Rattle.lk_base.specs.declared.word.Word.{Word}
 use Rattle.tx_end.proofs.Shapes.{whole_groups}
 use Rattle.run_stops.specs.declared.stop.Stop.TheVariants as stop
 use Rattle.run_shell.proofs.Writing.{none_writes}
-use Rattle.link_replay.specs.Counts.{counts_value}
 use Rattle.std.proofs.lemmas.Result.{err_from_is_err_and}
 use Rattle.link_plan.specs.Views.{plan_value}
 use Rattle.lane_receipts.specs.Held.{HeldStopped, held_beginning, vec_bytes}
@@ -67,5 +66,5 @@ returns-clause-writes g c inputs is =
     (let made = c.in_ok-counter.ensures in
     let lanes = map vec_bytes c.deref.result.now in
     let all = c.in_ok-received.ensures.observes made.counts (made.counted lanes) in
-    counted_here i carried _ c.deref.result.now c.as_slice.result.now c.args.words.now (counts_value c.counts-counts.result) c.deref.ensures.value c.requires.words (c.receive_held.ensures.fixed ∙ made.given) c.as_slice.ensures.value
+    counted_here i carried _ c.deref.result.now c.as_slice.result.now c.args.words.now c.counts-counts.result c.deref.ensures.value c.requires.words (c.receive_held.ensures.fixed ∙ made.given) c.as_slice.ensures.value
     (c.counts-counts.ensures all.0 c.args.run.now.plan.now.link lanes all.1))

@@ -1,7 +1,6 @@
 use Rattle.std.proofs.Common.{◌≡◌, ◌∙◌, ◌≤◌, refl, subst, ap, arith, length, Bool, Err, map}
 use Rattle.std.specs.Prelude.{is_some}
-use Rattle.link_replay.specs.Counts.{counts_value}
-use Rattle.link_commands.proofs.FewSent.{carried_low}
+use Rattle.link_commands.proofs.LowSlots.{carried_low}
 use Rattle.std.proofs.lemmas.Result.{err_from_is_err_and}
 use Rattle.link_plan.specs.Views.{plan_value}
 use Rattle.run_stops.specs.declared.stop.Stop.TheVariants as stop
@@ -13,9 +12,6 @@ use Rattle.receipts.proofs.Settings.{is_the_setting, the_setting}
 use Rattle.link_commands.specs.Values.{planned_value}
 use Rattle.link_commands.proofs.Writing.{text_of, writes_link}
 use Rattle.link_commands.proofs.link.write_received.Goals as goal
-
-pub link_text-requires-clause-few : goal.link_text-requires-clause-few
-link_text-requires-clause-few g c = c.requires.few
 
 pub link_text-requires-clause-low : goal.link_text-requires-clause-low
 link_text-requires-clause-low g c =
@@ -43,7 +39,7 @@ returns-in_err-text-clause-writes g c inputs was is counted =
     let value = plan_value c.args.run.now.plan.now in
     let i = planned_value c.args.run.now.plan.now inputs c.args.run.now.schedule.now in
     let carried = c.args.run.now.carried.now in
-    let counts = counts_value c.args.counts.now in
+    let counts = c.args.counts.now in
     let came = is.came (the_setting value) (is_the_setting value) in
     let r = c.from_residual in
     let p = err_from_is_err_and r.result r.ensures.1 in
@@ -55,7 +51,7 @@ returns-clause-writes g c inputs was is counted =
     let value = plan_value c.args.run.now.plan.now in
     let i = planned_value c.args.run.now.plan.now inputs c.args.run.now.schedule.now in
     let carried = c.args.run.now.carried.now in
-    let counts = counts_value c.args.counts.now in
+    let counts = c.args.counts.now in
     let b = held_beginning value (the_setting value) (map vec_bytes carried.lanes.items) was in
     let came = is.came (the_setting value) (is_the_setting value) in
     writes_link i carried is.carried was (the_setting value) (is_the_setting value) c.args.received.receipt c.args.received.lines.items _ came counts (counted is.carried) c.close.result _ c.in_ok-text.text.items

@@ -14,7 +14,7 @@ loop-slot-preserved c =
     let n = c.loop-slot.slot in
     let most : c.min-slot-end.result ≡ min c.args.next (length ws) = c.min-slot-end.ensures ∙ ap (min c.args.next) c.len.ensures.value in
     let lt = c.loop-slot-test.true in
-    let number : c.number_of.result ≡ payload (word_at ws n) = c.number_of.ensures ∙ ap payload c.get.ensures in
+    let number : c.number.result ≡ payload (word_at ws n) = c.number.ensures ∙ ap payload c.get.ensures in
     ap (with_all_data (map payload (drop (n + 1) (take c.args.next ws)))) (c.data.ensures ∙ ap (λ (x : ℕ). with_data x c.loop-slot.checked) number)
     ∙ sym (ap (λ (xs : List ℕ). with_all_data xs c.loop-slot.checked) (left-on ws n c.args.next (omega (arith, lt, most))))
     ∙ c.loop-slot.invariant

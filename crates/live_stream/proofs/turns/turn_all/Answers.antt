@@ -1,6 +1,7 @@
 use Rattle.std.proofs.Common.{◌<◌, ◌≤◌, ◌+◌, length, drop, get_or, false, sym, ap, subst, arith}
 use Rattle.std.proofs.lemmas.List.{drop_all}
-use Rattle.burst_scheduler.proofs.Telling.{drop_pair}
+use Rattle.calendar.specs.Changes.{change}
+use Rattle.burst_scheduler.proofs.Telling.{drop_change}
 use Rattle.live_stream.specs.Waiting.{channels_of}
 use Rattle.live_stream.proofs.Telling.{HasTold, told_begun, told_next, told_end}
 use Rattle.live_stream.proofs.turns.turn_all.Goals as goal
@@ -16,7 +17,9 @@ loop-i-preserved c = record {
   told = λ channels told w es h is later.
       let t = c.loop-i.invariant.told channels told w es h is later in
       let below : c.loop-i.i < length c.args.changed.now.items = omega arith in
-      let next = drop_pair c.args.changed.now.items c.loop-i.i (0, false) (get_or c.deref.result.now c.loop-i.i (0, false)).0 (get_or c.deref.result.now c.loop-i.i (0, false)).1 below (sym (ap (λ xs. get_or xs c.loop-i.i (0, false)) c.deref.ensures.0)) in
+      let none = change 0 false in
+      let here = get_or c.deref.result.now c.loop-i.i none in
+      let next = drop_change c.args.changed.now.items c.loop-i.i none here.channel here.on below (sym (ap (λ xs. get_or xs c.loop-i.i none) c.deref.ensures.0)) in
       told_next channels (channels_of c.loop-i.turns.items) (channels_of c.turn.new.turns.items) told w es _ _ (drop (c.loop-i.i + 1) c.args.changed.now.items) (subst (HasTold channels (channels_of c.loop-i.turns.items) told w es) next t)
       (λ before e l at on come. c.turn.ensures.turns channels before w e l at on come);
   left = λ sizes source w h. c.turn.ensures.left sizes source w (c.loop-i.invariant.left sizes source w h);

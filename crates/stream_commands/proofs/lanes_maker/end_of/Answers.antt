@@ -1,6 +1,6 @@
 use Rattle.std.proofs.Common.{ap, ◌++◌, ◌∙◌, List}
 use Rattle.std.proofs.lemmas.Result.{IfOk-weaker}
-use Rattle.tx_words.specs.declared.counts.SentCount.{SentCount}
+use Rattle.report_model.specs.declared.counts.SentCount.{SentCount}
 use Rattle.tx_end.specs.Sending.{sending}
 use Rattle.stream_commands.specs.Text.{counted_lines, held_text}
 use Rattle.stream_commands.proofs.Counted.{end_by}

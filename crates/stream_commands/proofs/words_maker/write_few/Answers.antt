@@ -5,6 +5,7 @@ use Rattle.lk_base.specs.declared.word.Word.TheVariants.{Data}
 use Rattle.stream_model.specs.BurstStream.{Source}
 use Rattle.tx_words.specs.Streaming.{Streams, last_streamed}
 use Rattle.tx_words.specs.declared.stream_words.StreamWords.{StreamWords}
+use Rattle.words_files.specs.FileWord.{nine_bytes}
 use Rattle.words_files.specs.WordsFile.{word_bytes, words_file}
 use Rattle.stream_commands.proofs.WordsSent.{no_data}
 use Rattle.stream_commands.proofs.words_maker.write_few.Goals as goal
@@ -40,7 +41,7 @@ returns-in-Some-clause-file c source made k =
     record {
       more = word ∷ [];
       streams = c.next.ensures.some source made word here c.in-Some.is;
-      file = c.write_word.ensures.put ∙ sym (append-nil (word_bytes word));
+      file = c.write_word.ensures.put ∙ ap nine_bytes c.from.ensures ∙ sym (append-nil (word_bytes word));
     }
 
 pub returns-in-None-clause-file : goal.returns-in-None-clause-file

@@ -1,7 +1,8 @@
 use Rattle.std.proofs.Common.{rules, ◌≡◌, ◌+◌, ◌<◌, ℕ, List, [], ◌∷◌, ◌++◌, length, drop, take, refl, sym, ap, ◌∙◌, arith, subst, length-drop}
-use Rattle.word_text.specs.declared.word.FileWord.{FileWord}
+use Rattle.words_files.specs.declared.file_word.FileWord.{FileWord}
 use Rattle.word_text.specs.Lines.{ended}
-use Rattle.word_text.specs.WordLines.{IsWordLine, IsSized, nine_bytes}
+use Rattle.words_files.specs.FileWord.{nine_bytes}
+use Rattle.word_text.specs.WordLines.{IsWordLine, IsSized}
 use Rattle.word_text.specs.Answers.{ListsWords}
 use Rattle.word_text.proofs.Kept.{kept-put, kept-by}
 use Rattle.word_text.proofs.Growing.{WordsBehind, ReadSoFar, no-words, one-word-behind, all-listed, read-none, read-more, read-refused, read-all, first-nine}
@@ -28,7 +29,7 @@ loop-rest-init c = record {
 pub returns-in-Err-clause-answer : goal.returns-in-Err-clause-answer
 returns-in-Err-clause-answer c =
     let some : 0 < length c.loop-rest.rest.now = search rules in
-    read-refused c.args.bytes.now c.loop-rest.rest.now c.loop-rest.offset c.in-Err.refusal some (c.in-Err.ensures {u = tt}).refusal c.loop-rest.invariant.read
+    read-refused c.args.bytes.now c.loop-rest.rest.now c.loop-rest.offset c.in-Err.refusal some (sym c.in-Err.ensures.refusal) c.loop-rest.invariant.read
 
 pub returns-in-Err-clause-kept : goal.returns-in-Err-clause-kept
 returns-in-Err-clause-kept c = kept-put c.args.out.now.items c.loop-rest.invariant.listed.text c.loop-rest.out.items c.loop-rest.invariant.listed.put
@@ -39,7 +40,9 @@ returns-in_err-put_word-clause-kept c = kept-by c.args.out.now.items c.loop-rest
 pub loop-rest-preserved : goal.loop-rest-preserved
 loop-rest-preserved c =
     let some : 0 < length c.loop-rest.rest.now = search rules in
-    let (sized, enough, nine) = (c.in-Ok.ensures {u = tt}).word in
+    let sized = c.in-Ok.ensures.sized in
+    let nine = c.in-Ok.ensures.bytes in
+    let enough = c.in-Ok.ensures.whole in
     let fewer = ap length c.after-rest.ensures ∙ length-drop 9 c.loop-rest.rest.now in
     record {
       listed = more c.args.out.now.items c.loop-rest.out.items c.put_word.new.text.items c.args.bytes.now c.loop-rest.rest.now c.after-rest.result.now c.loop-rest.count c.in-Ok.word sized nine c.after-rest.ensures (c.in_ok-put_word.ensures {u = tt}).ok c.loop-rest.invariant.listed;

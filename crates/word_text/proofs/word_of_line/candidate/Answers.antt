@@ -1,5 +1,5 @@
 use Rattle.std.proofs.Common.{ap, ◌∙◌}
-use Rattle.word_text.specs.declared.word.FileWord.TheVariants as file
+use Rattle.words_files.specs.declared.file_word.FileWord.TheVariants as file
 use Rattle.word_text.proofs.Words.{data-after, control-after, bad-after, fields-after}
 use Rattle.word_text.proofs.word_of_line.candidate.Goals as goal
 

@@ -1,11 +1,12 @@
 use Rattle.std.proofs.Common.{rules, inl, ◌≡◌, ◌+◌, ◌-◌, ◌<◌, ◌≤◌, ℕ, List, [], ◌∷◌, ◌++◌, length, Option, Some, None, Ok, MatchOption, ap, ◌∙◌, arith, subst, length-append}
-use Rattle.word_text.specs.declared.word.FileWord.{FileWord}
+use Rattle.words_files.specs.declared.file_word.FileWord.{FileWord}
 use Rattle.word_text.specs.Lines.{ended}
-use Rattle.word_text.specs.WordLines.{IsWordLine, IsSized, nine_bytes}
+use Rattle.words_files.specs.FileWord.{nine_bytes}
+use Rattle.word_text.specs.WordLines.{IsWordLine, IsSized}
 use Rattle.word_text.specs.Listings.{words_head}
 use Rattle.word_text.specs.Refusals.{IsFirstWrongWord, IsWordLineOfAny}
 use Rattle.word_text.specs.Bytes.{PutsBytes}
-use Rattle.word_text.proofs.Kept.{kept-put, kept-then}
+use Rattle.word_text.proofs.Kept.{kept-by, kept-put}
 use Rattle.word_text.proofs.Growing.{BytesBehind, no-bytes, one-line-behind, all-words, wrong-word, no-end, no-word}
 use Rattle.word_text.proofs.words_of_text.put_words.Goals as goal
 
@@ -54,8 +55,8 @@ returns-in_default-2-clause-answer c =
 pub returns-in_default-2-clause-kept : goal.returns-in_default-2-clause-kept
 returns-in_default-2-clause-kept c = kept-put c.args.out.now.items c.loop-rest.invariant.so_far.bytes c.loop-rest.out.items c.loop-rest.invariant.so_far.put
 
-pub returns-in_err-put_nine-clause-kept : goal.returns-in_err-put_nine-clause-kept
-returns-in_err-put_nine-clause-kept c = kept-then c.args.out.now.items c.loop-rest.invariant.so_far.bytes c.loop-rest.out.items c.put_nine.new.bytes.items c.loop-rest.invariant.so_far.put c.put_nine.ensures.kept
+pub returns-in_err-append_word-clause-kept : goal.returns-in_err-append_word-clause-kept
+returns-in_err-append_word-clause-kept c = kept-by c.args.out.now.items c.loop-rest.invariant.so_far.bytes c.loop-rest.out.items c.append_word.new.file.items c.loop-rest.invariant.so_far.put (c.in_err-append_word.ensures {u = tt}).err
 
 pub loop-rest-preserved : goal.loop-rest-preserved
 loop-rest-preserved c =
@@ -63,7 +64,7 @@ loop-rest-preserved c =
     let size = ap length cut ∙ length-append (ended c.in-Some.line.now) c.in-Some.more.now in
     let line = length-append c.in-Some.line.now (10 ∷ []) in
     record {
-      so_far = more (ended words_head ++ c.args.lines.now) c.args.out.now.items c.loop-rest.out.items c.put_nine.new.bytes.items c.loop-rest.rest.now c.in-Some.more.now c.in-Some.line.now c.loop-rest.number c.in-Some-2.word c.loop-rest.invariant.first (one c.in_ok-word.field-0 c.in-Some-2.word c.in-Some.line.now c.in-Some-2.is (c.in_ok-word.ensures {u = tt})) cut (c.in_ok-put_nine.ensures {u = tt}).ok c.loop-rest.invariant.so_far;
+      so_far = more (ended words_head ++ c.args.lines.now) c.args.out.now.items c.loop-rest.out.items c.append_word.new.file.items c.loop-rest.rest.now c.in-Some.more.now c.in-Some.line.now c.loop-rest.number c.in-Some-2.word c.loop-rest.invariant.first (one c.in_ok-word.field-0 c.in-Some-2.word c.in-Some.line.now c.in-Some-2.is (c.in_ok-word.ensures {u = tt})) cut (c.in_ok-append_word.ensures {u = tt}).items c.loop-rest.invariant.so_far;
       first = omega (arith, c.loop-rest.invariant.first);
       few = omega (arith, c.loop-rest.invariant.few, size, line);
     }

@@ -1,5 +1,4 @@
-use Rattle.words_files.proofs.Again.{written-again, accepted-whole}
-use Rattle.words_files.proofs.SentAgain.{sent_again}
+use Rattle.words_files.proofs.Again.{accepted-whole, sent_again, written-again}
 use Rattle.words_files.proofs.laws.written_is_read.Goals as goal
 
 pub returns-clause-read : goal.returns-clause-read

@@ -3,16 +3,16 @@ use Rattle.std.proofs.Common.{◌≡◌, ◌∙◌, ◌+◌, ◌-◌, ◌++◌, 
 use Rattle.std.specs.Int.{bytes_high_first}
 use Rattle.std.proofs.lemmas.List.{length-set, take_more_set}
 use Rattle.std.proofs.lemmas.Slice.{take-put_mid}
-use Rattle.lk_base.specs.Words.{payload}
+use Rattle.words_files.specs.FileWord.{file_number}
 use Rattle.words_files.proofs.writer.write_word.Goals as goal
 
 pub returns-clause-put : goal.returns-clause-put
 returns-clause-put c =
     let at = c.args.at in
     let bytes = c.args.bytes.now in
-    let tag = c.tag_of.result in
+    let tag = c.tag.result in
     let number = c.write_u64.new.buf in
-    let same : number ≡ bytes_high_first 8 (payload c.args.word) = search rules in
+    let same : number ≡ bytes_high_first 8 (file_number c.args.word) = search rules in
     let eight : length number ≡ 8 = ap length same in
     let long : length (set bytes at tag) ≡ length bytes = length-set bytes at tag in
     let fits = c.requires in
@@ -20,4 +20,4 @@ returns-clause-put c =
     ∙ ap (λ (bs : List ℕ). bs ++ number) (take_more_set bytes at tag (omega (arith, fits)))
     ∙ append_assoc (take at bytes) (tag ∷ []) number
     ∙ ap (λ (bs : List ℕ). take at bytes ++ tag ∷ bs) same
-    ∙ ap (λ (t : ℕ). take at bytes ++ t ∷ bytes_high_first 8 (payload c.args.word)) c.tag_of.ensures
+    ∙ ap (λ (t : ℕ). take at bytes ++ t ∷ bytes_high_first 8 (file_number c.args.word)) c.tag.ensures

@@ -15,7 +15,7 @@ returns-then-count-eq0-clause-least c a more g may = gives_the_least a (gives_pr
 
 pub returns-then-count-eq0-clause-whole : goal.returns-then-count-eq0-clause-whole
 returns-then-count-eq0-clause-whole c a g room =
-    let w = g.runs.words.given.0 in
+    let w = g.runs.words.burst.given.0 in
     let none = c.if-count-eq0.true in
     let least = c.min-count.ensures in
     whole_bursts c.args.self.now a [] 0 g.runs.words (omega (arith, w, none, least, room)) refl
@@ -23,8 +23,8 @@ returns-then-count-eq0-clause-whole c a g room =
 pub returns-then-count-eq0-clause-lent : goal.returns-then-count-eq0-clause-lent
 returns-then-count-eq0-clause-lent c =
     let (a, g, few) = c.requires.gives in
-    let w = g.runs.words.given in
-    let long = g.runs.words.long in
+    let w = g.runs.words.burst.given in
+    let long = g.runs.words.burst.long in
     (omega arith, omega (arith, w.0, w.1, long))
 
 module _ (c : goal.After-pass) where
@@ -37,11 +37,11 @@ module _ (c : goal.After-pass) where
   some : 1 ≤ n
   some = let e = c.if-count-eq0.false in omega (arith, e)
 
-  left : (a : Asked) → Gives c.args.self.now a → c.args.self.now.given + n ≤ c.args.self.now.count
-  left a g = let w = g.runs.words.given.0 in let least = c.min-count.ensures in omega (arith, w, least)
+  left : (a : Asked) → Gives c.args.self.now a → c.args.self.now.burst.given + n ≤ c.args.self.now.burst.count
+  left a g = let w = g.runs.words.burst.given.0 in let least = c.min-count.ensures in omega (arith, w, least)
 
-  within : (a : Asked) → Gives c.args.self.now a → c.args.self.now.given + n ≤ length c.args.self.now.run.items
-  within a g = let w = g.runs.words.given.1 in let l = left a g in let long = g.runs.words.long in omega (arith, w, l, long)
+  within : (a : Asked) → Gives c.args.self.now a → c.args.self.now.burst.given + n ≤ length c.args.self.now.burst.run.items
+  within a g = let w = g.runs.words.burst.given.1 in let l = left a g in let long = g.runs.words.burst.long in omega (arith, w, l, long)
 
   is : vs ≡ map Data (next_numbers c.args.self.now n)
   is = ap (map Data) (next_is_last c.args.self.now c.pass.new.self n c.pass.ensures.rest c.pass.ensures.given)
@@ -63,7 +63,7 @@ returns-clause-below c a more g may low = (stepped_so c a more g may).1
 
 pub returns-clause-whole : goal.returns-clause-whole
 returns-clause-whole c a g room =
-    let w = g.runs.words.given.0 in
+    let w = g.runs.words.burst.given.0 in
     let least = c.min-count.ensures in
     whole_bursts c.args.self.now a (vs c) (n c) g.runs.words (omega (arith, w, least, room)) (is c)
 
@@ -72,5 +72,5 @@ returns-clause-lent c =
     let (a, g, few) = c.requires.gives in
     let w = within c a g in
     let given = c.pass.ensures.given in
-    let same = ap (λ (v : Vec ℕ Global). length v.items) c.pass.ensures.rest.words.0 in
+    let same = ap (λ (v : Vec ℕ Global). length v.items) c.pass.ensures.rest.words.run in
     (omega (arith, given), omega (arith, w, given, same))

@@ -3,8 +3,8 @@ use Rattle.std.proofs.lemmas.Result.{err_from_is_err_and}
 use Rattle.gather_commands.proofs.Stops.{grown_puts, opens_differ, two_opens, words_given, words_stopped}
 use Rattle.gather_commands.proofs.files.GatheredFiles.put_words.Goals as goal
 
-pub returns-in_err-bytes-clause-puts : goal.returns-in_err-bytes-clause-puts
-returns-in_err-bytes-clause-puts g c out before rows was h =
+pub returns-in_err-words_bytes-clause-puts : goal.returns-in_err-words_bytes-clause-puts
+returns-in_err-words_bytes-clause-puts g c out before rows was h =
     let p = err_from_is_err_and c.from_residual.result c.from_residual.ensures.1 in
     rw (p.1, p.2) (words_stopped out before c.args.words.now rows c.args.self.now was _ h)
 
@@ -31,7 +31,7 @@ put-requires-clause-open g c =
 
 pub returns-clause-puts : goal.returns-clause-puts
 returns-clause-puts g c out before rows was h =
-    let bytes = c.deref.ensures.value ∙ c.in_ok-bytes.ensures in
+    let bytes = c.deref.ensures.value ∙ c.in_ok-words_bytes.ensures in
     let added = length-append before c.args.words.now in
     let had = h.count in
     let sum = c.in_ok-self.ensures in

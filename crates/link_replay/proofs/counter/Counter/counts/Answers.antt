@@ -3,7 +3,6 @@ use Rattle.std.proofs.Common.{ℕ, List, ◌<◌, ◌^◌, ap, sym, subst, map, 
 use Rattle.event_model.specs.Fed.{whole}
 use Rattle.rx_front.specs.Standing.{locks_at}
 use Rattle.link_replay.specs.Counting.{Counter}
-use Rattle.link_replay.specs.Counts.{counts_value}
 use Rattle.link_replay.specs.Lanes.{strange_sum}
 use Rattle.link_replay.proofs.CountedAll.{counted_all}
 use Rattle.link_replay.proofs.CounterTold.{locks_apart, strange_few}
@@ -24,5 +23,5 @@ pub returns : goal.returns
 returns c = λ f s lanes all. (
     let e = c.counts.ensures in
     let v = c.self.view_is in
-    counted_all c.args.self.now f s lanes all (counts_value c.counts.result) (e.locks ∙ ap (λ (x : Counter). strange_sum x.watch.lanes) v)
+    counted_all c.args.self.now f s lanes all c.counts.result (e.locks ∙ ap (λ (x : Counter). strange_sum x.watch.lanes) v)
     (e.groups ∙ ap (λ (x : Counter). x.watch.groups) v) (e.stretches ∙ ap (λ (x : Counter). x.watch.stretches) v))

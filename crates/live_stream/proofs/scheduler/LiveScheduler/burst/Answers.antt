@@ -1,11 +1,11 @@
-use Rattle.std.proofs.Common.{◌≡◌, ◌∙◌, ◌<◌, ◌++◌, ◌∷◌, [], ℕ, List, length, take, get_or, refl, sym, ap, ap₂, subst}
+use Rattle.std.proofs.Common.{◌≤◌, ◌+◌, Vec, Global, arith, ◌≡◌, ◌∙◌, ◌<◌, ◌++◌, ◌∷◌, [], ℕ, List, length, take, get_or, refl, sym, ap, ap₂, subst}
 use Rattle.std.specs.List.{remove}
 use Rattle.std.specs.Vec.{with_items}
 use Rattle.std.proofs.lemmas.List.{get_or-set_same, get_or_default}
-use Rattle.lk_base.specs.Checksum.{control_crc}
-use Rattle.stream_model.specs.BurstStream.{Chunk, controls_in, data_since, data_words, end_format, packets_of, bursts_in}
+use Rattle.stream_model.specs.BurstStream.{Chunk, controls_in, data_words, packets_of, bursts_in}
 use Rattle.burst_scheduler.proofs.Bursting.{fit_data, same_format}
-use Rattle.burst_scheduler.proofs.ControlWords.{is_sealed}
+use Rattle.calendar.specs.Outgoing.{StandsOut}
+use Rattle.calendar.specs.declared.outgoing.CalendarOut.{CalendarOut}
 use Rattle.live_stream.specs.Gives.{source_of}
 use Rattle.live_stream.specs.Waiting.{HasLeft}
 use Rattle.live_stream.specs.declared.waiting.Waiting.{Waiting}
@@ -30,6 +30,14 @@ take-taken-requires-clause-left c =
       some_left s r.0 r.1 r.2 none c.args.at q below c.index_mut.ensures.value (r.3.first.1 q c.index_mut.ensures.value),
     )
 
+pub burst-x-requires : goal.burst-x-requires
+burst-x-requires c = let (g, w, h, time) = c.requires.words in (source_of g, w, h.burst)
+
+pub take-taken-requires-clause-room : goal.take-taken-requires-clause-room
+take-taken-requires-clause-room c =
+    let (g, w, h, time) = c.requires.words in
+    ap length c.deref_mut.ensures.value ∙ ap (λ (v : Vec ℕ Global). length v.items) c.burst-x.ensures.run ∙ h.burst.long
+
 pub returns : goal.returns
 returns c g w h time =
     let s = c.args.self.now in
@@ -47,18 +55,21 @@ returns c g w h time =
     let chunk : Chunk = taken.0 in
     let now : Waiting = c.take-taken.new.self in
     let asked : HasLeft c.index-2.result.now s.sizes packets done = subst (λ (p : Waiting). HasLeft p s.sizes packets done) (same_read turns at q c.index-2.result.now below is c.index-2.ensures) left in
-    let sop : c.is_first.result ≡ chunk.is_first = c.is_first.ensures s.sizes packets done chunk asked taken.1 in
+    let sop : c.is_first-first.result ≡ chunk.is_first = c.is_first-first.ensures s.sizes packets done chunk asked taken.1 in
     let back : c.to_back.new.turns.items ≡ remove turns at ++ now ∷ [] = c.to_back.ensures now ∙ ap₂ (λ xs x. xs ++ x ∷ []) (removed_set turns at now) (get_or-set_same turns at now now below) in
-    let run : (with_items s.run c.take-taken.new.run).items ≡ c.take-taken.new.run = refill s.run.len s.run.items c.take-taken.new.run s.run.ok.0 (c.take-taken.ensures.long ∙ ap length c.deref_mut.ensures.value) in
-    let seal = is_sealed (source_of g) w c.burst.result c.sealed-x.ensures.fields.0 c.sealed-x.result (take s.count s.run.items) _ _ _ c.burst.ensures.eop c.burst.ensures.reset c.burst.ensures.flow c.sealed-x.ensures.fields.1 (c.sealed-x.ensures.checksum ∙ ap (λ xs. control_crc (take s.count xs) c.sealed-x.result) c.deref.ensures.value) (sym (ap data_since none) ∙ h.since) (h.end ∙ ap (end_format (source_of g)) none)
-    (c.next-reset.ensures.reset g.entries g.local (controls_in w) h.outgoing)
-    (λ i l. c.next-reset.ensures.flow g.entries g.local (controls_in w) (length w) i h.outgoing h.given_by.local l) in
-    burst_step s g w h none _ c.sealed-x.result c.burst.result seal (record { settings = (refl, refl, refl, refl); incoming = refl; slot = refl; given = refl; end = (refl, refl); accepts = (refl, refl) })
-    at q time is c.burst.ensures.kind (c.burst.ensures.channel ∙ named) chunk (c.burst.ensures.sop ∙ sop) taken.1
+    let m = c.burst-x.ensures.word (source_of g) w h.burst c.requires.due.given h.given_by.local in
+    let begun = c.start.ensures.words in
+    let line = c.burst-x.new.self in
+    let own : line.run ≡ s.burst.run = c.burst-x.ensures.run in
+    let room : length c.take-taken.new.run ≡ length line.run.items = c.take-taken.ensures.long ∙ ap length c.deref_mut.ensures.value in
+    let run : (with_items line.run c.take-taken.new.run).items ≡ c.take-taken.new.run = refill line.run.len line.run.items c.take-taken.new.run line.run.ok.0 room in
+    let small : c.start.new.self.count ≤ 512 = (let n = begun.2 in let words = c.take-taken.ensures.words in omega (arith, n, words)) in
+    burst_step s g w h none _ c.burst-x.result m.fields m.sealed (record { settings = (refl, refl, refl, refl); incoming = refl; slot = refl; given = begun.3; end = (refl, refl); accepts = (refl, refl) })
+    at q time is m.burst (m.on ∙ named) chunk (m.sop ∙ sop) taken.1
     now back c.take-taken.ensures.channel (c.take-taken.ensures.next packets done left)
-    (c.next-reset.ensures.stands g.entries g.local (controls_in w) h.outgoing)
-    (ap (take c.take-taken.result.words) run ∙ taken.2) c.take-taken.ensures.words
-    (ap length run ∙ c.take-taken.ensures.long ∙ ap length c.deref_mut.ensures.value ∙ h.long)
+    (subst (λ (k : CalendarOut). StandsOut k g.entries g.local (controls_in w + 1)) (sym begun.0) m.outgoing)
+    (ap₂ (λ n (v : Vec ℕ Global). take n v.items) begun.2 begun.1 ∙ ap (take c.take-taken.result.words) run ∙ taken.2) small
+    (ap (λ (v : Vec ℕ Global). length v.items) begun.1 ∙ ap length run ∙ room ∙ ap (λ (v : Vec ℕ Global). length v.items) own ∙ h.burst.long)
     (fit_data c.take-taken.new.run (data_words chunk.bytes) c.take-taken.result.words c.take-taken.ensures.fits taken.2)
-    (c.end_of-self.ensures.format ∙ same_format c.take-taken.result.bytes c.take-taken.result.last chunk taken.3 taken.5)
+    (c.start.ensures.end ∙ same_format c.take-taken.result.bytes c.take-taken.result.last chunk taken.3 taken.5)
     refl

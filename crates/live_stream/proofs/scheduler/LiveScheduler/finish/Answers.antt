@@ -10,4 +10,4 @@ returns-then-is_some c g w h =
     subst (λ (v : Given). Gives c.args.self.now v w) (sym (closed_again c.args.self.now g w h closed.0 (sym h.closed ∙ closed.1))) h
 
 pub returns : goal.returns
-returns c g w h = close_step c.args.self.now g w h (sym h.closed ∙ not_closed c.args.self.now.closed c.is_some.result c.is_some.ensures c.if-is_some.false) _
+returns c g w h = close_step c.args.self.now g w h (sym h.closed ∙ not_closed c.args.self.now.closed c.is_some.result c.is_some.ensures c.if-is_some.false)

@@ -7,4 +7,4 @@ pub returns-clause-ok : goal.returns-clause-ok
 returns-clause-ok c g w h =
     let s = c.args.self.now in
     let still = sym h.closed ∙ not_closed s.closed c.is_some.result c.is_some.ensures c.if-is_some.false in
-    local_step s g w h still _ _ c.args.channel c.args.on (c.set.ensures g.entries g.local (controls_in w) (length w) h.words.outgoing)
+    local_step s g w h still c.local.new.self c.local.new.self.outgoing c.args.channel c.args.on c.local.ensures.line (c.local.ensures.stands g.entries g.local (controls_in w) (length w) h.words.burst.outgoing)

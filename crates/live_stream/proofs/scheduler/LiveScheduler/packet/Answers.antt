@@ -61,7 +61,7 @@ pub returns-in_err-add-clause-err : goal.returns-in_err-add-clause-err
 returns-in_err-add-clause-err c = on_err c.from_residual.result _ (λ g w h.
     let s : LiveScheduler = c.args.self.now in
     let below : c.place-at.result < length s.turns.items = omega (arith, c.if-at-len.false, c.len.ensures, s.turns.ok.0) in
-    packet_kept s g w h (with_item s.turns c.place-at.result c.add.new.self) _ c.place-at.result c.index_mut.result.now c.add.new.self refl below c.index_mut.ensures.value c.add.ensures.channel (c.in_err-add.ensures {u = tt}).err)
+    packet_kept s g w h (with_item s.turns c.place-at.result c.add.new.self) c.place-at.result c.index_mut.result.now c.add.new.self refl below c.index_mut.ensures.value c.add.ensures.channel (c.in_err-add.ensures {u = tt}).err)
 
 pub returns-in_err-add-clause-why : goal.returns-in_err-add-clause-why
 returns-in_err-add-clause-why c g w h =
@@ -78,7 +78,7 @@ returns-clause-ok c g w h =
     let below : c.place-at.result < length s.turns.items = omega (arith, c.if-at-len.false, c.len.ensures, s.turns.ok.0) in
     let known = placed s g w c.args.channel c.place-at.result c.deref.result.now h c.deref.ensures.value below c.place-at.ensures.found in
     let named = sym (channel_at s.turns.items c.place-at.result c.index_mut.result.now below c.index_mut.ensures.value) ∙ known.0 in
-    packet_step s g w h (with_item s.turns c.place-at.result c.add.new.self) _ c.place-at.result c.index_mut.result.now c.add.new.self c.args.channel c.args.bytes.now refl below c.index_mut.ensures.value c.add.ensures.channel named (c.in_ok-add.ensures {u = tt}).ok (omega (arith, c.if-bytes-eq0.false)) (omega (arith, c.if-bytes-self.false, h.longest)) (still_open g still)
+    packet_step s g w h (with_item s.turns c.place-at.result c.add.new.self) c.place-at.result c.index_mut.result.now c.add.new.self c.args.channel c.args.bytes.now refl below c.index_mut.ensures.value c.add.ensures.channel named (c.in_ok-add.ensures {u = tt}).ok (omega (arith, c.if-bytes-eq0.false)) (omega (arith, c.if-bytes-self.false, h.longest)) (still_open g still)
 
 pub returns-clause-why : goal.returns-clause-why
 returns-clause-why c g w h =

@@ -16,8 +16,8 @@ take_rows-requires-clause-part c =
     let (entries, rows, s, f) = c.requires.flow in
     subst (λ (xs : List FlowRow). c.args.self.now.taken ≤ length xs) (sym c.deref.ensures.value) f.part
 
-pub take_row-requires : goal.take_row-requires
-take_row-requires c =
+pub take_word-requires : goal.take_word-requires
+take_word-requires c =
     let (entries, rows, s, f) = c.requires.flow in
     let own = c.deref.ensures.value in
     record {
@@ -31,12 +31,11 @@ take_row-requires c =
 
 pub returns : goal.returns
 returns c = record {
-  flow = λ entries rows s f none.
+  flow = λ entries rows s word f none heard.
       let own = c.deref.ensures.value in
       let items : List FlowRow = c.args.self.now.rows.items in
       let k : ℕ = c.take_rows.result in
       let slot : ℕ = c.args.slot in
-      let word : ℕ = c.args.word in
       let stands : Stands c.take_rows.new.calendar entries (f.heard ++ take k items) =
       subst (λ (xs : List FlowRow). Stands c.take_rows.new.calendar entries (f.heard ++ take k xs)) own
       (c.take_rows.ensures.stands entries f.heard (subst (λ (xs : List FlowRow). Stands c.args.self.now.calendar entries (f.heard ++ take c.args.self.now.taken xs)) (sym own) f.stands)) in
@@ -48,8 +47,8 @@ returns c = record {
       record {
         heard = with_row rows slot word;
         shown = ap (λ (xs : List FlowRow). with_row rows slot word ++ xs) kept ∙ append-nil (with_row rows slot word);
-        stands = subst (λ (xs : List FlowRow). Stands c.take_row.new.calendar entries xs) (sym (append-nil (with_row rows slot word)))
-            (subst (λ (xs : List FlowRow). Stands c.take_row.new.calendar entries (xs ++ record { slot = slot; word = word } ∷ [])) first (c.take_row.ensures entries (f.heard ++ take k items) stands));
+        stands = subst (λ (xs : List FlowRow). Stands c.take_word.new.calendar entries xs) (sym (append-nil (with_row rows slot word)))
+            (subst (λ (xs : List FlowRow). Stands c.take_word.new.calendar entries (xs ++ record { slot = slot; word = word } ∷ [])) first (c.take_word.ensures entries (f.heard ++ take k items) (record { slot = slot; word = word }) stands (c.verified_word.ensures word heard)));
         part = omega arith;
         gone = none_later rows slot word none;
         early = λ i d lt. omega arith;

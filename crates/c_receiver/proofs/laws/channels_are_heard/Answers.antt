@@ -1,6 +1,0 @@
--- The law on what is heard.
-use Rattle.c_receiver.proofs.Hearing.{channels_are_heard}
-use Rattle.c_receiver.proofs.laws.channels_are_heard.Goals as goal
-
-pub returns : goal.returns
-returns c = channels_are_heard

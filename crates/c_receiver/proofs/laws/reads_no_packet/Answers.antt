@@ -1,6 +1,0 @@
--- The law on reads before the first event.
-use Rattle.c_receiver.proofs.Following.{reads_no_packet}
-use Rattle.c_receiver.proofs.laws.reads_no_packet.Goals as goal
-
-pub returns : goal.returns
-returns c = reads_no_packet

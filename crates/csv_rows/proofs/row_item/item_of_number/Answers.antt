@@ -1,5 +1,0 @@
-use Rattle.std.proofs.Common.{rules}
-use Rattle.csv_rows.proofs.row_item.item_of_number.Goals as goal
-
-pub returns : goal.returns
-returns c = search rules

@@ -1,0 +1,4 @@
+mod DeclaredLocks
+mod Feeding
+mod Following
+mod Hearing
