@@ -1,17 +1,35 @@
 """checks/edits/tried.csv: a row for each wrong body that the prover refused, with the sums of what the refusal stands on.
 
 A refusal can change only with the edit, its crate's own texts, what the crates below state and the kit's logic. A landing asks for rows with
-the present sums of all but the third; a release asks for all.
+the present sums of all but the third; a release asks for all. No sum counts comments and empty lines: nothing is proved of them.
 """
 
 import csv
 import hashlib
 import os
+import re
 
 from edit_rounds import outline
 
 COLUMNS = ["crate", "edit", "edit_sum", "crate_sum", "below_sum", "logic", "refused_by"]
 PARTS = ("src", "specs", "proofs")
+# A text, a character, or a comment up to its line's end. Texts and characters may look like a comment.
+RATTLE_PART = re.compile(r'"(?:[^"\\]|\\.)*"|\'(?:[^\'\\\n]|\\[^\'\n]+|\\\')\'|//[^\n]*', re.S)
+ANTT_COMMENT = re.compile(r"(^|[ \t])--([ \t].*)?$", re.M)
+
+
+def without_comments(path, text):
+    """The lines of a source file that are more than a comment, without comments and without spaces at their ends."""
+    if path.endswith(".rt"):
+        text = RATTLE_PART.sub(lambda part: "" if part[0].startswith("//") else part[0], text)
+    elif path.endswith(".antt"):
+        text = ANTT_COMMENT.sub("", text)
+    return "".join(line.rstrip() + "\n" for line in text.split("\n") if line.strip())
+
+
+def code_in(path):
+    with open(path, encoding="utf-8") as file:
+        return without_comments(path, file.read())
 
 
 def sum_of_file(path):
@@ -27,10 +45,10 @@ def files_of(folder, parts):
 
 
 def sum_of_crate(folder):
-    """One sum of the names and sums of all files below src, specs and proofs."""
+    """One sum of the names and of what is more than comments in all files below src, specs and proofs."""
     whole = hashlib.sha256()
     for path in files_of(folder, PARTS):
-        whole.update(("%s %s\n" % (sum_of_file(path), os.path.relpath(path, folder))).encode())
+        whole.update(("%s\n%s\n" % (os.path.relpath(path, folder), code_in(path))).encode())
     return whole.hexdigest()
 
 
@@ -38,8 +56,7 @@ def sum_of_statements(folder):
     """One sum of what a crate states: its specs, and its code without the bodies that a contract hides."""
     whole = hashlib.sha256()
     for path in files_of(folder, ("src", "specs")):
-        with open(path, encoding="utf-8") as file:
-            text = file.read()
+        text = code_in(path)
         whole.update(("%s\n%s\n" % (os.path.relpath(path, folder), outline(path, text) if path.endswith(".rt") else text)).encode())
     return whole.hexdigest()
 

@@ -133,10 +133,10 @@ extern "C" {
 
 /* The version of the program, the library and the formats of files. The shared library has the
  * first number in its name. */
-#define INTERLAKEN_VERSION "1.6.1"
+#define INTERLAKEN_VERSION "1.6.2"
 #define INTERLAKEN_VERSION_MAJOR 1
 #define INTERLAKEN_VERSION_MINOR 6
-#define INTERLAKEN_VERSION_PATCH 1
+#define INTERLAKEN_VERSION_PATCH 2
 
 /* The results of calls. */
 enum interlaken_result {

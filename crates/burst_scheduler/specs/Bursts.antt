@@ -1,4 +1,4 @@
--- What the burst under way stands for, and the control word after it.
+-- What the burst under way means, and the control word after it.
 use Rattle.std.specs.Prelude.{◌≡◌, ◌↔◌, ℕ, ◌+◌, ◌*◌, ◌-◌, ◌^◌, ◌<◌, ◌≤◌, ◌==◌, Bool, true, false, List, [], ◌++◌, length, map, take, drop}
 use Rattle.std.specs.Int.{bit_at}
 use Rattle.lk_base.specs.Fields.{control_field, burst_field, sop_field, eop_field, reset_field, channel_field, multi_field, crc_field}
@@ -22,7 +22,7 @@ left_of line = drop line.given (take line.count line.run.items)
 abbrev pub planned_after : BurstLine → List Word → List Word
 planned_after line w = w ++ map Data (left_of line)
 
--- the same line with another calendar of this end's own
+-- a line with another calendar of this end's own
 abbrev pub with_outgoing : BurstLine → CalendarOut → BurstLine
 with_outgoing line outgoing = record line { outgoing = outgoing }
 

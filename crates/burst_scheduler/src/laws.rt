@@ -4,7 +4,7 @@ ghost use Rattle.burst_scheduler.specs.Ring.{OneReadyList};
 ghost use Rattle.burst_scheduler.specs.declared.scheduler.Scheduler.{Scheduler};
 ghost use Rattle.duplex_model.specs.OpenStream.{IsOpenStream};
 
-/// Which channels are ready at a slot and in which order they take their turns is determined: any two rings that hold them hold
+/// The channels that are ready at a slot, and the order of their turns, are determined: any two rings that hold them hold
 /// one list.
 pub fn one_ready_list()
     ensures { OneReadyList }

@@ -8,7 +8,7 @@ use lk_base::OutOfMemory;
 use lk_index_lists::Lists;
 use std::alloc::Global;
 
-// Each channel with its place, in order of number.
+// Returns each channel with its place, in order of number.
 pub fn numbers(alloc: Global, channels: &[u16]) -> Result<Vec<(u16, u32)>, OutOfMemory>
     requires { length channels.now ≤ 1024 }
     ensures { IfOk result (λ v. IsInOrder channels.now v.items) }

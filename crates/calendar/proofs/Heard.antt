@@ -12,7 +12,7 @@ use Rattle.control_words.proofs.SameControl.{word_is_control}
 use Rattle.calendar.specs.Incoming.{IsHeardAs, StandsFor}
 
 module _ (word row : ℕ) (heard : IsHeardAs word row) where
-  -- a field above the checksum is the same
+  -- a field above the checksum is that of the word
   same_field : (k low width : ℕ) → 24 + k ≡ low → field low width row ≡ field low width word
   same_field k low width e =
       ap (λ n. n % 2 ^ width)

@@ -1,4 +1,4 @@
--- What was told of a channel, where all rows count.
+-- What was told of a channel, if all rows count.
 use Rattle.std.proofs.Common.{◌≡◌, ℕ, suc, ◌≤◌, Bool, true, false, ◌&&◌, List, [], ◌∷◌, ◌++◌, length, map, reverse, take, drop, filter, find, ◌+◌, if◌then◌else◌, ◌==◌, nat_le, Option, Some, None, All, refl, sym, ap, ◌∙◌, subst, arith}
 use Rattle.std.specs.List.{range_with_len}
 use Rattle.std.specs.Option.{option_map_or}
@@ -61,7 +61,7 @@ same_filter channel t (e ∷ es) h =
     by true = refl
     by false = refl
 
--- where all rows count at slot t, what was told of a channel is a part of all that was told
+-- if all rows count at slot t, what was told of a channel is a part of all that was told
 pub told_of_all : (entries : List ℕ) (rows : List FlowRow) (channel t : ℕ) → All (λ (row : FlowRow). row.slot ≤ t) rows → told_of entries rows channel t ≡ filter (λ (e : Told). e.channel == channel) (told_back entries rows)
 told_of_all entries rows channel t h = ap reverse (same_filter channel t (told_by entries rows) (all_told entries t 0 [] rows h)) ∙ sym (filter_reverse (λ (e : Told). e.channel == channel) (told_by entries rows))
 
@@ -79,6 +79,6 @@ find_same channel t (row ∷ rows) h =
     by true = refl
     by false = refl
 
--- where all rows count at slot t, a channel's own state is that of its last row
+-- if all rows count at slot t, a channel's own state is that of its last row
 pub local_all : (local : List LocalRow) (channel t : ℕ) → All (λ (row : LocalRow). row.slot ≤ t) local → is_locally_on local channel t ≡ last_local local channel
 local_all local channel t h = ap (λ o. option_map_or (λ (row : LocalRow). row.on) o true) (find_same channel t (reverse local) (all_reverse (λ (row : LocalRow). row.slot ≤ t) local h))

@@ -12,7 +12,7 @@ use Rattle.lk_base.proofs.Lists.{range_more}
 use Rattle.calendar.specs.Changes.{change, state_in, change_of, changes}
 use Rattle.calendar.specs.Incoming.{HasStates}
 
--- one more entry stands before all that was told
+-- one more entry is before all that was told
 pub back_more : (es told : List Told) (e : Told) → reverse (es ++ e ∷ []) ++ told ≡ e ∷ (reverse es ++ told)
 back_more es told e = ap (λ xs. xs ++ told) (reverse-append es (e ∷ []))
 

@@ -31,6 +31,6 @@ abbrev pub changes : List Told → List Told → List Change
 changes told [] = []
 changes told (e ∷ es) = change_of told e ++ changes (e ∷ told) es
 
--- what the flow bits tell of a word's entries: entry i stands in bit 15 - i
+-- what the flow bits tell of a word's entries: entry i is bit 15 - i
 abbrev pub told_by_bits : ℕ → ℕ → List ℕ → ℕ → ℕ → Told
 told_by_bits slot row entries flow i = record { slot = slot; row = row; place = i; channel = slice_index entries i; on = bit_at flow (15 - i) == 1 }

@@ -1,4 +1,4 @@
--- What an incoming calendar stands for: the rows whose words it has taken so far.
+-- What an incoming calendar means: the rows whose words it has taken so far.
 use Rattle.std.specs.Prelude.{◌≡◌, ℕ, ◌+◌, ◌*◌, ◌/◌, ◌^◌, ◌<◌, min, [], Bool, true, false, List, length, Option, Some, None, slice_index_or}
 use Rattle.std.specs.Option.{option_map}
 use Rattle.stream_model.specs.Calendar.{Told, is_valid, word_number}
@@ -15,9 +15,9 @@ abbrev pub StandsFor : Option Control → ℕ → Type 0
 StandsFor None word = is_valid word ≡ false
 StandsFor (Some c) word = (is_valid word ≡ true) × ((crc : ℕ) × IsWordOf c crc word)
 
--- this is the control word `word` with the checksum of itself alone: its bits 63:24 are the same
+-- `heard` is the control word `word` with the checksum of itself alone: its bits 63:24 are those of `word`
 abbrev pub IsHeardAs : ℕ → ℕ → Type 0
-IsHeardAs word row = (row / 2 ^ 24 ≡ word / 2 ^ 24) × (crc_field row ≡ control_crc [] row)
+IsHeardAs word heard = (heard / 2 ^ 24 ≡ word / 2 ^ 24) × (crc_field heard ≡ control_crc [] heard)
 
 -- each channel has the state that all that was told gives it
 abbrev pub HasStates : List Bool → List Told → Type 0

@@ -1,4 +1,4 @@
--- What an outgoing calendar stands for: the local rows that were set so far, and the control words that were made.
+-- What an outgoing calendar means: the local rows that were set so far, and the control words that were made.
 use Rattle.std.specs.Prelude.{◌≡◌, ℕ, ◌<◌, ◌≤◌, ◌==◌, Bool, true, false, List, length, reverse, find, slice_index_or}
 use Rattle.std.specs.Option.{option_map_or}
 use Rattle.stream_model.specs.Calendar.{first_entry}

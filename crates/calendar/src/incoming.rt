@@ -16,13 +16,13 @@ use std::alloc::Global;
 #[derive(Drop)]
 pub struct CalendarIn {
     entries: Vec<u16>,
-    // The entry at which a word goes on that is no reset, if such a word counts.
+    // The entry at which the next word without a reset goes on, if such a word counts.
     next: Option<usize>,
     // The state of each channel by its number.
     on: Vec<bool>,
 }
 
-// Takes one entry, and adds it to `changed` where it changes its channel.
+// Takes one entry, and adds it to `changed` if it changes its channel.
 fn tell_one(on: &mut [bool], changed: &mut ArrayVec<Change, 16>, channel: u16, now: bool)
     requires wide { length on.old ≡ 65536 }
     requires room { array_vec_len changed.old < 16 }
@@ -56,7 +56,7 @@ impl CalendarIn {
     ghost use Rattle.calendar.specs.Changes.{changes, words_back, told_back, state_in};
     ghost use Rattle.calendar.specs.Incoming.{Stands, StandsFor};
 
-    /// All channels are on, and no word counts until a reset.
+    /// Creates a calendar with all channels on; no word counts until a reset.
     pub fn new(alloc: Global, entries: &[u16]) -> Result<CalendarIn, OutOfMemory>
         ensures { IfOk result (λ calendar. Stands calendar entries.now []) }
     {
@@ -69,7 +69,7 @@ impl CalendarIn {
         })
     }
 
-    /// Takes the next word, `None` for one that is not valid. `changed` gets each change of a channel's state, in the
+    /// Takes the next word, `None` for one that is not valid. Adds each change of a channel's state to `changed`, in the
     /// order of entries.
     pub fn take(&mut self, word: Option<Control>, changed: &mut ArrayVec<Change, 16>)
         requires empty { changed.old.items ≡ [] }
@@ -91,7 +91,7 @@ impl CalendarIn {
         self.next = Some(end);
     }
 
-    /// Whether a channel is on by the words that were taken.
+    /// True if a channel is on by the words that were taken.
     pub fn is_on(&self, channel: u16) -> bool
         requires stands { (entries : List ℕ) × (rows : List FlowRow) × Stands self.now entries rows }
         ensures state { (entries : List ℕ) (rows : List FlowRow) → Stands self.now entries rows → result ≡ state_in (told_back entries rows) channel }

@@ -13,11 +13,11 @@ pub struct CalendarOut {
     first: usize,
     // The state of each channel by its number.
     on: Vec<bool>,
-    // Whether no channel was ever off.
+    // True if no channel was ever off.
     all_on: bool,
 }
 
-// 1 for true.
+// Returns 1 for true, and 0 for false.
 fn one_if(b: bool) -> u16
     ensures { result ≡ (if b then 1 else 0) }
 {
@@ -31,7 +31,7 @@ impl CalendarOut {
     ghost use Rattle.stream_model.specs.declared.rows.LocalRow.{LocalRow};
     ghost use Rattle.calendar.specs.Outgoing.{StandsOut};
 
-    /// All channels are on, and the next control word is the first.
+    /// Creates a calendar with all channels on; the next control word is the first.
     pub fn new(alloc: Global, entries: &[u16]) -> Result<CalendarOut, OutOfMemory>
         requires low { 1 ≤ length entries.now }
         requires high { length entries.now ≤ 1024 }
@@ -47,7 +47,7 @@ impl CalendarOut {
         })
     }
 
-    /// A channel of this end is on or off from the next control word on.
+    /// Turns a channel of this end on or off, from the next control word on.
     pub fn set(&mut self, channel: u16, on: bool)
         requires stands { (entries : List ℕ) × (local : List LocalRow) × (j : ℕ) × StandsOut self.old entries local j }
         ensures { (entries : List ℕ) (local : List LocalRow) (j slot : ℕ) → StandsOut self.old entries local j → StandsOut self.new entries (local ++ record { slot = slot; channel = channel; on = on } ∷ []) j }
@@ -56,7 +56,7 @@ impl CalendarOut {
         self.all_on = self.all_on && on;
     }
 
-    // What the next control word tells at a place.
+    // Returns what the next control word tells at a place.
     fn bit(&self, place: usize) -> bool
         requires stands { (entries : List ℕ) × (local : List LocalRow) × (j : ℕ) × StandsOut self.now entries local j }
         requires place { place < 16 }
@@ -71,7 +71,7 @@ impl CalendarOut {
         }
     }
 
-    // The flow bits of the next control word, found one by one.
+    // Returns the flow bits of the next control word, found one by one.
     fn each_bit(&self) -> u16
         requires stands { (entries : List ℕ) × (local : List LocalRow) × (j : ℕ) × StandsOut self.now entries local j }
         ensures { (entries : List ℕ) (local : List LocalRow) (j t i : ℕ) → StandsOut self.now entries local j → All (λ (row : LocalRow). row.slot ≤ t) local → i < 16 → (bit_at result (15 - i) == 1) ≡ calendar_bit entries local j t i }
@@ -83,7 +83,7 @@ impl CalendarOut {
         flow
     }
 
-    // The flow bits of the next control word: all 1 where no channel was ever off.
+    // Returns the flow bits of the next control word: all 1 if no channel was ever off.
     fn flow(&self) -> u16
         requires stands { (entries : List ℕ) × (local : List LocalRow) × (j : ℕ) × StandsOut self.now entries local j }
         ensures { (entries : List ℕ) (local : List LocalRow) (j t i : ℕ) → StandsOut self.now entries local j → All (λ (row : LocalRow). row.slot ≤ t) local → i < 16 → (bit_at result (15 - i) == 1) ≡ calendar_bit entries local j t i }
@@ -95,7 +95,7 @@ impl CalendarOut {
         }
     }
 
-    /// The reset bit and the flow bits of the next control word.
+    /// Makes the reset bit and the flow bits of the next control word.
     pub fn next(&mut self) -> (bool, u16)
         requires stands { (entries : List ℕ) × (local : List LocalRow) × (j : ℕ) × StandsOut self.old entries local j }
         ensures reset { (entries : List ℕ) (local : List LocalRow) (j : ℕ) → StandsOut self.old entries local j → (result.0 ≡ true) ↔ (first_entry entries j ≡ 0) }

@@ -12,7 +12,7 @@ use Rattle.cell_pool.specs.Cells.{byte_of_word, bytes_in, word_place, roomier, w
 use Rattle.cell_pool.proofs.Packed.{bytes_same}
 use Rattle.cell_pool.proofs.Pushed.{bytes_more, lists_apart, roomier_front, words_apart}
 
--- ---- words that stand one after another
+-- ---- words one after another
 
 pub run_more : (words : List ℕ) (at : ℕ) (xs : List ℕ) (x : ℕ) → with_run words at (xs ++ x ∷ []) ≡ set (with_run words at xs) (at + length xs) x
 run_more words at [] x = let e : at + 0 ≡ at = omega arith in rw e refl

@@ -1,13 +1,11 @@
 -- The pieces of a block: a run of Data words, or a word.
-use Rattle.std.proofs.Common.{ℕ, suc, ◌+◌, ◌≡◌, ◌≤◌, ◌<◌, refl, sym, ap, ap₂, ◌∙◌, List, [], ◌∷◌, ◌++◌, length, map, get_or, take, drop, reverse, slice_get, slice_set, Option, Some, append_assoc, append-nil, arith}
-use Rattle.std.proofs.lemmas.List.{reverse-append, take_more, take_more_set, map-append, get_or-drop, drop-drop, take-append-drop, length-drop}
+use Rattle.std.proofs.Common.{ℕ, ◌+◌, ◌≡◌, refl, sym, ap, ap₂, ◌∙◌, List, [], ◌∷◌, ◌++◌, map, take, drop, reverse, append_assoc}
+use Rattle.std.proofs.lemmas.List.{reverse-append, drop-drop, take-append-drop}
 use Rattle.std.proofs.Math.Seq.{take-add}
-use Rattle.std.proofs.lemmas.Option.{slice_get-get_or}
-use Rattle.std.specs.Option.{unwrap_or}
 use Rattle.lk_base.specs.declared.word.RxWord.{RxWord}
-use Rattle.lk_base.specs.declared.word.RxWord.TheVariants.{Data, Bad}
+use Rattle.lk_base.specs.declared.word.RxWord.TheVariants.{Data}
 use Rattle.word_rules.specs.declared.fault.Fault.{Fault}
-use Rattle.word_rules.specs.Faults.{Plan, data_rows, faults_at, faults_from}
+use Rattle.word_rules.specs.Faults.{Plan, data_rows, faults_from}
 use Rattle.word_rules.specs.Runs.{run_after}
 
 abbrev datas : List ℕ → List RxWord
@@ -45,15 +43,3 @@ rows_run p words from count xs found new h is =
     ∙ append_assoc found (faults_from p e (datas xs)) (faults_from p (run_after e xs) rest)
     ∙ ap (λ (l : List Fault). found ++ l) (sym (rows_apart p e xs rest))
     ∙ ap (λ (l : List RxWord). found ++ faults_from p e l) whole
-
--- one number of a run more
-pub data_more : (words : List RxWord) (from i x : ℕ) (room : List ℕ) → from + i < length words → i < length room → Some (Data x) ≡ slice_get words (from + i) →
-    datas (take i room) ≡ take i (drop from words) → datas (take (i + 1) (slice_set room i x)) ≡ take (i + 1) (drop from words)
-data_more words from i x room lt fits is h =
-    let left : i < length (drop from words) = (let n = length-drop from words in omega arith) in
-    let word : get_or (drop from words) i Bad ≡ Data x =
-    get_or-drop from words i Bad ∙ ap (λ (o : Option RxWord). unwrap_or o Bad) (sym (slice_get-get_or words (from + i) Bad lt) ∙ sym is) in
-    ap datas (take_more_set room i x fits)
-    ∙ map-append (λ (n : ℕ). Data n) (take i room) (x ∷ [])
-    ∙ ap₂ (λ (l : List RxWord) (w : RxWord). l ++ w ∷ []) h (sym word)
-    ∙ sym (take_more (drop from words) i Bad left)

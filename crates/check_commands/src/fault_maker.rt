@@ -55,7 +55,7 @@ fn checker_of(alloc: Global, inputs: &CheckInputs) -> Result<Checker, OutOfMemor
     Checker::new(alloc, &plan)
 }
 
-// Gives the rows of these faults to the table, and nothing where there is none.
+// Gives the rows of these faults to the table, and nothing if there are none.
 fn give_rows(alloc: Global, outputs: &mut Outputs, faults: &[Fault]) -> Result<(), OutOfMemory>
     requires { 0 < length outputs.old }
     ensures names { open_names outputs.new ≡ open_names outputs.old }
@@ -75,11 +75,11 @@ pub struct FaultMaker<'a> {
     pub inputs: &'a CheckInputs,
     /// What checks the words.
     pub checker: Checker,
-    /// How many faults there are so far.
+    /// The counts of the faults so far.
     pub tally: Tally,
-    /// Whether the heading was given.
+    /// True if the heading was given.
     pub begun: bool,
-    /// How many words were judged.
+    /// The count of words that were judged.
     pub judged: usize,
 }
 

@@ -24,7 +24,7 @@ use words_files::WordsFile;
 pub struct CheckInputs {
     /// The plan.
     pub plan: Plan,
-    /// The rows of its flow file, in order of slot; none where it names no such file.
+    /// The rows of its flow file, in order of slot; none if it names no such file.
     pub flow: Vec<FlowRow>,
     /// The words of its words file, in order.
     pub words: WordsFile,

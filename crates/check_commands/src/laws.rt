@@ -2,7 +2,7 @@
 ghost use Rattle.check_commands.specs.AfterBurst.{CheckAfterBurst};
 ghost use Rattle.check_commands.specs.CheckLaws.{CheckIsWork, WorkedTables, WorkedTexts};
 
-/// What is read for `check` comes to one outcome; where the files hold bytes it comes to one; and no stream is held.
+/// What is read for `check` has at most one outcome; if the files hold bytes it has one; and no stream is held.
 pub fn check_is_work()
     ensures { CheckIsWork }
 {}

@@ -1,6 +1,6 @@
 //! The pass over the words, block by block.
-ghost use Rattle.std.specs.Prelude.{◌≡◌, ◌<◌, ◌≤◌, ◌+◌, ◌^◌, ◌++◌, ℕ, get_or, length, map, take, drop, reverse, IfOk, OnOk};
-ghost use Rattle.lk_base.specs.declared.word.RxWord.TheVariants.{Data, Bad};
+ghost use Rattle.std.specs.Prelude.{◌≡◌, ◌<◌, ◌≤◌, ◌^◌, ◌++◌, get_or, length, take, drop, reverse, IfOk, OnOk};
+ghost use Rattle.lk_base.specs.declared.word.RxWord.TheVariants.{Bad};
 ghost use Rattle.word_rules.specs.Checks.{Keeps};
 ghost use Rattle.word_rules.specs.Faults.{Plan, faults_from};
 ghost use Rattle.word_rules.specs.Flows.{InOrder};
@@ -10,10 +10,10 @@ use std::alloc::Global;
 use word_rules::{Checker, Fault};
 use words_files::WordsFile;
 
-/// How many words are judged at once, at most.
+/// The count of words that are judged at once, at most.
 pub const BLOCK: usize = 512;
 
-// The word of this number.
+// Returns the word of this number.
 fn word_at(words: &WordsFile, number: usize) -> RxWord
     requires { number < length words.now }
     ensures { result ≡ get_or words.now number Bad }
@@ -25,26 +25,8 @@ fn word_at(words: &WordsFile, number: usize) -> RxWord
     word
 }
 
-// Copies the numbers of the Data words from number `from` on, up to number `to`, as many as stand there one after another and as there
-// is room for. It returns how many these are.
-fn copy_data(words: &WordsFile, from: usize, to: usize, room: &mut [u64]) -> usize
-    requires first { from ≤ to }
-    requires last { to ≤ length words.now }
-    ensures upto { from + result ≤ to }
-    ensures fits { result ≤ length room.new }
-    ensures same { map (λ (x : ℕ). Data x) (take result room.new) ≡ take result (drop from words.now) }
-{
-    let most = room.len().min(to - from);
-    for count in 0..most {
-        let Some(RxWord::Data(number)) = words.get(from + count) else {
-            return count;
-        };
-        room[count] = number;
-    }
-    most
-}
-
-// Puts the faults of a word, or of a run of Data words, from this number on after the others, and returns the number of the word after.
+// Adds the faults of the run of data words from this number on, or of the one word there, to the others. Returns the number of the
+// word after them.
 fn next_faults(
     checker: &mut Checker,
     words: &WordsFile,
@@ -63,9 +45,11 @@ fn next_faults(
     ensures found { (p : Plan) → Keeps checker.old p (reverse (take number words.now)) → InOrder p.flow →
         IfOk result (λ after. found.new.items ++ faults_from p (reverse (take after words.now)) (drop after words.now) ≡ found.old.items ++ faults_from p (reverse (take number words.now)) (drop number words.now)) }
 {
-    let count = copy_data(words, number, to, room);
+    let most = room.len().min(to - number);
+    let numbers = &mut room[..most];
+    let count = words.copy_data(number, numbers);
     if count > 0 {
-        checker.data_run(&room[..count], found)?;
+        checker.data_run(&numbers[..count], found)?;
         return Ok(number + count);
     }
     let next = words.get(number + 1);
@@ -73,7 +57,7 @@ fn next_faults(
     Ok(number + 1)
 }
 
-/// The faults of the words from number `from` up to number `to`.
+/// Returns the faults of the words from number `from` up to number `to`.
 pub fn block_faults(
     alloc: Global,
     checker: &mut Checker,

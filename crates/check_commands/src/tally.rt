@@ -1,4 +1,4 @@
-//! How many faults there are, in all and of each rule.
+//! The counts of faults, in all and of each rule.
 ghost use Rattle.std.specs.Prelude.{◌≡◌, ◌<◌, ◌+◌, ◌-◌, ◌^◌, ◌==◌, ◌++◌, [], List, cond, length, slice_index, slice_set, IfOk, OnOk, string_bytes};
 ghost use Rattle.std.specs.List.{flat_map};
 ghost use Rattle.word_rules.specs.declared.fault.Fault.{Fault};
@@ -36,7 +36,7 @@ fn rule_text(alloc: Global, rule: WordRule, count: u64) -> Result<String, AllocE
     format!(in alloc; "rule {rule}={count}\n")
 }
 
-// Puts the line of a rule after a text, where the rule has faults.
+// Appends the line of a rule to a text, if the rule has faults.
 fn put_rule(
     alloc: Global,
     text: &mut Vec<u8>,
@@ -68,7 +68,7 @@ fn put_rules(
     Ok(())
 }
 
-/// How many faults there are, in all and of each rule.
+/// The counts of faults, in all and of each rule.
 #[derive(Drop)]
 pub struct Tally {
     total: u64,

@@ -3,8 +3,12 @@ ghost use Rattle.std.specs.Int.{w64, to_be_bytes};
 ghost use Rattle.lk_base.specs.Checksum.{bits_of, bits_of_bytes};
 
 use crate::writer::BitWriter;
+use lane_model::CODE_BITS;
 
-/// Puts the eight bytes of a number at this place, the highest first.
+/// The bytes of eight codes: as many as a code has bits.
+pub const EIGHT_CODES_BYTES: usize = CODE_BITS as usize;
+
+/// Puts the eight bytes of a number at the place `at`, the highest first.
 pub fn put_number(bytes: &mut [u8], at: usize, number: u64)
     requires { at + 8 ≤ length bytes.old }
     ensures { take (at + 8) bytes.new ≡ take at bytes.old ++ to_be_bytes w64 number }
@@ -24,7 +28,7 @@ fn next_byte(bits: &mut BitWriter) -> u8
     }
 }
 
-/// Puts the bits that wait, 24 of them, at this place.
+/// Puts the bits that wait, 24 of them, at the place `at`.
 pub fn put_rest(bytes: &mut [u8], at: usize, bits: &mut BitWriter)
     requires count { length bits.old ≡ 24 }
     requires room { at + 3 ≤ length bytes.old }

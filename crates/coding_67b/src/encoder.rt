@@ -25,7 +25,7 @@ impl Model for Encoder {
 }
 
 impl Encoder {
-    /// The encoder of a lane with no code yet.
+    /// Creates the encoder of a lane with no code yet.
     pub fn new() -> Encoder
         ensures value { result ≡ pos 0 }
         ensures codes { result ≡ disparity [] }
@@ -33,9 +33,9 @@ impl Encoder {
         Encoder { disparity: 0 }
     }
 
-    /// The code of the word after the codes so far, below 2^67. It is inverted where that brings the disparity nearer
-    /// to 0: where it is not below 0 and the payload with one further zero bit has more ones than zeros, or it is below
-    /// 0 and there are fewer.
+    /// Makes the code of the word after the codes so far, below 2^67. It is inverted if that brings the disparity nearer to 0:
+    /// if the disparity is not below 0 and the payload with one further zero bit has more ones than zeros, or it is below 0
+    /// and there are fewer.
     pub fn encode(&mut self, word: Word) -> u128
         ensures value { result ≡ code_of (is_inverted self.old (payload_of word)) word }
         ensures disparity { self.new ≡ next_disparity self.old (payload_of word) }
@@ -50,7 +50,7 @@ impl Encoder {
         code(inverted, word)
     }
 
-    /// The running disparity: -65..=64.
+    /// Returns the running disparity: -65..=64.
     pub fn disparity(&self) -> i32
         ensures value { result ≡ self.now }
         ensures low { negsuc 64 ≤ℤ result }

@@ -8,7 +8,7 @@ mod reader;
 mod writer;
 
 pub use codes::{code_with, decode, header_of, inversion_of, payload_of};
-pub use eight::{put_number, put_rest};
+pub use eight::{EIGHT_CODES_BYTES, put_number, put_rest};
 pub use encoder::Encoder;
 pub use reader::BitReader;
 pub use writer::BitWriter;

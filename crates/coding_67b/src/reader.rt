@@ -26,7 +26,7 @@ impl<'a> Model for BitReader<'a> {
 }
 
 impl<'a> BitReader<'a> {
-    /// All bits of the bytes are left.
+    /// Creates a reader of which all bits of the bytes are left.
     pub fn new(bytes: &'a [u8]) -> BitReader<'a>
         ensures { result ≡ bits_of_bytes bytes.now }
     {
@@ -37,7 +37,7 @@ impl<'a> BitReader<'a> {
         }
     }
 
-    /// Takes the next bit. `None` exactly where no bit is left, and again then.
+    /// Takes the next bit. `None` if no bit is left, and again then.
     pub fn bit(&mut self) -> Option<bool>
         ensures none { IsNone result ↔ self.old ≡ [] }
         ensures unchanged { IfNone result (self.new ≡ self.old) }
@@ -59,7 +59,7 @@ impl<'a> BitReader<'a> {
     }
 }
 
-/// Whether the bit of a byte at a place is 1, bit 0 being the lowest.
+/// True if the bit of a byte at a place is 1; bit 0 is the lowest.
 fn bit_of(byte: u8, place: u32) -> bool
     requires { place < 8 }
     ensures { result ≡ (bit_at byte place == 1) }

@@ -24,7 +24,7 @@ impl Model for BitWriter {
 }
 
 impl BitWriter {
-    /// No bit waits.
+    /// Creates a writer in which no bit waits.
     pub fn new() -> BitWriter
         ensures { result ≡ [] }
     {
@@ -42,15 +42,14 @@ impl BitWriter {
         self.count += CODE_BITS;
     }
 
-    /// Whether no bit waits.
+    /// True if no bit waits.
     pub fn is_empty(&self) -> bool
         ensures { (result ≡ true) ↔ (self.now ≡ []) }
     {
         self.count == 0
     }
 
-    /// Takes the next 8 waiting bits, the first of them as the byte's highest. `None` exactly where fewer than 8 wait,
-    /// which changes nothing.
+    /// Takes the next 8 waiting bits, the first of them as the byte's highest. `None` if fewer than 8 wait; nothing changes then.
     pub fn take(&mut self) -> Option<u8>
         ensures none { IsNone result ↔ length self.old < 8 }
         ensures unchanged { IfNone result (self.new ≡ self.old) }
@@ -74,7 +73,7 @@ impl BitWriter {
         (self.bits >> self.count & u64::MAX as u128) as u64
     }
 
-    /// Takes the waiting bits, with zeros after them. Fewer than 8 bits wait. `None` exactly where no bit waits.
+    /// Takes the waiting bits, with zeros after them. Fewer than 8 bits wait. `None` if no bit waits.
     pub fn pad(&mut self) -> Option<u8>
         requires { length self.old < 8 }
         ensures none { IsNone result ↔ self.old ≡ [] }

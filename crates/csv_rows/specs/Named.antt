@@ -1,4 +1,4 @@
--- What a name stands for, by a table of names.
+-- What a name means, by a table of names.
 use Rattle.std.specs.Prelude.{ℕ, List, [], ◌∷◌, Option, Some, None, if◌then◌else◌}
 use Rattle.std.specs.Str.{bytes_eq}
 use Rattle.csv_rows.specs.declared.named_values.Named.{Named}

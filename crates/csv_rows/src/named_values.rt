@@ -1,7 +1,7 @@
 ghost use Rattle.std.specs.Prelude.{◌≡◌};
 ghost use Rattle.csv_rows.specs.Named.{named_in};
 
-/// A name as it stands in a file, and what it names.
+/// A name in a file, and what it names.
 #[derive(Clone, Copy, Debug)]
 pub struct Named<T> {
     /// The name.

@@ -11,7 +11,8 @@ use Rattle.lk_base.specs.declared.word.RxWord.TheVariants.{Bad}
 use Rattle.deskew.specs.States.{LaneState}
 use Rattle.deskew.specs.Blocks.{rows_at, word_at}
 use Rattle.deskew.specs.Lanes.{word_before_last}
-use Rattle.deskew.specs.Spread.{column, spread, spread_all}
+use Rattle.word_list.specs.Received.{spread}
+use Rattle.deskew.specs.Spread.{column, spread_all}
 
 -- words after others stand after them
 pub spread_append : (step from : ℕ) (xs ys block : List RxWord) → spread step from (xs ++ ys) block ≡ spread step (from + length xs * step) ys (spread step from xs block)
@@ -42,17 +43,6 @@ length_spread step from (w ∷ ws) block = length_spread step (from + step) ws (
 pub length_column : (behind n : ℕ) (l : LaneState) → length (column behind n l) ≡ n
 length_column behind zero l = refl
 length_column behind (suc n) l = ap suc (length_column (behind + 1) n l)
-
--- a word is written, and those that are left follow a step further
-pub spread_more : (step at i : ℕ) (words block : List RxWord) (d : RxWord) → i < length words →
-    spread step at (drop i words) block ≡ spread step (at + step) (drop (i + 1) words) (set block at (get_or words i d))
-spread_more step at i words block d lt = ap (λ (ws : List RxWord). spread step at ws block) (drop_more words i d lt)
-
-pub left_more : (step at i : ℕ) (words : List RxWord) (d : RxWord) → i < length words → at + step + length (drop (i + 1) words) * step ≡ at + length (drop i words) * step
-left_more step at i words d lt =
-    let s = suc-mul (length (drop (i + 1) words)) step in
-    let n = ap (λ (ws : List RxWord). length ws * step) (drop_more words i d lt) in
-    omega (arith, s, n)
 
 -- ---- by rows
 

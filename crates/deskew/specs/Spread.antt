@@ -1,13 +1,9 @@
 -- Rows that are written lane by lane: the words of a lane stand a row apart.
-use Rattle.std.specs.Prelude.{ℕ, zero, suc, ◌+◌, List, [], ◌∷◌, set}
+use Rattle.std.specs.Prelude.{ℕ, zero, suc, ◌+◌, List, [], ◌∷◌}
 use Rattle.lk_base.specs.declared.word.RxWord.{RxWord}
+use Rattle.word_list.specs.Received.{spread}
 use Rattle.deskew.specs.States.{LaneState}
 use Rattle.deskew.specs.Blocks.{word_at}
-
--- the words stand at every `step`-th place of the block, the first at this one
-abbrev pub spread : ℕ → ℕ → List RxWord → List RxWord → List RxWord
-spread step from [] block = block
-spread step from (w ∷ words) block = spread step (from + step) words (set block from w)
 
 -- the words of a lane in this many rows, the first of them this many words after the Sync of the last group
 abbrev pub column : ℕ → ℕ → LaneState → List RxWord

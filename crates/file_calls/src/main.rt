@@ -1,16 +1,13 @@
-//! Calls public functions of the crates of captures, rows, plans, texts, files and inputs once each, and prints what they gave.
+//! Calls public functions of the crates of captures, rows, plans and texts once each, and prints what they gave.
 #![tactic(auto)]
 
 mod captures;
 mod cases;
 mod file_key;
-mod inputs;
 mod listings;
-mod machine;
 mod plans;
 mod row_files;
 mod runs;
-mod stores;
 mod texts;
 
 use std::io;
@@ -22,8 +19,5 @@ fn main(rt: HostRuntime) -> io::Result<()> {
     runs::tell_all(&rt)?;
     cases::tell_all(&rt)?;
     listings::tell_all(&rt)?;
-    texts::tell_all(&rt)?;
-    stores::tell_all(&rt)?;
-    machine::tell_all(&rt)?;
-    inputs::tell_all(&rt)
+    texts::tell_all(&rt)
 }

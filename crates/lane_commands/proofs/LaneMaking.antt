@@ -69,7 +69,7 @@ group_length words block first n e =
 groups_of : (n g : ℕ) → n % g ≡ 0 → n / g * g ≡ n
 groups_of n g e = (let split = div-add-mod' n g in omega (arith, split, e))
 
--- one group more fits, where fewer words are there
+-- one group more fits, if fewer words are there
 fits_by : (m q g n : ℕ) → q * g ≡ n → m * g < n → m * g + g ≤ n
 fits_by m q g n e lt = elim (cases_lt m q) [
   | inl less ↦
@@ -85,11 +85,11 @@ module _ (s : Settings) (words stream : List Word) (k : Stripes s words stream) 
   stream_length : length stream ≡ length words + k.fillers
   stream_length = ap length k.is ∙ length-append words (replicate k.fillers filler) ∙ ap (λ n. length words + n) (length-replicate k.fillers filler)
 
-  -- a group more of the stream, where words are left
+  -- a group more of the stream, if words are left
   group_fits : (m : ℕ) → m * group_of s < length words → m * group_of s + group_of s ≤ length stream
   group_fits m lt = fits_by m (length stream / group_of s) (group_of s) (length stream) (groups_of (length stream) (group_of s) k.whole) (omega (arith, lt, stream_length))
 
-  -- the lanes carry all, where none is left
+  -- the lanes carry all, if none is left
   all_carried : (m slots : ℕ) → slots ≡ m * group_of s → slots ≤ length stream → length words ≤ slots → slots ≡ length stream
   all_carried m slots e within over = elim (cases_lt slots (length stream)) [
     | inl lt ↦
@@ -113,7 +113,7 @@ module _ (s : Settings) (words stream : List Word) (k : Stripes s words stream) 
 
 -- ---- what was given
 
--- outputs of the same names are as many
+-- outputs with equal names are as many
 pub same_count : (opens others : List Open) → open_names opens ≡ open_names others → length opens ≡ length others
 same_count opens others e = sym (length-map opens (λ (f : Open). f.name)) ∙ ap length e ∙ length-map others (λ (f : Open). f.name)
 

@@ -36,7 +36,7 @@ read_within name limit bytes le =
 each_sized : (source : Source) (w : List Word) → IsBurstStream source w → All (λ word. payload word < 2 ^ 64) w
 each_sized source w stream = λ k d lt. stream.sized k (get_or w k d) (slice_get-get_or w k d lt)
 
--- the words that stand in a words file are read
+-- the words of a words file are read
 words_there : (files : Files) (name : List ℕ) (w : List Word) → All (λ word. payload word < 2 ^ 64) w → file files name ≡ Some (words_file w) → length (words_file w) ≤ words_limit → sent_words_in files name ≡ Ok w
 words_there files name w sized there fits =
     let had : bytes_in files name words_limit ≡ Ok (words_file w) = ap (bytes_by name words_limit) there ∙ read_within name words_limit (words_file w) fits in

@@ -30,7 +30,7 @@ with_words files plan = behind (sent_words_in files (words_name plan.out)) (λ w
 abbrev pub plan_words_in : Files → List ℕ → Result StripeInputs Refusal
 plan_words_in files name = behind (plan_in files name) (with_words files)
 
--- the plan's own file, and where it is accepted its words file
+-- the plan's own file, and, if it is accepted, its words file
 abbrev pub IsReadFor : List ℕ → Files → List ℕ → Type 0
 IsReadFor name files q = (q ≡ name) ⊎ MatchResult (plan_in files name) (λ plan. q ≡ words_name plan.out) (λ r. ⊥)
 

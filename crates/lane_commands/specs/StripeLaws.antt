@@ -15,7 +15,7 @@ use Rattle.run_shell.specs.Outputs.{outs, blank}
 use Rattle.stream_commands.specs.Plan.{burst_plan_work, send_plan_work}
 use Rattle.lane_commands.specs.Stripe.{StripeInputs, Stripes, IsStriped, filler, stripe_meaning}
 
--- `stripe` after `burst` of one plan creates the files that `send` of the plan creates: where the plan stands, and its words file
+-- `stripe` after `burst` of one plan creates the files that `send` of the plan creates: the plan is there, and its words file
 -- holds what `burst` gave to it, within the limit of words files
 abbrev pub StripeSendsBurst : Type 0
 StripeSendsBurst = (name : List ℕ) (i : Reading) (burst send stripe : Outcome) (files : Files) (content : List ℕ) →

@@ -17,14 +17,14 @@ use std::alloc::Global;
 use tx_end::{LaneFiller, group_room};
 use words_files::SentFile;
 
-// The word that fills a group: an idle that resets the calendar, with all flow bits 1 and the CRC24 of itself alone.
+// Returns the word that fills a group: an idle that resets the calendar, with all flow bits 1 and the CRC24 of itself alone.
 fn filler() -> Word
     ensures { result ≡ filler }
 {
     Word::Control(sealed(Control::idle(Eop::Going, true, u16::MAX), &[]))
 }
 
-// Reads the words from number `first` on into a group. After the last word come fillers.
+// Reads the words from number `first` on into a group. Fillers are after the last word.
 fn read_group(words: &SentFile, first: usize, group: &mut [Word])
     requires there { first ≤ length words.now }
     requires few { length words.now < 2 ^ 60 }
@@ -57,7 +57,7 @@ fn give_group(
     Ok(())
 }
 
-// Gives each output the last byte of its lane, where bits wait.
+// Gives each output the last byte of its lane, if bits wait.
 fn give_ends(lanes: &mut LaneFiller, outputs: &mut Outputs) -> Result<(), OutOfMemory>
     requires count { length outputs.old ≡ lanes.old.settings.lanes }
     requires filled { (words : List SentWord) × (made : ℕ) × (done : List (List ℕ)) × AreFilled lanes.old.settings words made lanes.old.lanes (join done (rests_of outputs.old)) }
@@ -72,7 +72,7 @@ fn give_ends(lanes: &mut LaneFiller, outputs: &mut Outputs) -> Result<(), OutOfM
     Ok(())
 }
 
-// The line of a stream of this many words.
+// Makes the line of a stream of this many words.
 fn slots_text(alloc: Global, slots: u64) -> Result<Vec<u8>, OutOfMemory>
     ensures { IfOk result (λ text. text.items ≡ slots_line slots) }
 {
@@ -81,7 +81,7 @@ fn slots_text(alloc: Global, slots: u64) -> Result<Vec<u8>, OutOfMemory>
     Ok(text)
 }
 
-/// What makes the lanes that carry the words of a plan's words file.
+/// Makes the lanes that carry the words of a plan's words file.
 #[derive(Drop)]
 pub struct LaneMaker<'a> {
     /// The plan and its words.
@@ -100,11 +100,11 @@ impl<'a> LaneMaker<'a> {
     ghost use Rattle.run_shell.specs.Outputs.{blank};
     ghost use Rattle.lane_commands.specs.Making.{GaveLanes};
 
-    /// A maker that gave nothing yet.
+    /// Creates a maker that gave nothing yet.
     ///
     /// # Errors
     ///
-    /// `OutOfMemory` where memory ran out, and nowhere else.
+    /// `OutOfMemory` if memory ran out, and only then.
     pub fn new(alloc: Global, inputs: &'a StripeInputs) -> Result<LaneMaker<'a>, OutOfMemory>
         ensures inputs { IfOk result (λ m. m.inputs.now ≡ inputs.now) }
         ensures fresh { IfOk result (λ m. GaveLanes m.inputs.now m.lanes m.group.items m.slots (blank (lane_names (string_bytes m.inputs.now.plan.out) m.inputs.now.plan.link.lanes))) }

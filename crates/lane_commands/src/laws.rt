@@ -1,7 +1,7 @@
 //! Laws on what `stripe` makes.
 ghost use Rattle.lane_commands.specs.StripeLaws.{GroupStays, NoWordsNoBytes, StripeSendsBurst, TagsAreRead, ThreeFillAGroup, WordsStripeOnce};
 
-/// `stripe` after `burst` of one plan creates the lane files that `send` of the plan creates, where the words file is within the
+/// `stripe` after `burst` of one plan creates the lane files that `send` of the plan creates, if the words file is within the
 /// limit of words files.
 pub fn stripe_sends_burst()
     ensures { StripeSendsBurst }

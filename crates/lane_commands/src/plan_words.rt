@@ -30,7 +30,7 @@ pub struct StripeInputs {
 // proof: a function that drops one by itself is slow to prove
 pub fn let_go(_plan: Plan) {}
 
-// The words of a plan's words file.
+// Reads the words of a plan's words file.
 fn read_words<S: Store>(alloc: Global, store: &mut S, plan: &Plan) -> Result<SentFile, Stop>
     requires { S.faults store.old < 2 ^ 60 }
     ensures cause { StopCount result (S.faults store.old) (S.faults store.new) }
@@ -41,8 +41,12 @@ fn read_words<S: Store>(alloc: Global, store: &mut S, plan: &Plan) -> Result<Sen
     read_sent_words_file(alloc, store, name.as_str())
 }
 
-/// The plan of this name, and then the words of its words file, each read and checked whole before the next. The first that is
-/// absent, too large or refused is refused, unless the store fails or memory runs out. The files are as they were.
+/// Reads the plan of this name, and then the words of its words file. Each is read and checked whole before the next. The files are
+/// unchanged.
+///
+/// # Errors
+///
+/// Unless the store fails or memory runs out: the refusal of the first of the two that is absent, too large or refused.
 pub fn read_plan_words<S: Store>(
     alloc: Global,
     store: &mut S,

@@ -10,8 +10,12 @@ use run_stops::{InputError, Stop, input_stop, read_input};
 use std::alloc::Global;
 use words_files::SentFile;
 
-/// The words of the words file of this name. It is refused exactly where it is absent, has more than 1,073,741,824 bytes, or has a
-/// word that was not sent or is not whole, unless the store fails or memory runs out. The files are as they were.
+/// Reads the words of the words file of this name. The files are unchanged.
+///
+/// # Errors
+///
+/// Unless the store fails or memory runs out: `Input` if the file is absent, has more than 1,073,741,824 bytes, or has a word that was
+/// not sent or is not whole, and only then.
 pub fn read_sent_words_file<S: Store>(
     alloc: Global,
     store: &mut S,
@@ -23,8 +27,5 @@ pub fn read_sent_words_file<S: Store>(
     ensures reads { IfSome (S.files store.old) (λ files. Reads (λ words. words) (λ n. n ≡ name.now) result (sent_words_in files name.now)) }
 {
     let bytes = read_input(alloc, store, name, WORDS_LIMIT)?;
-    match SentFile::new(bytes) {
-        Ok(words) => Ok(words),
-        Err(why) => Err(input_stop(alloc, name, InputError::Words(why))),
-    }
+    SentFile::new(bytes).map_err(|why| input_stop(alloc, name, InputError::Words(why)))
 }

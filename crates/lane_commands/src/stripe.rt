@@ -13,7 +13,7 @@ use run_shell::{FileCommand, Finished, make_all};
 use run_stops::Stop;
 use std::alloc::Global;
 
-// The files of the lanes that carry the words of a plan.
+// Creates and fills the files of the lanes that carry the words of a plan.
 fn write_stripes<S: Store>(
     alloc: Global,
     store: &mut S,

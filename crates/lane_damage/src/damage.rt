@@ -1,4 +1,4 @@
-//! The lanes of a link on their way.
+//! Damage of the lanes of a link while their bytes pass.
 ghost use Rattle.std.specs.Prelude.{◌≡◌, IfOk};
 ghost use Rattle.lane_damage.specs.Calls.{AreUntouched, IsApplyOf, IsDarkOf, IsFlipOf};
 
@@ -8,7 +8,7 @@ use lk_base::OutOfMemory;
 use std::alloc::Global;
 use std::marker::Model;
 
-/// What happens to the lanes of a link on their way.
+/// Damages the lanes of a link while their bytes pass.
 #[derive(Drop)]
 pub struct Damage {
     lanes: Vec<LaneOnWay>,
@@ -23,7 +23,7 @@ impl Model for Damage {
     ghost view = { λ a. a.lanes.items };
 }
 
-// Lanes to which nothing happens.
+// Creates this many lanes without damage.
 fn untouched_lanes(alloc: Global, count: u32) -> Result<Vec<LaneOnWay>, OutOfMemory>
     ensures { IfOk result (λ v. AreUntouched count v.items) }
 {
@@ -35,11 +35,11 @@ fn untouched_lanes(alloc: Global, count: u32) -> Result<Vec<LaneOnWay>, OutOfMem
 }
 
 impl Damage {
-    /// Nothing happens so far to this many lanes.
+    /// Creates the damage of this many lanes, with no rows yet.
     ///
     /// # Errors
     ///
-    /// `OutOfMemory` where memory ran out, and nowhere else.
+    /// `OutOfMemory` if memory ran out, and only then.
     pub fn new(alloc: Global, lanes: u32) -> Result<Damage, OutOfMemory>
         ensures { IfOk result (λ damage. AreUntouched lanes damage) }
     {
@@ -51,7 +51,7 @@ impl Damage {
     ///
     /// # Errors
     ///
-    /// `NoLane`, `OutOfRange`, `Passed`, or `OutOfMemory`; the damage is then as it was.
+    /// `NoLane`, `OutOfRange`, `Passed`, or `OutOfMemory`. The damage is then unchanged.
     pub fn flip(&mut self, lane: u32, bit: u64) -> Result<(), Refused>
         ensures { IsFlipOf self.old self.new lane bit result }
     {
@@ -62,11 +62,11 @@ impl Damage {
         self.lanes[at].flip(bit)
     }
 
-    /// Makes this many bits of a lane 0 from one on, as far as they have not passed.
+    /// Makes `count` bits of a lane 0, from bit `first` on, as far as they have not passed.
     ///
     /// # Errors
     ///
-    /// `NoLane`, `OutOfRange`, `Passed`, or `OutOfMemory`; the damage is then as it was.
+    /// `NoLane`, `OutOfRange`, `Passed`, or `OutOfMemory`. The damage is then unchanged.
     pub fn dark(&mut self, lane: u32, first: u64, count: u64) -> Result<(), Refused>
         ensures { IsDarkOf self.old self.new lane first count result }
     {
@@ -81,7 +81,7 @@ impl Damage {
     ///
     /// # Errors
     ///
-    /// `NoLane` or `TooMany`; the damage and the bytes are then as they were.
+    /// `NoLane` or `TooMany`. The damage and the bytes are then unchanged.
     pub fn apply(&mut self, lane: u32, bytes: &mut [u8]) -> Result<(), Refused>
         ensures { IsApplyOf self.old self.new lane bytes.old bytes.new result }
     {

@@ -1,19 +1,17 @@
-//! One lane on its way.
+//! Damage of one lane while its bytes pass.
 ghost use Rattle.std.specs.Prelude.{◌≡◌, ◌*◌};
 ghost use Rattle.lane_damage.specs.OnWay.{IsApply, IsDark, IsFlip, dark_refusal, flip_refusal, from_bit, piece_refusal, untouched};
 
 use crate::refused::Refused;
 use crate::rows::{Stretch, damage, keep_darks, keep_flips};
+use lane_model::LANE_BYTES_LIMIT;
 use std::alloc::Global;
 use std::marker::Model;
 
-// A bit of a lane is below this, and so is the first bit after a stretch, or equal.
+// Every bit of a lane is below this, and no stretch ends after it.
 const BITS_LIMIT: u64 = 1 << 44;
 
-// No lane takes more bytes once it has this many, and no piece of one is as long.
-const LANE_BYTES_LIMIT: usize = 1 << 40;
-
-/// A lane of which some bytes have passed, and the rows that name later bits of it.
+/// Damages a lane of which some bytes have passed, by the rows that name later bits of it.
 #[derive(Drop)]
 pub struct LaneOnWay {
     passed: usize,
@@ -34,7 +32,7 @@ impl Model for LaneOnWay {
 }
 
 impl LaneOnWay {
-    /// A lane of which no byte has passed, and to which nothing happens.
+    /// Creates a lane without damage of which no byte has passed.
     pub fn new(alloc: Global) -> LaneOnWay
         ensures { result ≡ untouched }
     {
@@ -45,14 +43,14 @@ impl LaneOnWay {
         }
     }
 
-    // The first bit that has not passed.
+    // Returns the number of the first bit that has not passed.
     fn next_bit(&self) -> u64
         ensures { result ≡ 8 * self.now.passed }
     {
         8 * self.passed as u64
     }
 
-    // Why a flip is refused.
+    // Returns why a flip is refused, if it is.
     fn flip_refusal(&self, bit: u64) -> Option<Refused>
         ensures { result ≡ flip_refusal self.now bit }
     {
@@ -76,7 +74,7 @@ impl LaneOnWay {
         Ok(())
     }
 
-    // Why a dark stretch is refused.
+    // Returns why a dark stretch is refused, if it is.
     fn dark_refusal(&self, first: u64, count: u64) -> Option<Refused>
         ensures { result ≡ dark_refusal self.now first count }
     {
@@ -89,7 +87,7 @@ impl LaneOnWay {
         None
     }
 
-    /// Makes this many bits 0 from one on, as far as they have not passed.
+    /// Makes `count` bits 0, from bit `first` on, as far as they have not passed.
     pub fn dark(&mut self, first: u64, count: u64) -> Result<(), Refused>
         ensures { IsDark self.old self.new first count result }
     {
@@ -104,7 +102,7 @@ impl LaneOnWay {
         Ok(())
     }
 
-    // Why a piece of this many bytes is refused.
+    // Returns why a piece of this many bytes is refused, if it is.
     fn piece_refusal(&self, count: usize) -> Option<Refused>
         ensures { result ≡ piece_refusal self.now count }
     {
@@ -114,7 +112,7 @@ impl LaneOnWay {
         None
     }
 
-    // Forgets the rows of which all bits have passed.
+    // Removes the rows of which all bits have passed.
     fn forget(&mut self)
         ensures { self.new ≡ record self.old { damage = from_bit (8 * self.old.passed) self.old.damage } }
     {

@@ -5,19 +5,21 @@ ghost use Rattle.lane_damage.specs.CallsLaw.{JoinsToTheDamagedLane};
 ghost use Rattle.lane_damage.specs.OnWay.{dark_from, dark_refusal, flip_refusal, unharmed, untouched};
 ghost use Rattle.lane_damage.specs.declared.refused.Refused.TheVariants.{OutOfRange, Passed};
 
-/// After any calls, in any order and on any lanes, with refused ones among them, the bytes that a lane's became, joined, are those of the
-/// damaged lane: by all rows that were not refused, of each stretch the bits that had not passed.
+/// States that the damaged pieces of a lane, joined, are the damaged lane. Its rows are all that were not refused, of each stretch the
+/// bits that had not passed. The calls come in any order and on any lanes, refused ones among them.
 pub fn joins_to_the_damaged_lane()
     ensures { JoinsToTheDamagedLane }
 {}
 
-/// Two flips of one bit cancel each other, a dark bit is 0 whatever flips name it, and bits are counted from the start of the lane.
+/// Shows that two flips of one bit cancel each other, that a dark bit is 0 whatever flips name it, and that bits are counted from the
+/// start of the lane.
 pub fn worked_pieces()
     ensures flips { damaged_from (record { skew = 0; flips = 9 ∷ 9 ∷ 10 ∷ 1 ∷ []; darks = [] }) 8 (replicate 4 true) ≡ true ∷ true ∷ false ∷ true ∷ [] }
     ensures dark { damaged_from (record { skew = 0; flips = 9 ∷ []; darks = record { first = 9; count = 2 } ∷ [] }) 8 (replicate 4 true) ≡ true ∷ false ∷ false ∷ true ∷ [] }
 {}
 
-/// After two bytes bit 15 has passed and bit 16 has not; of a stretch that has begun the rest is left; no lane has bit 2^44.
+/// Shows that after two bytes bit 15 has passed and bit 16 has not, that of a stretch that has begun the rest is left, and that no lane
+/// has bit 2^44.
 pub fn worked_refusals()
     ensures passed { flip_refusal (record { passed = 2; damage = unharmed }) 15 ≡ Some Passed }
     ensures next { flip_refusal (record { passed = 2; damage = unharmed }) 16 ≡ None }

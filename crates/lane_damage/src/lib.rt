@@ -1,5 +1,4 @@
-//! Damage of lanes on their way: flips and dark stretches of bits, counted from the first of each lane, while its bytes pass piece by
-//! piece.
+//! Damage of lanes, piece by piece: flips and dark stretches of bits, counted from the first bit of each lane.
 #![tactic(auto)]
 
 mod damage;

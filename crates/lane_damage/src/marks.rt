@@ -11,7 +11,7 @@ pub fn invert(bytes: &mut [u8], place: usize)
     bytes[place / 8] ^= 128 >> (place % 8);
 }
 
-// The byte whose bits from `low` up to below `high` are 1.
+// Returns the byte whose bits `low..high` are 1.
 fn mask(low: u32, high: u32) -> u8
     requires low { low ≤ high }
     requires high { high ≤ 8 }
@@ -20,7 +20,7 @@ fn mask(low: u32, high: u32) -> u8
     ((255u32 >> (8 - high)) - (255u32 >> (8 - low))) as u8
 }
 
-// Makes bits of one byte 0, from one place up to below another.
+// Makes the bits `from..to` 0, which are in one byte.
 fn clear_within(bytes: &mut [u8], from: usize, to: usize)
     requires some { from < to }
     requires one { to ≤ 8 * (from / 8) + 8 }
@@ -33,7 +33,7 @@ fn clear_within(bytes: &mut [u8], from: usize, to: usize)
     bytes[from / 8] &= keep;
 }
 
-/// Makes bits 0, from one place up to below another.
+/// Makes the bits `from..to` 0.
 pub fn clear(bytes: &mut [u8], from: usize, to: usize)
     requires order { from ≤ to }
     requires there { to ≤ 8 * length bytes.old }

@@ -1,13 +1,13 @@
-//! Why a call is refused.
+//! The reasons for which a call is refused.
 
 use std::alloc::AllocFailed;
 
-/// Why a call is refused.
+/// The reason for which a call is refused.
 #[derive(Clone, Copy, Debug, PartialEq, Eq)]
 pub enum Refused {
-    /// There is no such lane.
+    /// No lane has this number.
     NoLane,
-    /// It names a bit that no lane has, one from 2^44 on.
+    /// It names a bit that no lane has, of number 2^44 or higher.
     OutOfRange,
     /// All bits that it names have passed.
     Passed,

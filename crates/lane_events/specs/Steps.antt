@@ -14,6 +14,7 @@ use Rattle.lane_events.specs.declared.types.EventKind.TheVariants as kinds
 use Rattle.lane_events.specs.declared.types.LaneEvent.{LaneEvent}
 use Rattle.lane_events.specs.Balance.{balance_after}
 use Rattle.lane_events.specs.Events.{all_kinds, is_no_skip, is_skip_place, is_unhealthy, loss_kind}
+pub use Rattle.metaframe.specs.Writing.{is_payload as is_payload_place}
 
 -- the event of this kind of a word at this bit position
 abbrev pub event_of : ℕ → EventKind → LaneEvent
@@ -54,13 +55,6 @@ told (steps.Lost why at) before after unbalances = event_of at (loss_kind (after
 told steps.Ended before after unbalances = []
 
 -- ---- the steps that show nothing but a balance
-
-abbrev pub is_payload_place : Role → Bool
-is_payload_place roles.Sync = false
-is_payload_place roles.State = false
-is_payload_place roles.Skip = false
-is_payload_place (roles.Payload n) = true
-is_payload_place roles.Diagnostic = false
 
 -- a payload word with a legal header
 abbrev pub is_plain_word : RxWord → Role → Bool

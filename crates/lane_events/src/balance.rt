@@ -6,10 +6,10 @@ ghost use Rattle.lane_events.specs.Balance.{balance_after, balance_over as balan
 
 use lane_model::CODE_BITS;
 
-/// Over how many more ones than zeros, or zeros than ones, the codes of a lock are unbalanced.
+// How far apart the ones and the zeros in the codes of a lock may be: beyond it they are unbalanced.
 const MOST: i32 = 129;
 
-/// The ones less the zeros in a code of 67 bits.
+/// Returns the ones less the zeros in a code of 67 bits.
 pub fn excess_of(code: u128) -> i32
     requires { code < 2 ^ 67 }
     ensures value { result ≡ excess 67 (ones_in 67 code) }
@@ -19,7 +19,7 @@ pub fn excess_of(code: u128) -> i32
     2 * code.count_ones() as i32 - CODE_BITS as i32
 }
 
-/// The ones less the zeros after one code more, where they were never over 129 apart.
+/// Adds the ones less the zeros of one code more; `None` if they were or are now over 129 apart.
 pub fn balance_with(before: Option<i32>, code: u128) -> Option<i32>
     requires code { code < 2 ^ 67 }
     requires low { IfSome before (λ n. negsuc 128 ≤ℤ n) }
@@ -34,7 +34,7 @@ pub fn balance_with(before: Option<i32>, code: u128) -> Option<i32>
     }
 }
 
-/// The ones less the zeros after eight codes more, where they were never over 129 apart.
+/// Adds the ones less the zeros of eight codes more, one after another; `None` if they were or are then over 129 apart.
 #[inline(always)]
 pub fn balance_over(before: Option<i32>, codes: &[u128; 8]) -> Option<i32>
     requires codes { are_codes codes.now }
@@ -51,7 +51,7 @@ pub fn balance_over(before: Option<i32>, codes: &[u128; 8]) -> Option<i32>
     balance
 }
 
-// The same number, where it is not over 129 from 0.
+// Returns the number, if it is not over 129 from 0.
 fn within(n: i32) -> Option<i32>
     ensures value { result ≡ (if is_far_off n then None else Some n) }
     ensures low { IfSome result (λ n. negsuc 128 ≤ℤ n) }

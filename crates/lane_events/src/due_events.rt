@@ -7,7 +7,7 @@ use crate::types::LaneEvent;
 use crate::word_events::WordEvents;
 use std::marker::Model;
 
-/// The events of one word that are due: each is given once, in the order of the kinds.
+/// The events of one word that are due: each is returned once, in the order of the kinds.
 #[derive(Drop)]
 pub struct DueEvents {
     word: WordEvents,

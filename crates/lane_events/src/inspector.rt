@@ -16,7 +16,7 @@ use crate::told::{balance_after, balance_before, is_plain, told, unbalances};
 use crate::types::LaneEvent;
 use crate::windows::{code_in, last_of, number_at, pushed};
 use crate::word_events::WordEvents;
-use lane_lock::{Completed, LaneLock, eight_codes};
+use lane_lock::{Completed, EIGHT_CODES_BYTES, LaneLock, eight_codes};
 use lk_base::{Link, OutOfMemory, head, tail};
 use lock_model::{LaneReport, LaneStep};
 use std::alloc::Global;
@@ -25,19 +25,17 @@ use std::marker::Model;
 // How many bytes are taken at once: a word has 67 bits, so at most one ends within the 56 of seven bytes.
 const PIECE: usize = 7;
 
-// The words that are taken at once if they show nothing, and their bytes.
+// How many words are taken at once, if they show nothing.
 const WORDS: usize = 8;
 
-const WORDS_BYTES: usize = 67;
-
-/// What shows the events of one lane as its bytes come. It takes memory when it is made, and none after.
+/// Shows the events of one lane as its bytes arrive. It takes memory when it is created, and none after.
 #[derive(Drop)]
 pub struct LaneInspector {
     /// The locks of the bits so far.
     lock: LaneLock,
     /// The last 128 bits, the latest in bit 0.
     window: u128,
-    /// The ones less the zeros in the codes of the lock that goes on, where they were never unbalanced.
+    /// The ones less the zeros in the codes of the lock that goes on; `None` once they were unbalanced.
     balance: Option<i32>,
     /// The report after the last word that was not passed over. It counts what the report over all bits so far counts.
     counted: LaneReport,
@@ -55,7 +53,7 @@ impl Model for LaneInspector {
 }
 
 impl LaneInspector {
-    /// The inspector of a lane of which no bit came.
+    /// Creates the inspector of a lane of which no bit came.
     pub fn new(alloc: Global, link: &Link) -> Result<LaneInspector, OutOfMemory>
         ensures { IfOk result (λ v. Inspects v link.now [] × (v.taken ≡ 0) × AreLaneEvents link.now [] []) }
     {
@@ -69,9 +67,9 @@ impl LaneInspector {
         })
     }
 
-    /// Takes the next bytes of the lane, at most seven: the number is that of their bits, the first of them highest. Returns the events
-    /// of the one word that ends within them, if one does: these come right after the events of the bytes before. At most 2^60 bits
-    /// come in all.
+    /// Takes the next `count` bytes of the lane, 1 to 7: `bits` is the number of their bits, the first of them highest. Returns the
+    /// events of the one word that ends within them, if one does: the next ones after the events of the bytes before. At most 2^60
+    /// bits come in all.
     pub fn take(&mut self, bits: u64, count: u32) -> WordEvents
         requires some { 1 ≤ count }
         requires most { count ≤ 7 }
@@ -90,7 +88,7 @@ impl LaneInspector {
         WordEvents::new(0)
     }
 
-    // Takes the next bytes, at most seven, and gives the word that ends within them. Its step is neither told nor passed over yet.
+    // Takes the next bytes, at most seven, and returns the word that ends within them. Its step is neither told nor passed over yet.
     #[inline(always)]
     fn push(&mut self, bits: u64, count: u32) -> Option<Completed>
         requires some { 1 ≤ count }
@@ -105,7 +103,7 @@ impl LaneInspector {
         self.lock.take_bytes(bits, count)
     }
 
-    // The code of the word after which this many bits came.
+    // Returns the code of the word after which `further` bits came.
     fn code(&self, further: u32) -> u128
         requires { further ≤ 55 }
         ensures value { result ≡ self.now.window / 2 ^ further % 2 ^ 67 }
@@ -114,7 +112,7 @@ impl LaneInspector {
         code_in(self.window, further)
     }
 
-    // The events of the word of a step after which this many bits came, given the report after it.
+    // Returns the events of the word of a step after which `further` bits came, given the report after it.
     fn shown(&mut self, after: &LaneReport, step: LaneStep, further: u32) -> WordEvents
         requires { further ≤ 55 }
         ensures { IsShown self.old self.new self.old.counted after.now step further result }
@@ -128,7 +126,7 @@ impl LaneInspector {
         events
     }
 
-    // Passes over the word of a step after which this many bits came, if it shows nothing, and returns whether it does.
+    // Passes over the word of a step after which `further` bits came, if it shows nothing. True if it passed over it.
     #[inline(always)]
     fn passes(&mut self, step: LaneStep, further: u32) -> bool
         requires { further ≤ 55 }
@@ -144,7 +142,7 @@ impl LaneInspector {
         self.keeps_balance(further)
     }
 
-    // Counts the code of the covered word after which this many bits came, unless it unbalances the lock. Returns whether it does not.
+    // Counts the code of the covered word after which `further` bits came. False, and nothing is counted, if it unbalances the lock.
     #[inline(always)]
     fn keeps_balance(&mut self, further: u32) -> bool
         requires { further ≤ 55 }
@@ -162,8 +160,8 @@ impl LaneInspector {
         true
     }
 
-    // Writes the events of the word of a step after which this many bits came, and returns whether it shows any. Few words come to it: it
-    // is kept out of the loops.
+    // Writes the events of the word of a step after which `further` bits came. True if it shows any. Few words do: so this call is
+    // kept out of the loops.
     #[inline(never)]
     fn tell(&mut self, step: LaneStep, further: u32, events: &mut WordEvents) -> bool
         requires { further ≤ 55 }
@@ -178,8 +176,8 @@ impl LaneInspector {
         true
     }
 
-    // Takes the next bytes, at most seven. Returns whether the word that ends within them shows events, and writes these if it does. Few
-    // words show some: so the caller has room for them, and its loop makes none for the others.
+    // Takes the next bytes, at most seven. True if the word that ends within them shows events, which are then written. Few words show
+    // some: so the caller has room for them, and its loop makes none for the others.
     #[inline(always)]
     fn next_events(&mut self, bits: u64, count: u32, events: &mut WordEvents) -> bool
         requires some { 1 ≤ count }
@@ -200,8 +198,8 @@ impl LaneInspector {
         self.tell(word.step, further, events)
     }
 
-    /// Takes the next byte of the lane, and returns the events of the word that ends within it, if one does. At most 2^60 bits come in
-    /// all.
+    /// Takes the next byte of the lane, and returns the events of the word that ends within it, if one does. At most 2^60 bits come
+    /// in all.
     pub fn byte(&mut self, byte: u8) -> WordEvents
         requires few { self.old.taken + 8 ≤ 2 ^ 60 }
         ensures taken { self.new.taken ≡ self.old.taken + 8 }
@@ -213,8 +211,8 @@ impl LaneInspector {
     }
 
     /// Takes the next bytes of the lane, up to a word that shows events, and takes no memory. Returns how many bytes it took, and the
-    /// events of that word: these come right after the events of the bytes before. `None` says that no word shows any: then all bytes
-    /// were taken. Else the word ends within the last seven bytes that were taken. At most 2^60 bits come in all.
+    /// events of that word: the next ones after the events of the bytes before. If no word shows any, it takes all bytes and returns
+    /// `None`; otherwise the word ends within the last seven bytes that it took. At most 2^60 bits come in all.
     pub fn take_until_events(&mut self, bytes: &[u8]) -> (usize, Option<WordEvents>)
         requires few { self.old.taken + 8 * length bytes.now ≤ 2 ^ 60 }
         ensures within { result.0 ≤ length bytes.now }
@@ -241,7 +239,7 @@ impl LaneInspector {
         (bytes.len(), None)
     }
 
-    // Takes eight payload words of a declared lock at once by their codes, if they show nothing. Returns whether it did; if not, nothing
+    // Takes eight payload words of a declared lock at once by their codes, if they show nothing. True if it took them; if not, nothing
     // changes.
     #[inline(always)]
     fn passes_codes(&mut self, codes: &[u128; 8]) -> bool
@@ -264,7 +262,7 @@ impl LaneInspector {
         true
     }
 
-    // Takes the next eight words at once, if they are payload words that begin with this byte and show nothing. Returns whether it did;
+    // Takes the next eight words at once, if they are payload words that begin with byte `at` and show nothing. True if it took them;
     // if not, nothing changes.
     #[inline(always)]
     fn passes_words(&mut self, bytes: &[u8], at: usize) -> bool
@@ -275,14 +273,14 @@ impl LaneInspector {
         ensures goes_on { result ≡ true → GoesOn self.old self.new (bits_of_bytes (take 67 (drop at bytes.now))) [] }
         ensures same { result ≡ false → self.new ≡ self.old }
     {
-        if bytes.len() - at < WORDS_BYTES || self.lock.payloads_left() < WORDS {
+        if bytes.len() - at < EIGHT_CODES_BYTES || self.lock.payloads_left() < WORDS {
             return false;
         }
-        self.passes_codes(&eight_codes(head(tail(bytes, at), WORDS_BYTES)))
+        self.passes_codes(&eight_codes(head(tail(bytes, at), EIGHT_CODES_BYTES)))
     }
 
-    // How many bytes are taken next: seven, or fewer if the next word ends with one of them. So no word that begins with a byte is
-    // missed.
+    // Returns how many bytes are taken next: seven, or fewer if the next word ends with one of them. So no word that begins with a
+    // byte is missed.
     #[inline(always)]
     fn piece(&self) -> usize
         ensures some { 1 ≤ result }
@@ -312,7 +310,7 @@ impl LaneInspector {
         let mut at = 0;
         while bytes.len() - at > PIECE {
             if self.passes_words(bytes, at) {
-                at += WORDS_BYTES;
+                at += EIGHT_CODES_BYTES;
                 continue;
             }
             let count = self.piece();
@@ -366,7 +364,7 @@ impl LaneInspector {
         Ok(count)
     }
 
-    /// The report over the bits so far.
+    /// Returns the report over the bits so far.
     pub fn report(&self) -> LaneReport
         ensures { (s : Settings) (bits : List Bool) → Inspects self.now s bits → IsReport s bits result }
     {

@@ -17,7 +17,7 @@ pub fn events_are_counted()
     ensures { EventsAreCounted }
 {}
 
-/// The codes of a sender are never unbalanced, wherever its disparity stood when a lock was declared.
+/// The codes of a sender are never unbalanced, whatever its disparity was when a lock was declared.
 pub fn senders_are_balanced()
     ensures { SendersAreBalanced }
 {}

@@ -1,4 +1,5 @@
-//! The events of one lane: what is wrong with the words that its locks cover, and where locks are declared and lost; and an inspector that gives them as the bytes of the lane come.
+//! The events of one lane: what is wrong with the words that its locks cover, and that locks are declared and lost. An inspector shows
+//! them as the bytes of the lane arrive.
 #![tactic(auto)]
 
 mod balance;

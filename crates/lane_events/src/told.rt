@@ -14,7 +14,7 @@ use lane_model::{Role, SKIP, SYNC};
 use lk_base::RxWord;
 use lock_model::{LaneReport, LaneStep, LostWhy};
 
-/// Returns the events of the word of a step, given the reports before and after it, and whether its code unbalances its lock.
+/// Returns the events of the word of a step, given the reports before and after it. `unbalances` if its code unbalances its lock.
 pub fn told(step: LaneStep, before: &LaneReport, after: &LaneReport, unbalances: bool) -> WordEvents
     ensures { events_in result ≡ told_of step before.now after.now unbalances }
 {
@@ -34,7 +34,7 @@ pub fn told(step: LaneStep, before: &LaneReport, after: &LaneReport, unbalances:
     }
 }
 
-/// Whether a covered word shows nothing but a balance: a payload word with a legal header.
+/// True if a covered word can cause no event but balance: a payload word with a legal header.
 pub fn is_plain(word: RxWord, role: Role) -> bool
     ensures { result ≡ plain_word word role }
 {
@@ -44,7 +44,7 @@ pub fn is_plain(word: RxWord, role: Role) -> bool
     matches!(role, Role::Payload(_))
 }
 
-/// The balance before the word of a step: that of no code at a declaring Sync.
+/// Returns the balance before the word of a step: that of no code at a declaring Sync.
 pub fn balance_before(step: LaneStep, balance: Option<i32>) -> Option<i32>
     requires { IfSome balance (λ n. (negsuc 128 ≤ℤ n) × (n ≤ℤ pos 129)) }
     ensures value { result ≡ before_step step balance }
@@ -59,7 +59,7 @@ pub fn balance_before(step: LaneStep, balance: Option<i32>) -> Option<i32>
     }
 }
 
-/// The balance after it, where it has this code.
+/// Returns the balance after the word of a step, given its code.
 pub fn balance_after(step: LaneStep, balance: Option<i32>, code: u128) -> Option<i32>
     requires code { code < 2 ^ 67 }
     requires bound { IfSome balance (λ n. (negsuc 128 ≤ℤ n) × (n ≤ℤ pos 129)) }
@@ -82,7 +82,7 @@ pub fn unbalances(before: Option<i32>, after: Option<i32>) -> bool
     before.is_some() && after.is_none()
 }
 
-// The events of a covered word.
+// Makes the events of a covered word.
 fn covered(
     bit: u64,
     word: RxWord,
@@ -121,7 +121,7 @@ fn push_if(kinds: &mut ArrayVec<EventKind, 12>, has: bool, kind: EventKind)
     }
 }
 
-// The event of a losing word.
+// Makes the event of a losing word.
 fn lost(bit: u64, kind: EventKind) -> WordEvents
     ensures { events_in result ≡ event_of bit kind ∷ [] }
 {
@@ -130,7 +130,7 @@ fn lost(bit: u64, kind: EventKind) -> WordEvents
     WordEvents { bit, kinds }
 }
 
-// The kind of the loss of a declared lock, or of a search.
+// Returns the kind of the loss of a declared lock, or of a search.
 fn loss_kind(declared: bool, why: LostWhy) -> EventKind
     ensures { result ≡ kind_of_loss declared why }
 {
@@ -145,7 +145,7 @@ fn loss_kind(declared: bool, why: LostWhy) -> EventKind
     }
 }
 
-// Whether a descrambled word is neither Bad nor the Skip word that is sent.
+// True if a descrambled word is neither Bad nor the Skip word that is sent.
 fn is_no_skip(word: RxWord) -> bool
     ensures { result ≡ no_skip word }
 {
@@ -156,7 +156,7 @@ fn is_no_skip(word: RxWord) -> bool
     }
 }
 
-// Whether a descrambled Diagnostic word does not have both health bits.
+// True if a descrambled Diagnostic word lacks one of the two health bits.
 fn is_unhealthy(word: RxWord) -> bool
     ensures { result ≡ unhealthy word }
 {

@@ -1,7 +1,7 @@
 ghost use Rattle.std.specs.Prelude.{◌≡◌};
 ghost use Rattle.lane_events.specs.Names.{name_of};
 
-/// What a lane shows at a word: what is wrong with a word that a lock covers, and where locks are declared and lost. The order is
+/// What a lane shows at a word: what is wrong with a word that a lock covers, and that a lock is declared or lost. The order is
 /// that of the events of one word.
 #[derive(Clone, Copy, Debug, PartialEq, Eq)]
 pub enum EventKind {
@@ -9,7 +9,7 @@ pub enum EventKind {
     Bad,
     /// A covered word at the place of a Sync word is not Sync.
     Sync,
-    /// A covered word at the place of a Scrambler State word is not that of the running key.
+    /// A covered word at the place of a Scrambler State word is not the one of the running key.
     State,
     /// A covered word at the place of a Skip word is, descrambled, neither Bad nor the Skip word that is sent.
     Skip,
@@ -47,14 +47,14 @@ impl Default for EventKind {
 
     ghost is_default = { λ kind. kind ≡ EventKind.Bad };
 
-    /// The first kind: what a list of kinds contains where it has no kind yet.
+    /// Returns the first kind: a list of kinds contains it in the places that have no kind yet.
     fn default() -> Self {
         EventKind::Bad
     }
 }
 
 impl EventKind {
-    /// The kind's name, as it stands in the table of events.
+    /// Returns the name of the kind, as written in the table of events.
     pub fn name(self) -> &'static str
         ensures { result.now ≡ name_of self }
     {

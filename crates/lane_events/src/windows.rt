@@ -5,7 +5,7 @@ ghost use Rattle.lane_lock.specs.Run.{are_codes};
 use lane_model::CODE_BITS;
 use lk_base::{eight_at, head, tail};
 
-/// The number of the bits of at most seven bytes, the first of them highest.
+/// Returns the number of the bits of at most seven bytes, the first of them highest.
 pub fn number_of(piece: &[u8]) -> u64
     requires { length piece.now ≤ 7 }
     ensures bits { bits_of (8 * length piece.now) result ≡ bits_of_bytes piece.now }
@@ -18,7 +18,7 @@ pub fn number_of(piece: &[u8]) -> u64
     bits
 }
 
-/// The number of the bits of this many bytes, at most seven, from this place on, the first of them highest.
+/// Returns the number of the bits of `count` bytes, 1 to 7, from the place `at` on, the first of them highest.
 #[inline(always)]
 pub fn number_at(bytes: &[u8], at: usize, count: usize) -> u64
     requires some { 1 ≤ count }
@@ -33,7 +33,7 @@ pub fn number_at(bytes: &[u8], at: usize, count: usize) -> u64
     first_of(eight_at(bytes, at), count as u32)
 }
 
-// The number of the first bits of eight bytes, those of this many bytes.
+// Returns the number of the first bits of eight bytes: those of `count` bytes.
 #[inline(always)]
 fn first_of(bits: u64, count: u32) -> u64
     requires some { 1 ≤ count }
@@ -44,7 +44,7 @@ fn first_of(bits: u64, count: u32) -> u64
     bits >> (64 - 8 * count)
 }
 
-/// The last 128 bits after this many bits more, the latest in bit 0.
+/// Returns the last 128 bits after `count` bits more, the latest in bit 0.
 pub fn pushed(window: u128, bits: u64, count: u32) -> u128
     requires most { count ≤ 56 }
     requires bits { bits < 2 ^ count }
@@ -54,7 +54,7 @@ pub fn pushed(window: u128, bits: u64, count: u32) -> u128
     window << (count % 64) | bits as u128
 }
 
-/// The code whose last bit stands before the last `after` bits.
+/// Returns the code whose last bit is the one before the last `after` bits.
 pub fn code_in(window: u128, after: u32) -> u128
     requires { after ≤ 55 }
     ensures value { result ≡ window / 2 ^ after % 2 ^ 67 }
@@ -63,7 +63,7 @@ pub fn code_in(window: u128, after: u32) -> u128
     window >> (after % 64) & ((1 << CODE_BITS) - 1)
 }
 
-/// The last 128 bits of eight codes, the latest in bit 0.
+/// Returns the last 128 bits of eight codes, the latest in bit 0.
 pub fn last_of(codes: &[u128; 8]) -> u128
     requires { are_codes codes.now }
     ensures { result ≡ (get_or codes.now 6 0 * 2 ^ 67 + get_or codes.now 7 0) % 2 ^ 128 }

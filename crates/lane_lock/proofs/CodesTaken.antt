@@ -1,13 +1,10 @@
 -- Payload words that are taken by their codes.
-use Rattle.std.proofs.Common.{ℕ, zero, suc, ◌≡◌, refl, sym, ap, subst, ◌∙◌, ◌+◌, ◌*◌, ◌^◌, ◌<◌, ◌≤◌, ◌==◌, ◌&&◌, cond, Bool, true, false, List, [], ◌∷◌, ◌++◌, length, map, take, drop, set, get_or, arith}
+use Rattle.std.proofs.Common.{ℕ, zero, suc, ◌≡◌, refl, sym, ap, subst, ◌∙◌, ◌+◌, ◌*◌, ◌^◌, ◌<◌, ◌≤◌, ◌==◌, ◌&&◌, not, cond, Bool, true, false, List, [], ◌∷◌, ◌++◌, length, map, take, drop, set, get_or, arith}
 use Rattle.std.proofs.Math.Seq.{take-add}
 use Rattle.std.proofs.lemmas.Bool.{and_parts, eqb-true, false≢true}
 use Rattle.std.proofs.lemmas.Grind.{take-set_at}
-use Rattle.std.proofs.lemmas.List.{take_more}
 use Rattle.lk_base.specs.Checksum.{bits_of}
-use Rattle.lk_base.specs.Words.{is_bad}
-use Rattle.lk_base.specs.declared.word.RxWord.{RxWord}
-use Rattle.lane_model.specs.Coding.{word_of_code}
+use Rattle.lane_model.specs.Coding.{is_legal, word_of_code}
 use Rattle.lane_model.specs.Key.{key_word, start_of}
 use Rattle.lane_model.specs.LaneBits.{bits_of_codes}
 use Rattle.coding_67b.proofs.Runs.{code_more}
@@ -16,11 +13,12 @@ use Rattle.lane_lock.specs.Lane.{LaneView}
 use Rattle.lane_lock.specs.Run.{RunState, all_legal, are_codes, keyed_word, lane_ran, run_of, watch_ran, word_ran, words_ran}
 use Rattle.lane_lock.specs.Taken.{TakesCodes, payloads_next}
 use Rattle.lane_lock.specs.Watch.{payloads_ahead}
-use Rattle.lane_lock.proofs.EightWords.{codes_more, legal_more, means_more}
+use Rattle.lane_lock.proofs.EightWords.{code_legal, codes_more}
 use Rattle.lane_lock.proofs.KeyedWords.{bad_unscrambled}
 use Rattle.lane_lock.proofs.PayloadRuns.{ahead_taken, code_taken, none_ran}
 use Rattle.lane_lock.proofs.PayloadWords.{some_where}
-use Rattle.lane_lock.proofs.RunsReached.{last_code}
+use Rattle.lane_lock.proofs.RunsReached.{last_code, last_is}
+use Rattle.lane_lock.proofs.WatchSteps.{bad_is_illegal}
 
 -- ---- codes that are read one after another
 
@@ -43,36 +41,26 @@ first_more codes place code given k here low bits long =
       long = long;
     }
 
--- ---- their words
+-- ---- their headers
 
--- the first of them are those of the first codes, and legal
-pub record AreLegal (words : List RxWord) (place : ℕ) (codes : List ℕ) : Type 0 where
-  pub means : take place words ≡ map word_of_code (take place codes)
-  pub legal : all_legal (take place words)
-  pub long : length words ≡ 8
+-- whether the first of them have legal headers, as `legal` says
+abbrev pub AreLegal : Bool → ℕ → List ℕ → Type 0
+AreLegal legal place codes = (legal ≡ true → all_legal (take place (map word_of_code codes))) × (legal ≡ false → all_legal (map word_of_code codes) → ⊥)
 
-pub legal_next : (words : List RxWord) (codes : List ℕ) (place : ℕ) (word : RxWord) → AreLegal words place codes → place < 8 → length codes ≡ 8 → word ≡ word_of_code (get_or codes place 0) → is_bad word ≡ false →
-    length (set words place word) ≡ 8 → AreLegal (set words place word) (place + 1) codes
-legal_next words codes place word k here many is legal long =
-    let was = k.long in
-    let put : take (place + 1) (set words place word) ≡ take place words ++ word ∷ [] = take-set_at words place (place + 1) word refl (omega (arith, here, was)) in
-    record {
-      means = put ∙ ap (λ (x : List RxWord). x ++ word ∷ []) k.means ∙ ap (λ (w : RxWord). map word_of_code (take place codes) ++ w ∷ []) is
-          ∙ means_more (take place codes) (get_or codes place 0) ∙ ap (map word_of_code) (sym (take_more codes place 0 (omega (arith, here, many))));
-      legal = subst all_legal (sym put) (legal_more (take place words) word k.legal legal);
-      long = long;
-    }
+legal_first : (codes : List ℕ) (place : ℕ) → place < length codes → is_legal (get_or codes place 0) ≡ true → all_legal (take place (map word_of_code codes)) → all_legal (take (suc place) (map word_of_code codes))
+legal_first [] place here legal k = absurd (omega (arith, here))
+legal_first (code ∷ codes) zero here legal k = (sym (bad_is_illegal code) ∙ ap not legal, tt)
+legal_first (code ∷ codes) (suc place) here legal k = (k.0, legal_first codes place (omega (arith, here)) legal k.1)
 
-pub code_low : (codes : List ℕ) (place : ℕ) → place < length codes → are_codes codes → get_or codes place 0 < 2 ^ 67
-code_low [] place here low = absurd (omega (arith, here))
-code_low (code ∷ codes) zero here low = low.0
-code_low (code ∷ codes) (suc place) here low = code_low codes place (omega (arith, here)) low.1
+one_illegal : (codes : List ℕ) (place : ℕ) → place < length codes → is_legal (get_or codes place 0) ≡ false → all_legal (map word_of_code codes) → ⊥
+one_illegal codes place here bad legal = false≢true (sym (code_legal codes place here legal) ∙ sym (bad_is_illegal (get_or codes place 0)) ∙ ap not bad)
 
--- one that is not
-pub one_illegal : (codes : List ℕ) (place : ℕ) → place < length codes → is_bad (word_of_code (get_or codes place 0)) ≡ true → all_legal (map word_of_code codes) → ⊥
-one_illegal [] place here bad legal = omega (arith, here)
-one_illegal (code ∷ codes) zero here bad legal = false≢true (sym legal.0 ∙ bad)
-one_illegal (code ∷ codes) (suc place) here bad legal = one_illegal codes place (omega (arith, here)) bad legal.1
+pub legal_next : (codes : List ℕ) (place : ℕ) (so_far this : Bool) → place < length codes → this ≡ is_legal (get_or codes place 0) → AreLegal so_far place codes → AreLegal (so_far && this) (place + 1) codes
+legal_next codes place true true here is k =
+    let n : suc place ≡ place + 1 = omega arith in
+    (λ _. subst (λ (m : ℕ). all_legal (take m (map word_of_code codes))) n (legal_first codes place here (sym is) (k.0 refl)), λ e. absurd (false≢true (sym e)))
+legal_next codes place true false here is k = (λ e. absurd (false≢true e), λ _. one_illegal codes place here (sym is))
+legal_next codes place false this here is k = (λ e. absurd (false≢true e), λ _. k.1 refl)
 
 -- ---- they are taken
 
@@ -82,13 +70,6 @@ next_begins v some =
     let p = some_where (v.watching && (v.at == v.taken)) (payloads_ahead v.watch) some in
     let both = and_parts v.watching (v.at == v.taken) p.0 in
     (both.0, eqb-true v.at v.taken both.1, ap (λ (b : Bool). cond b (payloads_ahead v.watch) 0) p.0)
-
-last_is : (x : ℕ) (codes : List ℕ) (n : ℕ) → length codes ≡ suc n → last_code x codes ≡ get_or codes n 0
-last_is x [] n e = absurd (omega (arith, e))
-last_is x (code ∷ []) zero e = refl
-last_is x (code ∷ next ∷ codes) zero e = absurd (omega (arith, e))
-last_is x (code ∷ []) (suc n) e = absurd (omega (arith, e))
-last_is x (code ∷ next ∷ codes) (suc n) e = last_is code (next ∷ codes) n (omega (arith, e))
 
 takes_from : (v : LaneView) → v.watching ≡ true → v.at ≡ v.taken → (codes : List ℕ) (n last : ℕ) (run : RunState) → length codes ≤ payloads_ahead (watch_ran v.watch n run) → are_codes codes → all_legal (map word_of_code codes) →
     TakesCodes (lane_ran v n last run) (lane_ran v (n + length codes) (last_code last codes) (words_ran run (map word_of_code codes))) codes

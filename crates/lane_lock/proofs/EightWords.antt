@@ -1,90 +1,122 @@
--- The words of codes, one after another.
-use Rattle.std.proofs.Common.{ℕ, suc, ◌≡◌, refl, sym, ap, subst, ◌∙◌, ◌+◌, ◌*◌, ◌^◌, ◌<◌, ◌≤◌, Bool, false, List, [], ◌∷◌, ◌++◌, length, map, take, drop, set, get_or, arith, Option, Some, None}
-use Rattle.std.specs.Option.{IfSome}
-use Rattle.std.proofs.Math.Seq.{take-add}
+-- Words that are taken eight at a time by their codes.
+use Rattle.std.proofs.Common.{ℕ, zero, suc, ◌≡◌, refl, sym, ap, ap₂, ◌∙◌, ◌+◌, ◌*◌, ◌^◌, ◌<◌, ◌≤◌, ◌==◌, bit_xor, Bool, true, false, List, [], ◌∷◌, ◌++◌, length, map, take, set, get_or, arith}
+use Rattle.std.proofs.lemmas.Bool.{eqb-true, false≢true}
 use Rattle.std.proofs.lemmas.Grind.{take-set_at}
-use Rattle.std.proofs.lemmas.List.{length-append, take_more}
-use Rattle.lk_base.specs.Checksum.{bits_of, bits_of_words, register_after}
+use Rattle.std.proofs.lemmas.List.{length-take-le, map-append, take_all, take_more}
+use Rattle.lk_base.specs.Checksum.{bits_of_words, register_after}
 use Rattle.lk_base.specs.Words.{is_bad, number_of}
 use Rattle.lk_base.specs.declared.word.RxWord.{RxWord}
-use Rattle.lane_model.specs.Coding.{word_of_code}
-use Rattle.coding_67b.proofs.Runs.{code_more, no_codes}
+use Rattle.lane_model.specs.Coding.{header_in, payload_in, word_of_code}
+use Rattle.lane_model.specs.Key.{key_word, start_of}
+use Rattle.lane_model.specs.LaneBits.{bits_of_codes}
+use Rattle.lane_model.proofs.Numbers.{split}
+use Rattle.coding_67b.proofs.Runs.{codes_length}
 use Rattle.lane_lock.specs.Inside.{InsideState, payloads_left, with_key}
-use Rattle.lane_lock.specs.Run.{AreWordsOf, all_legal, are_codes, insides_ran, key_ran, keyed_word, keyed_words, next_state}
+use Rattle.lane_lock.specs.Run.{AreCodesOf, all_legal, are_codes, insides_ran, key_ran, keyed_word, keyed_words, next_state, word_with, words_with}
 use Rattle.lane_lock.proofs.WordsRan.{all_ran, key_more, keyed_more, polynomial, ran_on}
 
 -- ---- words of codes
-
-pub no_words : (given : List Bool) → AreWordsOf [] given
-no_words given = record { codes = []; below = tt; bits = no_codes; means = refl; legal = tt }
 
 pub codes_more : (codes : List ℕ) (code : ℕ) → are_codes codes → code < 2 ^ 67 → are_codes (codes ++ code ∷ [])
 codes_more [] code h k = (k, tt)
 codes_more (c ∷ codes) code h k = (h.0, codes_more codes code h.1 k)
 
-pub legal_more : (ws : List RxWord) (w : RxWord) → all_legal ws → is_bad w ≡ false → all_legal (ws ++ w ∷ [])
-legal_more [] w h k = (k, tt)
-legal_more (x ∷ ws) w h k = (h.0, legal_more ws w h.1 k)
-
-pub means_more : (codes : List ℕ) (code : ℕ) → map word_of_code codes ++ word_of_code code ∷ [] ≡ map word_of_code (codes ++ code ∷ [])
-means_more [] code = refl
-means_more (c ∷ codes) code = ap (λ (g : List RxWord). word_of_code c ∷ g) (means_more codes code)
-
-length-words : (codes : List ℕ) → length (map word_of_code codes) ≡ length codes
+pub length-words : (codes : List ℕ) → length (map word_of_code codes) ≡ length codes
 length-words [] = refl
 length-words (code ∷ codes) = ap suc (length-words codes)
 
-pub word_more : (ws : List RxWord) (word : RxWord) (code : ℕ) (given : List Bool) → AreWordsOf ws given → code < 2 ^ 67 → bits_of 67 code ≡ take 67 (drop (67 * length ws) given) → word ≡ word_of_code code →
-    is_bad word ≡ false → AreWordsOf (ws ++ word ∷ []) given
-word_more ws word code given k low bits is legal =
-    let long : length ws ≡ length k.codes = ap length k.means ∙ length-words k.codes in
-    let more : length (k.codes ++ code ∷ []) ≡ length k.codes + 1 = length-append k.codes (code ∷ []) in
-    let n : 67 * length k.codes + 67 ≡ 67 * length (k.codes ++ code ∷ []) = omega (arith, more) in
+-- eight codes of bytes, and of the bits that begin with those
+pub codes_of_bits : (codes : List ℕ) (some given : List Bool) → length codes ≡ 8 → are_codes codes → bits_of_codes codes ≡ some → take 536 some ≡ take 536 given → all_legal (map word_of_code codes) → AreCodesOf codes given
+codes_of_bits codes some given long below is e legal =
+    let n : 67 * length codes ≡ 536 = omega (arith, long) in
+    let m = codes_length codes in
     record {
-      codes = k.codes ++ code ∷ [];
-      below = codes_more k.codes code k.below low;
-      bits = code_more k.codes code ∙ ap (λ (x : List Bool). x ++ bits_of 67 code) k.bits
-          ∙ ap (λ (x : List Bool). take (67 * length k.codes) given ++ x) (bits ∙ ap (λ (m : ℕ). take 67 (drop (67 * m) given)) long)
-          ∙ sym (take-add (67 * length k.codes) 67 given) ∙ ap (λ (m : ℕ). take m given) n;
-      means = ap (λ (x : List RxWord). x ++ word ∷ []) k.means ∙ ap (λ (w : RxWord). map word_of_code k.codes ++ w ∷ []) is ∙ means_more k.codes code;
-      legal = legal_more ws word k.legal legal;
+      below = below;
+      bits = sym (take_all 536 (bits_of_codes codes) (omega (arith, m, n))) ∙ ap (take 536) is ∙ e ∙ ap (λ (k : ℕ). take k given) (sym n);
+      legal = legal;
     }
 
--- one word more of an array
-pub word_set : (ws : List RxWord) (place : ℕ) (word : RxWord) (code : ℕ) (given : List Bool) → AreWordsOf (take place ws) given → place < length ws → length (take place ws) ≡ place → code < 2 ^ 67 →
-    bits_of 67 code ≡ take 67 (drop (67 * place) given) → word ≡ word_of_code code → is_bad word ≡ false → AreWordsOf (take (place + 1) (set ws place word)) given
-word_set ws place word code given k here long low bits is legal =
-    subst (λ (x : List RxWord). AreWordsOf x given) (sym (take-set_at ws place (place + 1) word refl here))
-    (word_more (take place ws) word code given k low (bits ∙ ap (λ (m : ℕ). take 67 (drop (67 * m) given)) (sym long)) is legal)
+-- ---- one of some codes
 
--- only their own bits make a difference
-pub words_alike : (words : List RxWord) (some given : List Bool) (n : ℕ) → 67 * length words ≡ n → take n some ≡ take n given → AreWordsOf words some → AreWordsOf words given
-words_alike words some given n is e k =
-    let long : length words ≡ length k.codes = ap length k.means ∙ length-words k.codes in
-    let m : 67 * length k.codes ≡ n = omega (arith, is, long) in
-    record { codes = k.codes; below = k.below; bits = k.bits ∙ ap (λ (x : ℕ). take x some) m ∙ e ∙ ap (λ (x : ℕ). take x given) (sym m); means = k.means; legal = k.legal }
+pub code_low : (codes : List ℕ) (place : ℕ) → place < length codes → are_codes codes → get_or codes place 0 < 2 ^ 67
+code_low [] place here low = absurd (omega (arith, here))
+code_low (code ∷ codes) zero here low = low.0
+code_low (code ∷ codes) (suc place) here low = code_low codes place (omega (arith, here)) low.1
 
-pub eight_alike : (found : Option (List RxWord)) (some given : List Bool) → take 536 some ≡ take 536 given → IfSome found (λ words. (length words ≡ 8) × AreWordsOf words some) →
-    IfSome found (λ words. (length words ≡ 8) × AreWordsOf words given)
-eight_alike None some given e h = h
-eight_alike (Some words) some given e h = (h.0, words_alike words some given 536 (let n = h.0 in omega (arith, n)) e h.1)
+pub code_legal : (codes : List ℕ) (place : ℕ) → place < length codes → all_legal (map word_of_code codes) → is_bad (word_of_code (get_or codes place 0)) ≡ false
+code_legal [] place here legal = absurd (omega (arith, here))
+code_legal (code ∷ codes) zero here legal = legal.0
+code_legal (code ∷ codes) (suc place) here legal = code_legal codes place (omega (arith, here)) legal.1
+
+pub code_word : (codes : List ℕ) (place : ℕ) → get_or (map word_of_code codes) place (word_of_code 0) ≡ word_of_code (get_or codes place 0)
+code_word [] place = refl
+code_word (code ∷ codes) zero = refl
+code_word (code ∷ codes) (suc place) = code_word codes place
+
+-- ---- a code with a legal header
+
+pub legal_number : (state code : ℕ) → is_bad (word_of_code code) ≡ false → bit_xor (payload_in code) (key_word (start_of state) 0) ≡ number_of (keyed_word state (word_of_code code))
+unfolding word_of_code
+legal_number state code h =
+    split {b = (header_in code == 1)} (λ a. rw a refl) (λ a. split {b = (header_in code == 2)} (λ b. rw (a, b) refl)
+    (λ b. let t : is_bad (word_of_code code) ≡ true = rw (a, b) refl in absurd (false≢true (sym h ∙ t))))
+
+legal_with : (state code : ℕ) → is_bad (word_of_code code) ≡ false → word_with code (number_of (keyed_word state (word_of_code code))) ≡ keyed_word state (word_of_code code)
+unfolding word_of_code
+legal_with state code h =
+    split {b = (header_in code == 1)} (λ a. let e = eqb-true (header_in code) 1 a in rw e refl) (λ a. split {b = (header_in code == 2)} (λ b. let e = eqb-true (header_in code) 2 b in rw e refl)
+    (λ b. let t : is_bad (word_of_code code) ≡ true = rw (a, b) refl in absurd (false≢true (sym h ∙ t))))
+
+-- the numbers of words under the key, with the kinds of their codes
+pub keyed_with : (state : ℕ) (codes : List ℕ) → all_legal (map word_of_code codes) → words_with codes (map number_of (keyed_words state (map word_of_code codes))) ≡ keyed_words state (map word_of_code codes)
+keyed_with state [] h = refl
+keyed_with state (code ∷ codes) h = ap₂ (λ (w : RxWord) (ws : List RxWord). w ∷ ws) (legal_with state code h.0) (keyed_with (next_state state) codes h.1)
+
+-- one word more
+with_more : (codes numbers : List ℕ) (code number : ℕ) → length codes ≡ length numbers → words_with (codes ++ code ∷ []) (numbers ++ number ∷ []) ≡ words_with codes numbers ++ word_with code number ∷ []
+with_more [] [] code number long = refl
+with_more [] (n ∷ numbers) code number long = absurd (omega (arith, long))
+with_more (c ∷ codes) [] code number long = absurd (omega (arith, long))
+with_more (c ∷ codes) (n ∷ numbers) code number long = ap (λ (ws : List RxWord). word_with c n ∷ ws) (with_more codes numbers code number (omega (arith, long)))
+
+pub with_set : (codes numbers : List ℕ) (words : List RxWord) (place : ℕ) (word : RxWord) → take place words ≡ words_with (take place codes) (take place numbers) → place < length words → place < length codes → place < length numbers →
+    word ≡ word_with (get_or codes place 0) (get_or numbers place 0) → take (place + 1) (set words place word) ≡ words_with (take (place + 1) codes) (take (place + 1) numbers)
+with_set codes numbers words place word e room here there is =
+    let a = length-take-le place codes (omega (arith, here)) in
+    let b = length-take-le place numbers (omega (arith, there)) in
+    take-set_at words place (place + 1) word refl room
+    ∙ ap (λ (ws : List RxWord). ws ++ word ∷ []) e
+    ∙ ap (λ (w : RxWord). words_with (take place codes) (take place numbers) ++ w ∷ []) is
+    ∙ sym (with_more (take place codes) (take place numbers) (get_or codes place 0) (get_or numbers place 0) (a ∙ sym b))
+    ∙ ap₂ words_with (sym (take_more codes place 0 here)) (sym (take_more numbers place 0 there))
 
 -- ---- words under the key
 
-pub keyed_set : (state : ℕ) (ws plain : List RxWord) (place : ℕ) (d x : RxWord) → take place plain ≡ keyed_words state (take place ws) → place < length plain → place < length ws →
-    x ≡ keyed_word (key_ran state (take place ws)) (get_or ws place d) → take (place + 1) (set plain place x) ≡ keyed_words state (take (place + 1) ws)
-keyed_set state ws plain place d x e here there is =
-    take-set_at plain place (place + 1) x refl here
-    ∙ ap (λ (g : List RxWord). g ++ x ∷ []) e
-    ∙ ap (λ (y : RxWord). keyed_words state (take place ws) ++ y ∷ []) is
-    ∙ sym (keyed_more state (take place ws) (get_or ws place d)) ∙ ap (keyed_words state) (sym (take_more ws place d there))
+pub numbers_set : (state : ℕ) (codes numbers : List ℕ) (place x : ℕ) → take place numbers ≡ map number_of (keyed_words state (take place (map word_of_code codes))) → place < length numbers → place < length codes →
+    x ≡ number_of (keyed_word (key_ran state (take place (map word_of_code codes))) (word_of_code (get_or codes place 0))) → take (place + 1) (set numbers place x) ≡ map number_of (keyed_words state (take (place + 1) (map word_of_code codes)))
+numbers_set state codes numbers place x e here there is =
+    let ws : List RxWord = map word_of_code codes in
+    let long : length ws ≡ length codes = length-words codes in
+    let word : RxWord = word_of_code (get_or codes place 0) in
+    let next : take place ws ++ word ∷ [] ≡ take (place + 1) ws =
+    ap (λ (w : RxWord). take place ws ++ w ∷ []) (sym (code_word codes place)) ∙ sym (take_more ws place (word_of_code 0) (omega (arith, there, long))) in
+    take-set_at numbers place (place + 1) x refl here
+    ∙ ap (λ (g : List ℕ). g ++ x ∷ []) e
+    ∙ ap (λ (y : ℕ). map number_of (keyed_words state (take place ws)) ++ y ∷ []) is
+    ∙ sym (map-append number_of (keyed_words state (take place ws)) (keyed_word (key_ran state (take place ws)) word ∷ []))
+    ∙ ap (map number_of) (sym (keyed_more state (take place ws) word) ∙ ap (keyed_words state) next)
 
-pub key_next : (state : ℕ) (ws : List RxWord) (place : ℕ) (d : RxWord) → place < length ws → next_state (key_ran state (take place ws)) ≡ key_ran state (take (place + 1) ws)
-key_next state ws place d there = sym (key_more state (take place ws) (get_or ws place d)) ∙ ap (key_ran state) (sym (take_more ws place d there))
+pub key_next : (state : ℕ) (codes : List ℕ) (place : ℕ) → place < length codes → next_state (key_ran state (take place (map word_of_code codes))) ≡ key_ran state (take (place + 1) (map word_of_code codes))
+key_next state codes place there =
+    let ws : List RxWord = map word_of_code codes in
+    let long : length ws ≡ length codes = length-words codes in
+    sym (key_more state (take place ws) (get_or ws place (word_of_code 0))) ∙ ap (key_ran state) (sym (take_more ws place (word_of_code 0) (omega (arith, there, long))))
 
-pub eight_ran : (v i : InsideState) (ws : List RxWord) (register : ℕ) → length ws ≡ 8 → 8 ≤ payloads_left v → all_legal ws → i ≡ with_key v (key_ran v.state ws) →
-    register ≡ register_after 32 polynomial i.register (bits_of_words (map number_of (keyed_words v.state ws))) → ran_on i 8 i.state register ≡ insides_ran v ws
-eight_ran v i ws register long ahead legal e is =
+pub eight_ran : (v i : InsideState) (codes : List ℕ) (register : ℕ) → length codes ≡ 8 → 8 ≤ payloads_left v → all_legal (map word_of_code codes) → i ≡ with_key v (key_ran v.state (map word_of_code codes)) →
+    register ≡ register_after 32 polynomial i.register (bits_of_words (map number_of (keyed_words v.state (map word_of_code codes)))) → ran_on i 8 i.state register ≡ insides_ran v (map word_of_code codes)
+eight_ran v i codes register eight ahead legal e is =
+    let ws : List RxWord = map word_of_code codes in
+    let long : length ws ≡ 8 = length-words codes ∙ eight in
     let bits = bits_of_words (map number_of (keyed_words v.state ws)) in
     ap (λ (x : InsideState). ran_on x 8 x.state register) e
     ∙ ap (ran_on v 8 (key_ran v.state ws)) (is ∙ ap (λ (x : InsideState). register_after 32 polynomial x.register bits) e)

@@ -1,22 +1,21 @@
 -- Payload words of a run, taken one after another.
-use Rattle.std.proofs.Common.{ℕ, suc, ◌≡◌, refl, sym, ap, subst, ◌∙◌, ◌+◌, ◌*◌, ◌^◌, ◌<◌, ◌≤◌, Bool, true, false, List, [], ◌∷◌, ◌++◌, length, map, replicate, take, drop, take-take, append-nil, append_assoc, arith}
+use Rattle.std.proofs.Common.{ℕ, zero, suc, ◌≡◌, refl, sym, ap, subst, ◌∙◌, ◌+◌, ◌*◌, ◌^◌, ◌<◌, ◌≤◌, Bool, true, false, List, [], ◌∷◌, ◌++◌, length, map, replicate, take, drop, get_or, take-take, append-nil, append_assoc, arith}
 use Rattle.std.proofs.lemmas.List.{drop-drop, drop-take, drop_at, length-append, take_at}
 use Rattle.lk_base.specs.Checksum.{bits_of}
 use Rattle.lk_base.specs.Words.{is_bad}
 use Rattle.lk_base.specs.declared.word.RxWord.{RxWord}
-use Rattle.lane_model.specs.Bits.{high_number}
 use Rattle.lane_model.specs.Coding.{word_of_code}
 use Rattle.lane_model.specs.LaneBits.{bits_of_codes}
 use Rattle.lane_model.specs.declared.role.Role.{Role}
 use Rattle.lane_model.specs.declared.role.Role.TheVariants as roles
-use Rattle.lane_model.proofs.Numbers.{length-bits_of, number-bits_of}
+use Rattle.lane_model.proofs.Numbers.{length-bits_of}
 use Rattle.lock_model.specs.declared.types.LaneStep.{LaneStep}
 use Rattle.lock_model.specs.declared.types.LaneStep.TheVariants as steps
 use Rattle.lock_model.specs.PayloadSteps.{payload_steps}
 use Rattle.lane_lock.specs.Bytes.{Brings}
 use Rattle.lane_lock.specs.Inside.{payload_number}
 use Rattle.lane_lock.specs.Lane.{LaneView}
-use Rattle.lane_lock.specs.Run.{AreWordsOf, RunState, all_legal, are_codes, keyed_word, keyed_words, lane_ran, next_state, watch_ran, word_ran, words_ran}
+use Rattle.lane_lock.specs.Run.{AreCodesOf, RunState, all_legal, are_codes, keyed_word, keyed_words, lane_ran, next_state, watch_ran, word_ran, words_ran}
 use Rattle.lane_lock.specs.Watch.{payloads_ahead}
 use Rattle.lane_lock.proofs.Batches.{Ran, ran_more}
 use Rattle.lane_lock.proofs.FoundSteps.{found_more, payload_more, payload_step}
@@ -45,34 +44,13 @@ first_code code codes given is =
       sym (drop_at (bits_of 67 code) (bits_of_codes codes) 67 (length-bits_of 67 code)) ∙ ap (drop 67) e ∙ drop-take 67 (67 * length codes) given,
     )
 
--- the last of them, and its bits
-pub last_of : (x : ℕ) (code : ℕ) (codes : List ℕ) (given : List Bool) → are_codes (code ∷ codes) → bits_of_codes (code ∷ codes) ≡ take (67 * length (code ∷ codes)) given →
-    (last_code x (code ∷ codes) < 2 ^ 67) × (bits_of 67 (last_code x (code ∷ codes)) ≡ take 67 (drop (67 * length codes) given))
-last_of x code [] given below is = (below.0, (first_code code [] given is).0)
-last_of x code (next ∷ codes) given below is =
-    let r = last_of code next codes (drop 67 given) below.1 (first_code code (next ∷ codes) given is).1 in
-    let e : 67 + 67 * length codes ≡ 67 * length (next ∷ codes) = omega arith in
-    (r.0, r.1 ∙ ap (take 67) (drop-drop (67 * length codes) 67 given ∙ ap (λ (m : ℕ). drop m given) e))
-
--- codes with the same bits
-pub same_code : (a b : ℕ) → a < 2 ^ 67 → b < 2 ^ 67 → bits_of 67 a ≡ bits_of 67 b → a ≡ b
-same_code a b h k e = sym (number-bits_of 67 a h) ∙ ap high_number e ∙ number-bits_of 67 b k
-
-length-map_words : (codes : List ℕ) → length (map word_of_code codes) ≡ length codes
-length-map_words [] = refl
-length-map_words (code ∷ codes) = ap suc (length-map_words codes)
-
--- the eight codes of eight words, of which this is the last
-pub eight_codes : (x last : ℕ) (words : List RxWord) (given : List Bool) (k : AreWordsOf words given) → length words ≡ 8 → last < 2 ^ 67 → bits_of 67 last ≡ take 67 (drop 469 given) →
-    (length k.codes ≡ 8) × (last_code x k.codes ≡ last)
-eight_codes x last words given k long low is = go k.codes k.below k.bits (sym (length-map_words k.codes) ∙ sym (ap length k.means) ∙ long)
-  where
-    go : (codes : List ℕ) → are_codes codes → bits_of_codes codes ≡ take (67 * length codes) given → length codes ≡ 8 → (length codes ≡ 8) × (last_code x codes ≡ last)
-    go [] below bits n = absurd (omega (arith, n))
-    go (code ∷ codes) below bits n =
-        let r = last_of x code codes given below bits in
-        let e : 67 * length codes ≡ 469 = omega (arith, n) in
-        (n, same_code (last_code x (code ∷ codes)) last r.0 low (r.1 ∙ ap (λ (m : ℕ). take 67 (drop m given)) e ∙ sym is))
+-- the last of them by its place
+pub last_is : (x : ℕ) (codes : List ℕ) (n : ℕ) → length codes ≡ suc n → last_code x codes ≡ get_or codes n 0
+last_is x [] n e = absurd (omega (arith, e))
+last_is x (code ∷ []) zero e = refl
+last_is x (code ∷ next ∷ codes) zero e = absurd (omega (arith, e))
+last_is x (code ∷ []) (suc n) e = absurd (omega (arith, e))
+last_is x (code ∷ next ∷ codes) (suc n) e = last_is code (next ∷ codes) n (omega (arith, e))
 
 -- ---- words of a run
 
@@ -141,13 +119,10 @@ module _ (v : LaneView) (given : List Bool) (found : List LaneStep) (number star
       (append_assoc plain (keyed_word run.inside.state word ∷ []) (keyed_words (next_state run.inside.state) (map word_of_code codes))) rest)
 
   -- eight more
-  pub reached_eight : (words : List RxWord) (done last next : ℕ) (run : RunState) (plain : List RxWord) → Reached v given found number start total done last run plain → done + 8 ≤ total → length words ≡ 8 →
-      AreWordsOf words (drop (67 * done) given) → next < 2 ^ 67 → bits_of 67 next ≡ take 67 (drop 469 (drop (67 * done) given)) →
-      Reached v given found number start total (done + 8) next (words_ran run words) (plain ++ keyed_words run.inside.state words)
-  reached_eight words done last next run plain r fits long k low is =
-      let e = eight_codes last next words (drop (67 * done) given) k long low is in
-      let n = e.0 in
-      let all = reached_all k.codes done last run plain r (omega (arith, fits, n)) k.below (subst all_legal k.means k.legal) k.bits in
-      subst (λ (ws : List RxWord). Reached v given found number start total (done + 8) next (words_ran run ws) (plain ++ keyed_words run.inside.state ws)) (sym k.means)
-      (subst (λ (code : ℕ). Reached v given found number start total (done + 8) code (words_ran run (map word_of_code k.codes)) (plain ++ keyed_words run.inside.state (map word_of_code k.codes))) e.1
-      (subst (λ (m : ℕ). Reached v given found number start total (done + m) (last_code last k.codes) (words_ran run (map word_of_code k.codes)) (plain ++ keyed_words run.inside.state (map word_of_code k.codes))) n all))
+  pub reached_eight : (codes : List ℕ) (done last : ℕ) (run : RunState) (plain : List RxWord) → Reached v given found number start total done last run plain → done + 8 ≤ total → length codes ≡ 8 →
+      AreCodesOf codes (drop (67 * done) given) →
+      Reached v given found number start total (done + 8) (get_or codes 7 0) (words_ran run (map word_of_code codes)) (plain ++ keyed_words run.inside.state (map word_of_code codes))
+  reached_eight codes done last run plain r fits long k =
+      let all = reached_all codes done last run plain r (omega (arith, fits, long)) k.below k.legal k.bits in
+      subst (λ (code : ℕ). Reached v given found number start total (done + 8) code (words_ran run (map word_of_code codes)) (plain ++ keyed_words run.inside.state (map word_of_code codes))) (last_is last codes 7 long)
+      (subst (λ (m : ℕ). Reached v given found number start total (done + m) (last_code last codes) (words_ran run (map word_of_code codes)) (plain ++ keyed_words run.inside.state (map word_of_code codes))) long all)

@@ -1,8 +1,9 @@
 -- The payload words of a declared lock, one after another.
-use Rattle.std.specs.Prelude.{ℕ, zero, suc, ◌≡◌, ◌+◌, ◌*◌, ◌^◌, ◌<◌, ◌==◌, if◌then◌else◌, Bool, false, List, [], ◌∷◌, length, map, take}
+use Rattle.std.specs.Prelude.{ℕ, zero, suc, ◌≡◌, ◌+◌, ◌*◌, ◌%◌, ◌^◌, ◌<◌, ◌==◌, if◌then◌else◌, Bool, false, List, [], ◌∷◌, length, map, take}
 use Rattle.lk_base.specs.declared.word.RxWord.{RxWord}
+use Rattle.lk_base.specs.declared.word.RxWord.TheVariants.{Data, Control}
 use Rattle.lk_base.specs.Words.{is_bad, number_of}
-use Rattle.lane_model.specs.Coding.{word_of_code}
+use Rattle.lane_model.specs.Coding.{header_in, word_of_code}
 use Rattle.lane_model.specs.Key.{key_word, start_of, state_before}
 use Rattle.lane_model.specs.LaneBits.{bits_of_codes}
 use Rattle.lock_model.specs.Received.{unscrambled}
@@ -47,13 +48,20 @@ abbrev pub are_codes : List ℕ → Type 0
 are_codes [] = Unit {0}
 are_codes (code ∷ codes) = (code < 2 ^ 67) × are_codes codes
 
--- these are the words of the first codes of these bits
-pub record AreWordsOf (words : List RxWord) (given : List Bool) : Type 0 where
-  pub codes : List ℕ
+-- these are the first codes of these bits, and their headers are legal
+pub record AreCodesOf (codes : List ℕ) (given : List Bool) : Type 0 where
   pub below : are_codes codes
   pub bits : bits_of_codes codes ≡ take (67 * length codes) given
-  pub means : words ≡ map word_of_code codes
-  pub legal : all_legal words
+  pub legal : all_legal (map word_of_code codes)
+
+-- the word of this number that is of the kind of a code with a legal header, and such words of codes
+abbrev pub word_with : ℕ → ℕ → RxWord
+word_with code number = if header_in code % 2 == 1 then Data number else Control number
+
+abbrev pub words_with : List ℕ → List ℕ → List RxWord
+words_with [] numbers = []
+words_with (code ∷ codes) [] = []
+words_with (code ∷ codes) (number ∷ numbers) = word_with code number ∷ words_with codes numbers
 
 -- ---- a word as it is taken, and words one after another
 

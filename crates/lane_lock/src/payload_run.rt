@@ -1,10 +1,11 @@
-ghost use Rattle.std.specs.Prelude.{◌≡◌, ◌≤◌, ◌+◌, true, false};
+ghost use Rattle.std.specs.Prelude.{◌≡◌, ◌≤◌, ◌+◌, map, true, false};
 ghost use Rattle.lk_base.specs.Words.{is_bad as bad_of};
 ghost use Rattle.lane_lock.specs.declared.passing.Passing.TheVariants as passings;
 ghost use Rattle.lane_lock.specs.Counts.{CountsNothing};
+ghost use Rattle.lane_model.specs.Coding.{word_of_code};
 ghost use Rattle.lane_model.specs.declared.role.Role.TheVariants as roles;
 ghost use Rattle.lane_lock.specs.Inside.{payload_number, payloads_left};
-ghost use Rattle.lane_lock.specs.Run.{all_legal, keyed_word, keyed_words, run_of, watch_ran, word_ran, words_ran};
+ghost use Rattle.lane_lock.specs.Run.{all_legal, are_codes, keyed_word, keyed_words, run_of, watch_ran, word_ran, words_ran};
 ghost use Rattle.lane_lock.specs.Watch.{WatchState};
 ghost use Rattle.lane_lock.specs.Watching.{Answers};
 
@@ -14,7 +15,7 @@ use crate::seen_word::SeenWord;
 use lk_base::RxWord;
 use std::marker::Model;
 
-/// What payload words of a declared lock change, one after another: a copy, which a loop over many of them holds in registers.
+/// The part of a declared lock that payload words in a row change: a copy, which a loop over many of them keeps in registers.
 #[derive(Clone, Copy)]
 pub struct PayloadRun {
     headers: Headers,
@@ -32,21 +33,21 @@ impl Model for PayloadRun {
 }
 
 impl PayloadRun {
-    /// A run that begins after these words.
+    /// Creates a run after the words of these headers, and `inside` their lock.
     pub fn new(headers: Headers, inside: Inside) -> PayloadRun
         ensures { result ≡ record { headers = headers; inside = inside } }
     {
         PayloadRun { headers, inside }
     }
 
-    /// The headers after it.
+    /// Returns the headers after it.
     pub fn headers(&self) -> Headers
         ensures { result ≡ self.now.headers }
     {
         self.headers
     }
 
-    /// The words after it.
+    /// Returns the words of its lock after it.
     pub fn inside(&self) -> Inside
         ensures { result ≡ self.now.inside }
     {
@@ -69,16 +70,17 @@ impl PayloadRun {
         self.inside.payload(word)
     }
 
-    /// Takes the next eight words, which are payload words with legal headers, as eight calls of `payload` do, and returns them as
-    /// they are received.
+    /// Takes the next eight words by their codes, which are payload words with legal headers, as eight calls of `payload` do.
+    /// Returns them as they are received.
     #[inline(always)]
-    pub fn payload_eight(&mut self, words: &[RxWord; 8]) -> [RxWord; 8]
+    pub fn payload_codes(&mut self, codes: &[u128; 8]) -> [RxWord; 8]
         requires ahead { 8 ≤ payloads_left self.old.inside }
-        requires legal { all_legal words.now }
-        ensures words { result ≡ keyed_words self.old.inside.state words.now }
-        ensures value { self.new ≡ words_ran self.old words.now }
+        requires codes { are_codes codes.now }
+        requires legal { all_legal (map word_of_code codes.now) }
+        ensures words { result ≡ keyed_words self.old.inside.state (map word_of_code codes.now) }
+        ensures value { self.new ≡ words_ran self.old (map word_of_code codes.now) }
     {
         self.headers.legal(8);
-        self.inside.payload_eight(words)
+        self.inside.payload_codes(codes)
     }
 }

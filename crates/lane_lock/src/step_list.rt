@@ -9,17 +9,17 @@ use lock_model::LaneStep;
 use std::alloc::Global;
 use std::marker::Model;
 
-/// How many payload words are kept as words at most.
+/// How many payload words are kept as words: at most those of a piece of `MOST_BYTES` bytes.
 pub const MOST_WORDS: usize = 64;
 
-/// The steps that bits of a lane show, in order: steps, then payload words that stand one after another, then steps. It takes
-/// memory when it is made, and none after.
+/// The steps that bits of a lane show, in order: steps, then payload words in a row, then steps. It takes memory when it is
+/// created, and none after.
 #[derive(Drop)]
 pub struct StepList {
     before: Vec<LaneStep>,
     after: Vec<LaneStep>,
     /// The payload words are the first `count` of these.
-    words: [RxWord; 64],
+    words: [RxWord; MOST_WORDS],
     count: usize,
     // proof: the number of the first payload word in its metaframe, which says what step each word is.
     number: u32,
@@ -41,7 +41,7 @@ impl Model for StepList {
 }
 
 impl StepList {
-    /// No steps, with room for this many.
+    /// Creates a list without steps, with room for `room` of them.
     pub fn new(alloc: Global, room: usize) -> Result<StepList, OutOfMemory>
         ensures { IfOk result (λ found. (found_steps found ≡ []) × (found.room ≡ room)) }
     {
@@ -50,7 +50,7 @@ impl StepList {
         Ok(StepList {
             before,
             after,
-            words: [RxWord::Bad; 64],
+            words: [RxWord::Bad; MOST_WORDS],
             count: 0,
             number: 0,
             at: 0,
@@ -58,7 +58,7 @@ impl StepList {
         })
     }
 
-    /// Takes the steps away.
+    /// Takes all steps out.
     pub fn clear(&mut self)
         ensures steps { found_steps self.new ≡ [] }
         ensures room { self.new.room ≡ self.old.room }
@@ -68,7 +68,7 @@ impl StepList {
         self.count = 0;
     }
 
-    /// Appends a step where it shows something.
+    /// Appends a step if it shows something.
     #[inline(always)]
     pub fn keep(&mut self, step: LaneStep)
         requires { length (found_steps self.old) < self.old.room }
@@ -96,14 +96,14 @@ impl StepList {
         }
     }
 
-    // Whether it has payload words, or steps after them.
+    // True if it has payload words, or steps after them.
     fn has_words(&self) -> bool
         ensures none { result ≡ false → (self.now.words ≡ []) × (self.now.after ≡ []) }
     {
         self.count > 0 || !self.after.is_empty()
     }
 
-    /// Appends the steps of these payload words, the first of them with this number in its metaframe and at this bit position.
+    /// Appends the steps of these payload words. The first has the number `number` in its metaframe and the bit position `at`.
     pub fn append_payloads(&mut self, words: &[RxWord], number: u32, at: u64)
         requires few { length words.now ≤ 64 }
         requires number { number < 2 ^ 24 }
@@ -119,7 +119,7 @@ impl StepList {
         }
     }
 
-    // Appends them as steps.
+    // Appends the steps of these payload words as steps.
     fn push_each(&mut self, words: &[RxWord], number: u32, at: u64)
         requires few { length words.now ≤ 64 }
         requires number { number < 2 ^ 24 }
@@ -134,7 +134,7 @@ impl StepList {
         }
     }
 
-    // Keeps them as words, where no payload words and no steps after them are kept.
+    // Appends the steps of these payload words as words. No payload words and no steps after them are kept yet.
     fn set_words(&mut self, words: &[RxWord], number: u32, at: u64)
         requires few { length words.now ≤ 64 }
         requires none { (self.old.words ≡ []) × (self.old.after ≡ []) }
@@ -147,28 +147,28 @@ impl StepList {
         self.at = at;
     }
 
-    /// The steps before the payload words.
+    /// Returns the steps before the payload words.
     pub fn first_steps(&self) -> &[LaneStep]
         ensures { result.now ≡ self.now.before }
     {
         self.before.as_slice()
     }
 
-    /// The payload words.
+    /// Returns the payload words.
     pub fn payload_words(&self) -> &[RxWord]
         ensures { result.now ≡ self.now.words }
     {
         &self.words[..self.count]
     }
 
-    /// The bit position of the first payload word.
+    /// Returns the bit position of the first payload word.
     pub fn payload_at(&self) -> u64
         ensures { result ≡ self.now.at }
     {
         self.at
     }
 
-    /// The steps after the payload words.
+    /// Returns the steps after the payload words.
     pub fn last_steps(&self) -> &[LaneStep]
         ensures { result.now ≡ self.now.after }
     {

@@ -14,3 +14,6 @@ pub const DIAGNOSTIC: u64 = 0b011001 << 58 | 3 << 32;
 
 /// The payload of a Scrambler State word before the state, which has bits 57:0: 001010 in bits 63:58.
 pub const SCRAMBLER_STATE: u64 = 0b001010 << 58;
+
+/// A lane that comes in pieces takes no more bytes once it has this many, and no piece of one is as long.
+pub const LANE_BYTES_LIMIT: usize = 1 << 40;

@@ -7,5 +7,5 @@ pub mod examples;
 pub mod laws;
 mod role;
 
-pub use constants::{CODE_BITS, DIAGNOSTIC, SCRAMBLER_STATE, SKIP, SYNC};
+pub use constants::{CODE_BITS, DIAGNOSTIC, LANE_BYTES_LIMIT, SCRAMBLER_STATE, SKIP, SYNC};
 pub use role::Role;

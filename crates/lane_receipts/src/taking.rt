@@ -1,4 +1,4 @@
-//! Lanes go over into a receiver, in turn, and what comes of them into a receipt.
+//! Lanes are fed to a receiver, in turn, and its events go into a receipt.
 ghost use Rattle.std.specs.Prelude.{◌≡◌, ◌<◌, ◌≤◌, ◌^◌, List, ℕ, Some, true, length, map, slice_get, Contains, OnOk};
 ghost use Rattle.lk_base.specs.Link.{Settings};
 ghost use Rattle.receive_model.specs.Events.{Event};
@@ -19,8 +19,8 @@ use run_stops::Stop;
 use rx_end::{Observer, Receiver};
 use std::alloc::Global;
 
-/// Feeds all lanes to their ends, and takes all events of theirs, where the observer is told what the receiver takes of its front.
-/// The lane of which the least was fed is always the next. No lane is read from a file that an output of the receipt has.
+/// Feeds all lanes to their ends, and takes all of their events. The observer is told what the receiver takes of its front. The lane
+/// of which the least was fed is always the next. No lane is read from a file that is an output of the receipt.
 pub fn take_lanes<S: Store, P: LanePieces, O: Observer>(
     alloc: Global,
     store: &mut S,

@@ -21,6 +21,7 @@ use Rattle.lane_words.specs.WordsFile.{rx_words_file}
 use Rattle.event_model.specs.Given.{AreEvents}
 use Rattle.lane_words.specs.Gathered.{epochs_in, gathered_words, words_of_epochs}
 use Rattle.lane_words.specs.Items.{AreAllItems}
+pub use Rattle.receive_model.specs.Events.{packets_on as bytes_on}
 
 -- ---- more items only extend them
 
@@ -54,10 +55,6 @@ CleanLanesGiveStream = (k : CleanLink) (stream : List SentWord) (lanes : List La
     all_over lanes ≡ true → Carries k stream → AreKnown k.settings lanes items → gathered_words items ≡ map as_sent (drop (3 * group_size k) stream)
 
 -- ---- what they deliver
-
--- the bytes of the packets that are delivered on a channel, in order
-abbrev pub bytes_on : ℕ → List Event → List (List ℕ)
-bytes_on channel outputs = map (λ (p : Packet). p.bytes) (delivered channel outputs)
 
 -- the words of epochs, as those of a words file, deliver on each channel what the epochs deliver
 abbrev pub WordsDeliverAsEpochs : Type 0

@@ -1,24 +1,19 @@
 -- A counter is told what a front shows.
-use Rattle.std.proofs.Common.{ℕ, ◌≡◌, refl, sym, ap, ◌∙◌, subst, ◌+◌, ◌*◌, ◌^◌, ◌<◌, ◌≤◌, Bool, true, false, List, [], ◌∷◌, ◌++◌, length, map, take, arith}
+use Rattle.std.proofs.Common.{ℕ, ◌≡◌, refl, sym, ap, ◌∙◌, subst, ◌+◌, ◌*◌, ◌^◌, ◌<◌, ◌≤◌, Bool, true, false, List, [], ◌∷◌, ◌++◌, length, map, arith}
 use Rattle.std.proofs.Math.Nat.{mul-le-mul_right}
-use Rattle.std.proofs.lemmas.List.{length-append, length-take}
+use Rattle.std.proofs.lemmas.List.{length-append}
 use Rattle.std.specs.List.{cons_option}
-use Rattle.lk_base.specs.declared.position.Pos.{Pos}
 use Rattle.lk_base.specs.declared.word.Aligned.{Aligned}
 use Rattle.lk_base.specs.declared.word.Aligned.TheVariants.{Break, Group, Word}
-use Rattle.lk_base.specs.declared.word.RxWord.{RxWord}
 use Rattle.lk_base.specs.declared.word.Word.{Word as SentWord}
 use Rattle.lk_base.specs.Link.{Settings}
-use Rattle.lk_base.specs.Positions.{words_from}
 use Rattle.event_model.specs.Fed.{AllBegin, Fed, longest}
 use Rattle.link_laws.specs.Accidents.{made}
 use Rattle.link_laws.specs.Received.{whole_lane}
 use Rattle.rx_front.specs.Locks.{declared_at}
 use Rattle.rx_front.specs.Standing.{AtRound, Progress, locks_at}
 use Rattle.rx_front.specs.States.{State}
-use Rattle.rx_front.specs.Waiting.{words_in}
 use Rattle.rx_front.proofs.Clocked.{lane_count}
-use Rattle.rx_front.proofs.Waiting.{words_first}
 use Rattle.rx_end.specs.Observing.{AreLater, Knows, Learns}
 use Rattle.link_replay.specs.Counting.{Counter, Counts, HasCounted}
 use Rattle.link_replay.specs.Groups.{starts_of}
@@ -93,17 +88,6 @@ module _ (c : Counter) (f : State) (s : Settings) (fed : List Fed) (taken : List
       omega (arith, g, long, n)
 
 -- ---- words
-
--- the first words that wait, from this place on
-pub first_words : (f : State) (at : Pos) (ws first : List RxWord) (count : ℕ) → f.waiting ≡ words_from at.group at.index (words_in f.waiting) → ws ≡ words_in f.waiting → first ≡ take count ws →
-    words_from at.group at.index first ≡ take count f.waiting
-first_words f at ws first count e w n =
-    ap (words_from at.group at.index) (n ∙ ap (take count) w)
-    ∙ sym (words_first count at.group at.index (words_in f.waiting))
-    ∙ ap (take count) (sym e)
-
-pub first_few : (ws first : List RxWord) (count : ℕ) → first ≡ take count ws → length first ≤ length ws
-first_few ws first count e = (let l = ap length e ∙ length-take count ws in omega (arith, l))
 
 module _ (words : List SentWord) (v u : Watch) (same : IsSame v u) where
   abbrev was : Counter

@@ -6,7 +6,7 @@ ghost use Rattle.rx_front.specs.States.{State as FrontState};
 ghost use Rattle.link_replay.specs.Counting.{Counts, HasCounted, HasCountedAll, HasCountedSome, given_to};
 
 use crate::accident_watch::AccidentWatch;
-use lk_base::{Aligned, Link, OutOfMemory, head};
+use lk_base::{Aligned, Link, OutOfMemory};
 use report_model::Accidents;
 use rx_end::Observer;
 use rx_front::Front;
@@ -14,7 +14,7 @@ use std::alloc::Global;
 use std::marker::Model;
 use word_list::WordList;
 
-/// Counts the accidents on the lanes of a link while they are received, where these words were sent: it observes the receiver.
+/// Counts the accidents on the lanes of a link that sent these words, while the lanes are received. It observes the receiver.
 #[derive(Drop)]
 pub struct Counter<'w> {
     watch: AccidentWatch,
@@ -30,8 +30,12 @@ impl<'w> Model for Counter<'w> {
 }
 
 impl<'w> Counter<'w> {
-    /// Nothing came. There is one skew for each lane of the link, and the words are a whole number of groups. It answers
-    /// `OutOfMemory` where memory ran out, and nowhere else; no later call takes memory.
+    /// Creates a counter that has seen nothing. There is one skew for each lane of the link, and the words are a whole number of
+    /// groups. No later call takes memory.
+    ///
+    /// # Errors
+    ///
+    /// `OutOfMemory` if memory ran out, and only then.
     pub fn new(
         alloc: Global,
         link: &Link,
@@ -48,7 +52,7 @@ impl<'w> Counter<'w> {
         Ok(Counter { watch, sent })
     }
 
-    /// The accidents on the lanes, all of which were received.
+    /// Returns the accidents on the lanes, all of which were received.
     pub fn counts(&self) -> Accidents
         requires { HasCountedSome self.now }
         ensures { (f : FrontState) (s : Settings) (lanes : List (List ℕ)) → HasCountedAll self.now f s lanes →
@@ -74,8 +78,7 @@ impl Observer for Counter<'_> {
     ghost saw = { HasCounted };
 
     fn words(&mut self, front: &Front, count: usize) {
-        self.watch
-            .words(self.sent, front.at(), head(front.words(), count));
+        self.watch.words(self.sent, front, count);
     }
 
     fn item(&mut self, front: &Front, item: Aligned) {

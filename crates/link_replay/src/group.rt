@@ -12,7 +12,7 @@ use lk_base::Link;
 use rx_front::Front;
 use word_list::WordList;
 
-// Whether each lane's Sync in the group that was given last is the sender's Sync of this number, whose bit position in the sent lane
+// True if each lane's Sync in the group that was given last is the sender's Sync of this number, whose bit position in the sent lane
 // is at most 2^60.
 fn are_numbered(lanes: &[WatchedLane], link: &Link, front: &Front, number: u64) -> bool
     requires there { length lanes.now ≤ length front.now.lanes }
@@ -32,8 +32,8 @@ fn are_numbered(lanes: &[WatchedLane], link: &Link, front: &Front, number: u64) 
     true
 }
 
-/// Whether the group that was given last, which has this name, is one of the sender's: all its Syncs are of one number. The skew
-/// is the first lane's.
+/// True if the group that was given last, which has this name, is one of the sender's: all its Syncs are of one number. The skew is
+/// that of lane 0.
 pub fn is_sent_group(
     lanes: &[WatchedLane],
     link: &Link,

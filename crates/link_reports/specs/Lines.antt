@@ -9,7 +9,7 @@ use Rattle.report_model.specs.declared.counts.Accidents.{Accidents}
 use Rattle.report_model.specs.declared.counts.Missing.{Missing}
 use Rattle.report_model.specs.declared.counts.SentCount.{SentCount}
 
--- a name of a value, its number, and what comes after it
+-- a name of a value, its number, and what follows it
 abbrev pub told : List ℕ → ℕ → List ℕ → List ℕ
 told name number rest = name ++ (decimal number ++ rest)
 
@@ -28,7 +28,7 @@ sent_line count =
 abbrev pub slots_line : ℕ → List ℕ
 slots_line slots = told (codes "slots ") slots line_end
 
--- what came for a channel: its packets, and their bytes together
+-- what was delivered on a channel: its packets, and their bytes together
 abbrev pub got_line : ℕ → ℕ → ℕ → List ℕ
 got_line channel packets bytes =
     told (codes "got channel=") channel
@@ -59,7 +59,7 @@ held_line channel = told (codes "held channel=") channel line_end
 abbrev pub count_line : List ℕ → ℕ → List ℕ
 count_line name count = name ++ (codes " " ++ (decimal count ++ line_end))
 
--- a number, or a stroke where there is none
+-- a number, or a stroke if there is none
 abbrev pub number_or_stroke : Option ℕ → List ℕ
 number_or_stroke None = codes "-"
 number_or_stroke (Some n) = decimal n
@@ -94,7 +94,7 @@ accidents_line counts =
     (told (codes " groups=") counts.groups
     (told (codes " stretches=") counts.stretches line_end))
 
--- a sent packet that did not come: its channel, its number there, the slots of its first and its last word, and the number of
+-- a sent packet that was not delivered: its channel, its number there, the slots of its first and its last word, and the number of
 -- the first span that it meets
 abbrev pub missing_line : Missing → List ℕ
 missing_line missing =
@@ -104,7 +104,7 @@ missing_line missing =
     (told (codes " last=") missing.last
     (told (codes " span=") missing.span line_end))))
 
--- what came at an end of a run on a channel: its packets, their bytes together, and the most words that were queued. The end is
+-- what was delivered at an end of a run on a channel: its packets, their bytes together, and the most words that were queued. The end is
 -- named by its letter
 abbrev pub end_line : ℕ → ℕ → ℕ → ℕ → ℕ → List ℕ
 end_line letter channel packets bytes peak =

@@ -8,12 +8,12 @@ use csv::{Writer, WriterBuilder};
 use lk_base::OutOfMemory;
 use std::alloc::Global;
 
-// Why a writer into memory fails: memory ran out.
+// Returns why a writer into memory fails: memory ran out.
 fn no_memory<E: Drop>(_: E) -> OutOfMemory {
     OutOfMemory
 }
 
-/// A writer of rows into memory, which has written none: `csv` with its defaults, but for rows of any length.
+/// Creates a writer of rows into memory, which has written none: `csv` with its defaults, but for rows of any length.
 pub fn row_writer(alloc: Global) -> Writer<Vec<u8>>
     ensures between { IsBetweenRows result }
     ensures text { text_written (λ v. Some v.items) result ≡ Some [] }
@@ -37,11 +37,11 @@ pub fn write_row(writer: &mut Writer<Vec<u8>>, fields: &[&[u8]]) -> Result<(), O
     writer.write_fields(fields).map_err(no_memory)
 }
 
-/// The text of the rows that were written.
+/// Returns the text of the rows that were written.
 ///
 /// # Errors
 ///
-/// `OutOfMemory` and nothing else.
+/// `OutOfMemory` if memory ran out.
 pub fn written_rows(writer: Writer<Vec<u8>>) -> Result<Vec<u8>, OutOfMemory>
     ensures { IfOk result (λ text. text_written (λ v. Some v.items) writer ≡ Some text.items) }
 {

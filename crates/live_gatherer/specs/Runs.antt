@@ -5,14 +5,7 @@ use Rattle.event_model.specs.Fed.{Fed}
 use Rattle.live_gatherer.specs.declared.taker.Taker.{Taker}
 use Rattle.live_gatherer.specs.Numbers.{Numbered}
 use Rattle.live_gatherer.specs.Taking.{Takes}
-
--- which lanes are finished
-abbrev pub flags : List Fed → List Bool
-flags fed = map (λ lane. lane.finished) fed
-
--- how many bytes were fed of each
-abbrev pub counts : List Fed → List ℕ
-counts fed = map (λ lane. length lane.bytes) fed
+pub use Rattle.event_model.specs.Fed.{counts, flags}
 
 -- these lanes of it are finished, and this many bytes were fed of each
 pub record Runs (v : Taker) (finished : List Bool) (fed_of : List ℕ) : Type 0 where

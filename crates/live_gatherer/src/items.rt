@@ -9,7 +9,7 @@ ghost use Rattle.live_gatherer.specs.Bits.{AreWords};
 use lk_base::Aligned;
 use rx_front::Front;
 
-// The first of the words that wait; there is one.
+// Takes the first of the words that wait; there is one.
 fn next_word(front: &mut Front) -> Aligned
     requires { 1 ≤ length front.old.waiting }
     ensures gives { (s : Settings) (fed : List Fed) (items : List Item) (t : Progress) →
@@ -19,12 +19,12 @@ fn next_word(front: &mut Front) -> Aligned
     ensures words { AreWords front.new.waiting }
 {
     let at = front.at();
-    let word = front.words()[0];
+    let word = front.word(0);
     front.pass(1);
     Aligned::Word(at, word)
 }
 
-/// The next item of what the clock has shown. `None` exactly if all items that are known of it were taken.
+/// Takes the next item of what the clock has shown. `None` if all items that are known of it were taken.
 pub fn next_item(front: &mut Front) -> Option<Aligned>
     ensures gives { (s : Settings) (fed : List Fed) (items : List Item) (t : Progress) →
         Stands front.old s fed items t → GivesItem result front.new s fed items t }

@@ -2,8 +2,7 @@
 ghost use Rattle.std.specs.Prelude.{◌≡◌};
 ghost use Rattle.live_gatherer.specs.Misuses.{lane_misuse_by, misuse_by};
 
-/// No lane takes more bytes once it has this many, and no piece of one is as long.
-pub const LANE_BYTES_LIMIT: usize = 1 << 40;
+use lane_model::LANE_BYTES_LIMIT;
 
 /// What a call is asked that it does not do.
 #[derive(Clone, Copy, Debug, PartialEq, Eq)]

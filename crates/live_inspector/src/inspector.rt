@@ -10,8 +10,8 @@ use lock_model::LaneReport;
 use std::alloc::Global;
 use std::marker::Model;
 
-/// What shows the events of the lanes of a link as their bytes come. Lanes are independent of one another. It takes memory when it is
-/// made, and none after.
+/// Shows the events of the lanes of a link as their bytes arrive. Lanes are independent of one another. It takes memory when it is
+/// created, and none after.
 #[derive(Drop)]
 pub struct LiveInspector {
     lanes: Vec<LiveLane>,
@@ -31,7 +31,7 @@ impl Model for LiveInspector {
     ghost invariant = { λ a. (length a.lanes.items ≤ 64) × NoneDueBelow a.lowest a.lanes.items };
 }
 
-// The lanes of a link of which nothing was taken.
+// Creates the lanes of a link, of which nothing was taken.
 fn fresh_lanes(alloc: Global, link: &Link) -> Result<Vec<LiveLane>, OutOfMemory>
     ensures { IfOk result (λ lanes. AreFresh link.now lanes.items) }
 {
@@ -43,7 +43,7 @@ fn fresh_lanes(alloc: Global, link: &Link) -> Result<Vec<LiveLane>, OutOfMemory>
     Ok(lanes)
 }
 
-// The lowest lane on which events are due, if this was it before, and some are due on this lane now, or none.
+// Returns the lowest lane on which events are due, given the lowest before; `due` if some are due on this lane now.
 fn lowest_with(lowest: usize, lane: usize, due: bool) -> usize
     ensures { result ≡ (if due then min lowest lane else lowest) }
 {
@@ -51,7 +51,7 @@ fn lowest_with(lowest: usize, lane: usize, due: bool) -> usize
 }
 
 impl LiveInspector {
-    /// An inspector of the lanes of a link, of which nothing was taken.
+    /// Creates an inspector of the lanes of a link, of which nothing was taken.
     ///
     /// # Errors
     ///
@@ -65,7 +65,7 @@ impl LiveInspector {
         Ok(LiveInspector { lanes, lowest: 0 })
     }
 
-    /// How many lanes there are: 1 to 64.
+    /// Returns the number of lanes: 1 to 64.
     pub fn lane_count(&self) -> usize
         ensures { result ≡ length self.now }
     {
@@ -91,7 +91,7 @@ impl LiveInspector {
         answer
     }
 
-    /// No further byte of this lane comes.
+    /// Ends this lane: no further byte of it arrives.
     ///
     /// # Errors
     ///
@@ -106,7 +106,7 @@ impl LiveInspector {
         self.lanes[at].finish()
     }
 
-    /// The next event that is due, if one is: of the lowest lane first, and of a lane in the order of its events.
+    /// Returns the next event that is due, if one is: of the lowest lane first, and of a lane in the order of its events.
     pub fn next(&mut self) -> Option<LiveEvent>
         ensures { IsNext self.old self.new result }
     {
@@ -123,7 +123,7 @@ impl LiveInspector {
         })
     }
 
-    // The lowest lane on which events are due, or as many as there are lanes.
+    // Returns the lowest lane on which events are due, or the number of lanes if none is.
     fn first_due(&self) -> usize
         ensures within { result ≤ length self.now }
         ensures none { NoneDueBelow result self.now }
@@ -138,7 +138,7 @@ impl LiveInspector {
         self.lanes.len()
     }
 
-    /// The report of a lane over the bytes that were taken of it.
+    /// Returns the report of a lane over the bytes that were taken of it.
     ///
     /// # Errors
     ///

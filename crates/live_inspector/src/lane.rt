@@ -1,4 +1,4 @@
-//! One lane as it is inspected while it comes.
+//! One lane that is inspected as it arrives.
 ghost use Rattle.std.specs.Prelude.{◌≡◌, ◌==◌, not, None, length, IfOk, IfNone};
 ghost use Rattle.std.specs.List.{cons_option};
 ghost use Rattle.lk_base.specs.Checksum.{bits_of_bytes};
@@ -6,14 +6,15 @@ ghost use Rattle.lk_base.specs.Link.{Settings};
 ghost use Rattle.lane_lock.specs.Standing.{IsReport};
 ghost use Rattle.live_inspector.specs.Lanes.{IsFeed, IsFinish, IsFresh, Stands, Takes, Told, feed_misuse as feed_misuse_of};
 
-use crate::misuse::{LANE_BYTES_LIMIT, Misuse};
+use crate::misuse::Misuse;
 use lane_events::{DueEvents, LaneEvent, LaneInspector};
+use lane_model::LANE_BYTES_LIMIT;
 use lk_base::{Link, OutOfMemory};
 use lock_model::LaneReport;
 use std::alloc::Global;
 use std::marker::Model;
 
-/// One lane as it is inspected while it comes. It takes memory when it is made, and none after.
+/// One lane that is inspected as it arrives. It takes memory when it is created, and none after.
 #[derive(Drop)]
 pub struct LiveLane {
     inspector: LaneInspector,
@@ -21,7 +22,7 @@ pub struct LiveLane {
     taken: usize,
     /// The events of its last word that are due.
     due: DueEvents,
-    /// No further byte of it comes.
+    /// True if no further byte of it arrives.
     finished: bool,
 }
 
@@ -37,7 +38,7 @@ impl Model for LiveLane {
 }
 
 impl LiveLane {
-    /// A lane of which nothing was taken.
+    /// Creates a lane of which nothing was taken.
     ///
     /// # Errors
     ///
@@ -54,7 +55,7 @@ impl LiveLane {
         })
     }
 
-    // Why it does not take a piece of this many bytes.
+    // Returns why it does not take a piece of `count` bytes, if it does not.
     fn feed_misuse(&self, count: usize) -> Option<Misuse>
         ensures { result ≡ feed_misuse_of self.now count }
     {
@@ -95,7 +96,7 @@ impl LiveLane {
         count
     }
 
-    /// No further byte of it comes.
+    /// Ends the lane: no further byte of it arrives.
     ///
     /// # Errors
     ///
@@ -110,14 +111,14 @@ impl LiveLane {
         Ok(())
     }
 
-    /// Whether events are due.
+    /// True if events are due.
     pub fn is_due(&self) -> bool
         ensures { result ≡ not (length self.now.due == 0) }
     {
         !self.due.is_empty()
     }
 
-    /// The next event, if one is due: it is due no longer.
+    /// Returns the next event, if one is due: it is due no longer.
     pub fn next(&mut self) -> Option<LaneEvent>
         ensures given { self.old.due ≡ cons_option result self.new.due }
         ensures same { self.new ≡ record self.old { due = self.new.due } }
@@ -126,7 +127,7 @@ impl LiveLane {
         self.due.next()
     }
 
-    /// The report over the bytes that were taken.
+    /// Returns the report over the bytes that were taken.
     pub fn report(&self) -> LaneReport
         ensures { (s : Settings) (t : Told) → Stands s self.now t → IsReport s (bits_of_bytes t.bytes) result }
     {

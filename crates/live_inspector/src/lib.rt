@@ -1,4 +1,4 @@
-//! The events of the lanes of a link, told as the bytes of the lanes come.
+//! The events of the lanes of a link, shown as the bytes of the lanes arrive.
 #![tactic(auto)]
 
 mod inspector;

@@ -1,6 +1,3 @@
-/// No lane takes more bytes once it has this many, and no piece of one is as long.
-pub const LANE_BYTES_LIMIT: usize = 1 << 40;
-
 /// What a call is asked that it does not do.
 #[derive(Clone, Copy, Debug, PartialEq, Eq)]
 pub enum Misuse {

@@ -7,6 +7,6 @@ pub struct LiveEvent {
     pub lane: u32,
     /// The bit position of the word concerned: of its first bit, from the first bit of the lane on.
     pub bit: u64,
-    /// What it is.
+    /// Its kind.
     pub kind: EventKind,
 }

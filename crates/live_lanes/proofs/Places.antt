@@ -1,4 +1,4 @@
--- Where the lanes stand in their metaframes, and the rows of their payload words.
+-- The places of the lanes in their metaframes, and the rows of their payload words.
 use Rattle.std.proofs.Common.{ℕ, ◌≡◌, refl, ap, ◌∙◌, subst, ◌+◌, ◌-◌, ◌*◌, ◌/◌, ◌%◌, ◌<◌, false, List, [], ◌∷◌, ◌++◌, length, get_or, map, arith}
 use Rattle.std.proofs.Math.Nat.{zero-mul}
 use Rattle.std.specs.List.{range_with_len}

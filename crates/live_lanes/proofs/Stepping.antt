@@ -1,4 +1,4 @@
--- How lanes stand after one word more of each, at their end, and after bytes of one are taken.
+-- Lanes after one word more of each, at their end, and after bytes of one are taken.
 use Rattle.std.proofs.Common.{ℕ, ◌≡◌, refl, sym, ap, ◌∙◌, subst, ◌+◌, ◌*◌, ◌%◌, ◌<◌, ◌==◌, Bool, true, false, List, [], ◌∷◌, ◌++◌, length, get_or, set, map, take, drop, arith, inl, inr, append_assoc, append-nil, length-append}
 use Rattle.std.proofs.Math.Nat.{mod-add-mod, zero-mod, zero-mul}
 use Rattle.std.proofs.Math.Seq.{take-append_seam}
@@ -154,7 +154,7 @@ written n later old e = ap (λ m. take m (later ++ drop (length later) old)) (sy
 
 -- ---- bytes that are taken
 
--- a lane whose bytes, taken and waiting, are the same as before
+-- a lane whose bytes, taken and waiting, are those of before
 sent_moved : (ended : Bool) (p : Progress) (taken : ℕ → List ℕ) (i : ℕ) (l m : Lane) → m.writer ≡ l.writer → taken i ++ m.waiting ≡ p.taken i ++ l.waiting → IsSent ended p i l → IsSent ended (progress p.settings p.payload p.columns taken) i m
 sent_moved false p taken i l m writer bytes k = rw (writer, bytes) k
 sent_moved true p taken i l m writer bytes k = rw bytes k

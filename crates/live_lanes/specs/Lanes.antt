@@ -22,7 +22,7 @@ has_room v = list_all lane_has_room v.lanes
 abbrev pub wants_payload : Lanes → Bool
 wants_payload v = is_payload (role_of v.link v.place)
 
--- the bytes of lane number i that are made and not taken; none where there is no such lane
+-- the bytes of lane number i that are made and not taken; none if there is no such lane
 abbrev pub waiting_on : ℕ → Lanes → List ℕ
 waiting_on i v = get_or (map (λ (l : Lane). l.waiting) v.lanes) i []
 

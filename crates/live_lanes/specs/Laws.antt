@@ -8,14 +8,14 @@ use Rattle.live_lanes.specs.States.{Lane, Lanes}
 use Rattle.live_lanes.specs.Lanes.{waiting_on, wants_payload}
 use Rattle.live_lanes.specs.Standing.{Progress, Stands}
 
--- What was taken of a lane is the first of its file, whatever payload words follow: where these and the ones that were given fill the
+-- What was taken of a lane is the first of its file, whatever payload words follow: if these and the ones that were given fill the
 -- metaframes that were begun. Once the lanes have ended none follow.
 abbrev pub TakenAreFirst : Type 0
 TakenAreFirst = (v : Lanes) (p : Progress) (rest : List Word) (i : ℕ) (file : List ℕ) → Stands v p → i < p.settings.lanes →
     (v.ended ≡ true → rest ≡ []) → p.columns ≤ length (p.payload ++ rest) / group_of p.settings * p.settings.metaframe →
     IsFileOf file (stream_lane_bits p.settings (p.payload ++ rest) i) → take (length (p.taken i)) file ≡ p.taken i
 
--- Once the lanes have ended the payload words are whole groups, and what was taken of a lane is its file where nothing waits.
+-- Once the lanes have ended the payload words are whole groups, and what was taken of a lane is its file if nothing waits.
 abbrev pub AllTakenAreTheFile : Type 0
 AllTakenAreTheFile = (v : Lanes) (p : Progress) (i : ℕ) → Stands v p → v.ended ≡ true → i < p.settings.lanes → waiting_on i v ≡ [] →
     (length p.payload % group_of p.settings ≡ 0) × IsFileOf (p.taken i) (stream_lane_bits p.settings p.payload i)
@@ -25,7 +25,8 @@ abbrev pub AreInStep : Type 0
 AreInStep = (v : Lanes) (p : Progress) (i j : ℕ) → Stands v p → i < p.settings.lanes → j < p.settings.lanes →
     length (p.taken i ++ waiting_on i v) ≡ length (p.taken j ++ waiting_on j v)
 
--- Until the lanes have ended, so many bytes of a lane were taken or wait as the words that each made complete, of 67 bits each.
+-- Until the lanes have ended, the bytes of a lane that were taken or wait are as many as the words that each lane made complete, of 67
+-- bits each.
 abbrev pub AreWholeBytes : Type 0
 AreWholeBytes = (v : Lanes) (p : Progress) (i : ℕ) → Stands v p → v.ended ≡ false → i < p.settings.lanes →
     length (p.taken i) + length (waiting_on i v) ≡ 67 * p.columns / 8

@@ -1,4 +1,4 @@
--- How the lanes of a link stand to what they were given and what was taken of them.
+-- What the lanes of a link have made of what they were given, and what was taken of them.
 use Rattle.std.specs.Prelude.{ℕ, ◌≡◌, ◌<◌, ◌+◌, ◌*◌, ◌%◌, ◌==◌, cond, Bool, true, false, List, [], ◌++◌, length, get_or}
 use Rattle.lk_base.specs.declared.word.Word.{Word}
 use Rattle.lk_base.specs.Link.{Settings, IsLink}

@@ -13,7 +13,7 @@ pub record Lane : Type 0 where
 pub record Lanes : Type 0 where
   pub link : Settings
   pub lanes : List Lane
-  -- the place of the next words in their metaframe, the same on each lane
+  -- the place of the next words in their metaframe, one for all lanes
   pub place : ℕ
   -- each lane has its last byte
   pub ended : Bool

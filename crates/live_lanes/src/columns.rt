@@ -11,7 +11,7 @@ use crate::lane::LiveLane;
 use lk_base::{Link, OutOfMemory, Word};
 use std::alloc::Global;
 
-/// The lanes of a link before their first words.
+/// Creates the lanes of a link before their first words.
 pub fn make_lanes(alloc: Global, link: &Link) -> Result<Vec<LiveLane>, OutOfMemory>
     ensures count { IfOk result (λ lanes. length lanes.items ≡ link.now.lanes) }
     ensures made { IfOk result (λ lanes. (i : ℕ) (d : Lane) → i < link.now.lanes → IsFresh link.now i (get_or lanes.items i d)) }
@@ -24,19 +24,14 @@ pub fn make_lanes(alloc: Global, link: &Link) -> Result<Vec<LiveLane>, OutOfMemo
     Ok(lanes)
 }
 
-/// Whether each lane has room for the bytes of one word more.
+/// True if each lane has room for the bytes of one word more.
 pub fn have_room(lanes: &[LiveLane]) -> bool
     ensures { result ≡ list_all lane_has_room lanes.now }
 {
-    for lane in lanes {
-        if !lane.has_room() {
-            return false;
-        }
-    }
-    true
+    lanes.iter().all(|lane| lane.has_room())
 }
 
-/// Each lane makes its next word, a framing word.
+/// Has each lane make its next word, a framing word.
 pub fn frame_each(lanes: &mut [LiveLane])
     requires room { list_all lane_has_room lanes.old ≡ true }
     requires wants { All (λ l. wants_payload l.writer.framing ≡ false) lanes.old }
@@ -47,7 +42,7 @@ pub fn frame_each(lanes: &mut [LiveLane])
     }
 }
 
-/// Each lane makes its next word, a payload word, of these in the order of lanes.
+/// Has each lane make its next word, a payload word, of these in the order of lanes.
 pub fn put_each(lanes: &mut [LiveLane], words: &[Word])
     requires room { list_all lane_has_room lanes.old ≡ true }
     requires wants { All (λ l. wants_payload l.writer.framing ≡ true) lanes.old }
@@ -60,7 +55,7 @@ pub fn put_each(lanes: &mut [LiveLane], words: &[Word])
     }
 }
 
-/// Each lane makes its last byte, where bits are left.
+/// Has each lane make its last byte, if bits are left.
 pub fn finish_each(lanes: &mut [LiveLane])
     requires { list_all lane_has_room lanes.old ≡ true }
     ensures { AreEach (λ i. MakesEnd) lanes.old lanes.new }
@@ -70,7 +65,7 @@ pub fn finish_each(lanes: &mut [LiveLane])
     }
 }
 
-/// The place after this one in the metaframes of a link.
+/// Returns the place after this one in the metaframes of a link.
 pub fn next_place(place: u32, link: &Link) -> u32
     requires { place < link.now.metaframe }
     ensures { result ≡ (place + 1) % link.now.metaframe }

@@ -51,7 +51,7 @@ fn give_bytes(writer: &mut LaneWriter, ring: &mut HeapCircularBuffer<u8>)
 }
 
 impl LiveLane {
-    /// A lane before its first word. Lanes are numbered from 0. It takes memory here, and no later call does.
+    /// Creates a lane before its first word. Lanes are numbered from 0. It takes memory here, and no later call does.
     pub fn new(alloc: Global, link: &Link, lane: u32) -> Result<LiveLane, OutOfMemory>
         ensures { IfOk result (IsFresh link.now lane) }
     {
@@ -62,21 +62,21 @@ impl LiveLane {
         })
     }
 
-    /// Whether its next word is a payload word.
+    /// True if its next word is a payload word.
     pub fn wants_payload(&self) -> bool
         ensures { result ≡ wants_payload self.now.writer.framing }
     {
         self.writer.wants_payload()
     }
 
-    /// Whether there is room for the bytes of one word more.
+    /// True if there is room for the bytes of one word more.
     pub fn has_room(&self) -> bool
         ensures { result ≡ lane_has_room self.now }
     {
         self.ring.len() + WORD_BYTES <= ROOM
     }
 
-    /// How many bytes wait: 4,096 at most.
+    /// Returns how many bytes wait: 4,096 at most.
     pub fn waiting(&self) -> usize
         ensures bytes { result ≡ length self.now.waiting }
         ensures few { result ≤ 4096 }
@@ -84,7 +84,7 @@ impl LiveLane {
         self.ring.len()
     }
 
-    /// Makes the next word, where it is a framing word.
+    /// Makes the next word, a framing word.
     pub fn frame(&mut self)
         requires room { lane_has_room self.old ≡ true }
         requires wants { wants_payload self.old.writer.framing ≡ false }
@@ -94,7 +94,7 @@ impl LiveLane {
         give_bytes(&mut self.writer, &mut self.ring);
     }
 
-    /// Makes the next word, where it is a payload word, of the given one.
+    /// Makes the next word, a payload word, of the given one.
     pub fn put(&mut self, word: Word)
         requires room { lane_has_room self.old ≡ true }
         requires wants { wants_payload self.old.writer.framing ≡ true }

@@ -6,7 +6,7 @@ pub fn taken_are_first()
     ensures { TakenAreFirst }
 {}
 
-/// Once the lanes have ended, what was taken of a lane is its file where nothing waits.
+/// Once the lanes have ended, what was taken of a lane is its file if nothing waits.
 pub fn all_taken_are_the_file()
     ensures { AllTakenAreTheFile }
 {}
@@ -16,7 +16,7 @@ pub fn are_in_step()
     ensures { AreInStep }
 {}
 
-/// Until the lanes have ended, so many bytes of a lane were taken or wait as the words that each made complete.
+/// Until the lanes have ended, the bytes of a lane that were taken or wait are as many as the words that each lane made complete.
 pub fn are_whole_bytes()
     ensures { AreWholeBytes }
 {}

@@ -16,7 +16,7 @@ pub struct LiveLanes {
     lanes: Vec<LiveLane>,
     /// The place of the next words in their metaframe.
     place: u32,
-    /// Each lane has its last byte.
+    /// True if each lane has its last byte.
     ended: bool,
 }
 
@@ -32,11 +32,11 @@ impl Model for LiveLanes {
 }
 
 impl LiveLanes {
-    /// The lanes of a link before their first words. They take memory here, and no later call does.
+    /// Creates the lanes of a link before their first words. They take memory here, and no later call does.
     ///
     /// # Errors
     ///
-    /// `OutOfMemory` where memory ran out, and nowhere else.
+    /// `OutOfMemory` if memory ran out, and only then.
     pub fn new(alloc: Global, link: &Link) -> Result<LiveLanes, OutOfMemory>
         ensures { IfOk result (λ v. Stands v (begun link.now) × (v.ended ≡ false)) }
     {
@@ -51,42 +51,42 @@ impl LiveLanes {
         })
     }
 
-    /// How many lanes there are: 1 to 64.
+    /// Returns how many lanes there are: 1 to 64.
     pub fn count(&self) -> usize
         ensures { result ≡ length self.now.lanes }
     {
         self.lanes.len()
     }
 
-    /// Whether each ring has room for the bytes of one word more: 9 at most.
+    /// True if each ring has room for the bytes of one word more: 9 at most.
     pub fn has_room(&self) -> bool
         ensures { result ≡ has_room self.now }
     {
         have_room(&self.lanes)
     }
 
-    /// Whether the next word of each lane is a payload word; else each is a framing word. Once the lanes have ended it is false.
+    /// True if the next word of each lane is a payload word, false if each is a framing word or the lanes have ended.
     pub fn wants_payload(&self) -> bool
         ensures { result ≡ wants_payload self.now }
     {
         !self.ended && self.lanes[0].wants_payload()
     }
 
-    /// Whether each lane made whole metaframes.
+    /// True if each lane made whole metaframes.
     pub fn is_whole(&self) -> bool
         ensures { result ≡ (self.now.place == 0) }
     {
         self.place == 0
     }
 
-    /// Whether the lanes have ended.
+    /// True if the lanes have ended.
     pub fn has_ended(&self) -> bool
         ensures { result ≡ self.now.ended }
     {
         self.ended
     }
 
-    /// How many bytes of a lane wait: 4,096 at most, and none if there is no such lane.
+    /// Returns how many bytes of a lane wait: 4,096 at most, and 0 if there is no such lane.
     pub fn waiting(&self, lane: u32) -> usize
         ensures bytes { result ≡ length (waiting_on lane self.now) }
         ensures few { result ≤ 4096 }
@@ -98,7 +98,7 @@ impl LiveLanes {
         self.lanes[at].waiting()
     }
 
-    /// Makes the next word of each lane, where it is a framing word.
+    /// Makes the next word of each lane, a framing word.
     pub fn frame(&mut self)
         requires going { self.old.ended ≡ false }
         requires room { has_room self.old ≡ true }
@@ -111,7 +111,7 @@ impl LiveLanes {
         self.place = next_place(self.place, &self.link);
     }
 
-    /// Makes the next word of each lane, where it is a payload word, of these in the order of lanes: one for each.
+    /// Makes the next word of each lane, a payload word, of these in the order of lanes: one for each.
     pub fn put(&mut self, words: &[Word])
         requires going { self.old.ended ≡ false }
         requires room { has_room self.old ≡ true }
@@ -138,7 +138,7 @@ impl LiveLanes {
         self.ended = true;
     }
 
-    /// Takes the next bytes of a lane, as many as wait and there is room for, and returns how many: none where there is no such lane.
+    /// Takes the next bytes of a lane, as many as wait and there is room for, and returns how many: 0 if there is no such lane.
     pub fn take(&mut self, lane: u32, out: &mut [u8]) -> usize
         ensures count { result ≡ min (length out.old) (length (waiting_on lane self.old)) }
         ensures copied { out.new ≡ take result (waiting_on lane self.old) ++ drop result out.old }

@@ -1,4 +1,4 @@
--- The lock of a lane is declared exactly where its report has more locks than lost ones.
+-- The lock of a lane is declared if its report has more locks than lost ones, and only then.
 use Rattle.std.proofs.Common.{ℕ, zero, suc, ◌≡◌, refl, sym, ap, ◌∙◌, ◌+◌, ◌*◌, ◌<◌, Bool, true, cond, List, [], ◌∷◌, length, Option, Some, None, arith}
 use Rattle.std.specs.Prelude.{count_by, nat_lt}
 use Rattle.std.proofs.lemmas.Bool.Decides.{nat_tests}

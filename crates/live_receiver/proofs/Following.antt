@@ -1,4 +1,4 @@
--- A receiver stands to what was fed and given after any calls.
+-- What a receiver is, by what was fed and given, after any calls.
 use Rattle.std.proofs.Common.{ℕ, ◌≡◌, refl, sym, ap, ◌∙◌, subst, true, false, true≢false, Result, List, [], ◌∷◌, ◌++◌, Some, None, Ok, Err}
 use Rattle.std.proofs.lemmas.List.{append-nil}
 use Rattle.lk_base.specs.Link.{Settings}

@@ -30,7 +30,7 @@ all_at_once (Dropped channel why ∷ given) = all_at_once given
 all_at_once (FaultSpan span ∷ given) = All-cons at_start (at_once 0) (heard_in given) (lit≤ tt) (all_at_once given)
 all_at_once (Flow at word ∷ given) = All-cons at_start (at_once (heard_word word)) (heard_in given) (lit≤ tt) (all_at_once given)
 
--- an event says the same as what `next` answers of it
+-- an event says what `next` answers of it
 heard_event : (bytes : List ℕ) (event : RxEvent) → heard_in (event_of bytes event) ≡ heard_now event
 heard_event bytes (events.Packet channel length first last) = refl
 heard_event bytes (events.Dropped channel why) = refl

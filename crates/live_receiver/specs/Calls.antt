@@ -18,7 +18,7 @@ use Rattle.c_parts.specs.declared.misuse.Misuse.{Misuse}
 use Rattle.c_parts.specs.declared.misuse.Misuse.TheVariants as misuses
 use Rattle.live_receiver.specs.declared.session.Session.{Session}
 
--- the receiver w stands as v does, where what was fed is changed so
+-- the receiver w is as v, if what was fed is changed so
 abbrev pub Changes : (List Fed → List Fed) → State → State → Type 0
 Changes change v w = (s : Settings) (setting : Setting) (fed : List Fed) (given : List Event) → Stands v s setting fed given → Stands w s setting (change fed) given
 
@@ -35,7 +35,7 @@ IsFeed s t lane piece (Ok n) =
     (feed_misuse s.receiver lane (length piece) ≡ None) × (n ≡ min (length piece) (room_at lane s.receiver.front.lanes)) × Changes (fed_more lane (take n piece)) s.receiver t.receiver × KeepsGiven s t
 IsFeed s t lane piece (Err why) = (feed_misuse s.receiver lane (length piece) ≡ Some why) × (t ≡ s)
 
--- no further byte of the lane comes
+-- no further byte of the lane is fed
 abbrev pub IsFinish : Session → Session → ℕ → Result (Unit {0}) Misuse → Type 0
 IsFinish s t lane (Ok u) = (lane_misuse s.receiver lane ≡ None) × Changes (finished_at lane) s.receiver t.receiver × KeepsGiven s t
 IsFinish s t lane (Err why) = (lane_misuse s.receiver lane ≡ Some why) × (t ≡ s)
@@ -44,7 +44,7 @@ IsFinish s t lane (Err why) = (lane_misuse s.receiver lane ≡ Some why) × (t �
 abbrev pub IsNextOf : Session → Session → Option RxEvent → Type 0
 IsNextOf s t answer = IsNext s.receiver t.receiver answer × (t.lends ≡ is_lent answer) × Hears s.far t.far answer × (t.channels ≡ s.channels)
 
--- where the last event was a packet, bytes of it are copied, from the offset on, as many as there is room for
+-- if the last event was a packet, bytes of it are copied, from the offset on, as many as there is room for
 abbrev pub IsRead : Session → ℕ → List ℕ → List ℕ → Result ℕ Misuse → Type 0
 IsRead s offset old new (Ok n) =
     (s.lends ≡ true) × (n ≡ min (length old) (length s.receiver.reassembly.packet - offset)) × (new ≡ take n (drop offset s.receiver.reassembly.packet) ++ drop n old)
@@ -64,7 +64,7 @@ IsLaneState s lane (Ok state) = (lane < length s.receiver.front.lanes) ×
     IsStateOf settings stands.progress.rounds lane fed state)
 IsLaneState s lane (Err why) = (why ≡ misuses.NoLane) × (length s.receiver.front.lanes ≤ lane)
 
--- whether the far end's channel is on, by what was heard; nothing of a channel that is not listed
+-- true if the far end's channel is on, by what was heard; nothing of a channel that is not listed
 abbrev pub IsChannelState : Session → ℕ → Option Bool → Type 0
 IsChannelState s channel (Some on) = (is_listed s.channels.items channel ≡ true) × IsOnNow s.far channel on
 IsChannelState s channel None = is_listed s.channels.items channel ≡ false

@@ -87,7 +87,7 @@ abbrev pub ReadsNoPacket : Type 0
 ReadsNoPacket = (bytes : List ℕ) (s t : Session) (calls : List Call) (offset : ℕ) (old new : List ℕ) (answer : Result ℕ Misuse) →
     IsOfPlan bytes s → AreOthers s calls t → IsRead t offset old new answer → (answer ≡ Err misuses.NoPacket) × (new ≡ old)
 
--- an answer of a channel is one exactly where the channel is listed; the channel is on by the events that were given
+-- there is an answer of a channel if it is listed, and only then; the channel is on by the events that were given
 pub record IsHeard (entries : List ℕ) (s : Session) (given : List Event) (channel : ℕ) (answer : Option Bool) : Type 0 where
   pub listed : is_some answer ≡ is_listed s.channels.items channel
   pub on : IfSome answer (λ on. on ≡ is_on_by entries given channel)

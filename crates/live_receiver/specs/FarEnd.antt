@@ -1,4 +1,4 @@
--- What the far end tells of its channels by the control words that came.
+-- What the far end tells of its channels by its control words.
 use Rattle.std.specs.Prelude.{ℕ, ◌≡◌, ◌≤◌, ◌++◌, Bool, All, List, [], ◌∷◌, flat_map, Option, Some, None}
 use Rattle.stream_model.specs.Calendar.{is_on}
 use Rattle.stream_model.specs.declared.rows.FlowRow.{FlowRow}

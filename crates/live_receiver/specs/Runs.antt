@@ -7,14 +7,7 @@ use Rattle.rx_end.specs.declared.event.RxEvent.{RxEvent}
 use Rattle.rx_end.specs.Nexts.{is_packet}
 use Rattle.rx_end.specs.States.{State}
 use Rattle.rx_end.specs.Standing.{Stands}
-
--- which lanes are finished
-abbrev pub flags : List Fed → List Bool
-flags fed = map (λ lane. lane.finished) fed
-
--- how many bytes were fed of each
-abbrev pub counts : List Fed → List ℕ
-counts fed = map (λ lane. length lane.bytes) fed
+pub use Rattle.event_model.specs.Fed.{counts, flags}
 
 -- these lanes of it are finished, and this many bytes were fed of each
 pub record Runs (r : State) (finished : List Bool) (fed_of : List ℕ) : Type 0 where

@@ -11,7 +11,7 @@ is_declared states.Searching = false
 is_declared states.WordLock = false
 is_declared states.Declared = true
 
--- the lock of a lane is declared exactly where its report has more locks than lost ones
+-- the lock of a lane is declared if its report has more locks than lost ones, and only then
 abbrev pub StatesAreReported : Type 0
 StatesAreReported = (s : Session) (lane : ℕ) (report : LaneReport) (state : LaneState) → IsReport s lane (Ok report) → IsLaneState s lane (Ok state) →
     is_declared state ≡ nat_lt report.lost report.locks

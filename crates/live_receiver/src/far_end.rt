@@ -1,4 +1,4 @@
-//! What the far end tells of its channels by the control words that came.
+//! What the far end tells of its channels by its control words.
 ghost use Rattle.std.specs.Prelude.{◌++◌, ◌∷◌, [], ℕ, List, IfOk};
 ghost use Rattle.stream_model.specs.declared.rows.FlowRow.{FlowRow};
 ghost use Rattle.calendar.specs.Incoming.{StandsFor};
@@ -32,7 +32,7 @@ impl Model for FarEnd {
 }
 
 impl FarEnd {
-    /// All channels are on, and no word counts until one with Reset Calendar.
+    /// Creates a far end with all channels on; no word counts until one with Reset Calendar.
     pub fn new(alloc: Global, entries: &[u16]) -> Result<FarEnd, OutOfMemory>
         ensures { IfOk result (λ far. HasHeard far entries.now []) }
     {
@@ -55,7 +55,7 @@ impl FarEnd {
     {
         match event {
             RxEvent::Flow { word, .. } => self.take(verified_word(word)),
-            // Words may be missing, so the next ones cannot be numbered.
+            // words may be missing, so the next ones cannot be numbered
             RxEvent::Span(_) => self.take(None),
             RxEvent::Packet { .. } | RxEvent::Dropped { .. } | RxEvent::Ended => {}
         }
@@ -70,7 +70,7 @@ impl FarEnd {
         }
     }
 
-    /// Whether a channel is on by what was taken.
+    /// True if a channel is on by what was taken.
     pub fn is_on(&self, channel: u16) -> bool
         ensures { IsOnNow self.now channel result }
     {

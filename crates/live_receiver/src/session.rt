@@ -13,21 +13,26 @@ use lk_base::OutOfMemory;
 use rx_end::{LaneReport, LaneState, Receiver, RxEvent};
 use std::alloc::Global;
 
-/// A receiver, which lanes of it are finished, how many bytes each was fed, whether the last event was a packet, the listed channels in
-/// order of number, and what the far end tells of its channels.
+/// A receiver, with what it must know to answer for any call.
 #[derive(Drop)]
 pub struct Session {
+    /// The receiver.
     pub receiver: Receiver,
+    // True for each lane that is finished.
     finished: Vec<bool>,
+    // How many bytes each lane was fed.
     fed: Vec<usize>,
+    /// True if the last event was a packet, whose bytes are lent.
     pub lends: bool,
+    /// The listed channels, in order of number.
     pub channels: Vec<u16>,
+    /// What the far end tells of its channels.
     pub far: FarEnd,
     ghost runs: { ∥ Runs receiver finished.items fed.items ∥₁ },
     ghost lent: { ∥ (lends ≡ true → receiver.reassembly.lending ≡ true) ∥₁ },
 }
 
-// This many lanes that are not finished.
+// Makes the marks of `lanes` lanes that are not finished.
 fn none_finished(alloc: Global, lanes: usize) -> Result<Vec<bool>, OutOfMemory>
     ensures { IfOk result (λ v. v.items ≡ replicate lanes false) }
 {
@@ -35,7 +40,7 @@ fn none_finished(alloc: Global, lanes: usize) -> Result<Vec<bool>, OutOfMemory>
     Ok(finished)
 }
 
-// This many lanes that were fed no byte.
+// Makes the counts of `lanes` lanes that were fed no byte.
 fn none_fed(alloc: Global, lanes: usize) -> Result<Vec<usize>, OutOfMemory>
     ensures { IfOk result (λ v. v.items ≡ replicate lanes 0) }
 {
@@ -46,7 +51,7 @@ fn none_fed(alloc: Global, lanes: usize) -> Result<Vec<usize>, OutOfMemory>
 impl Session {
     ghost use Rattle.live_receiver.specs.Calls.{IsChannelState, IsFeed, IsFinish, IsLaneState, IsNextOf, IsRead, IsReport};
 
-    /// A receiver of a plan's lanes to which nothing was fed.
+    /// Creates a receiver of a plan's lanes to which nothing was fed.
     pub fn new(alloc: Global, plan: &Plan) -> Result<Session, OutOfMemory>
         ensures unfed { IfOk result (λ s. IsUnfed plan.now s.receiver) }
         ensures unheard { IfOk result (λ s. HasHeard s.far plan.now.entries.items []) }
@@ -69,14 +74,14 @@ impl Session {
         })
     }
 
-    // Why a lane takes no byte and no end.
+    // Returns why a lane takes no byte and no end, if it does not.
     fn lane_misuse(&self, lane: u32) -> Option<Misuse>
         ensures { result ≡ lane_misuse self.now.receiver lane }
     {
         misuse::lane_misuse(&self.finished, lane)
     }
 
-    // Why a lane does not take a piece of this many bytes.
+    // Returns why a lane does not take a piece of this many bytes, if it does not.
     fn feed_misuse(&self, lane: u32, count: usize) -> Option<Misuse>
         ensures { result ≡ feed_misuse self.now.receiver lane count }
     {
@@ -106,7 +111,7 @@ impl Session {
         count
     }
 
-    /// No further byte of this lane comes.
+    /// Finishes a lane: no further byte of it is fed.
     pub fn finish(&mut self, lane: u32) -> Result<(), Misuse>
         ensures { IsFinish self.old self.new lane result }
     {
@@ -128,7 +133,7 @@ impl Session {
         self.receiver.finish(lane);
     }
 
-    /// The next event, or none.
+    /// Returns the next event, if there is one.
     pub fn next(&mut self) -> Option<RxEvent>
         ensures { IsNextOf self.old self.new result }
     {
@@ -148,7 +153,7 @@ impl Session {
         Ok(self.receiver.packet_read(offset, bytes))
     }
 
-    /// The report of a lane.
+    /// Returns the report of a lane.
     pub fn report(&self, lane: u32) -> Result<LaneReport, Misuse>
         ensures { IsReport self.now lane result }
     {
@@ -158,7 +163,7 @@ impl Session {
         Ok(self.receiver.lane_report(lane))
     }
 
-    /// How far the search for the locks of a lane is.
+    /// Returns how far the search for the locks of a lane is.
     pub fn lane_state(&self, lane: u32) -> Result<LaneState, Misuse>
         ensures { IsLaneState self.now lane result }
     {
@@ -168,7 +173,8 @@ impl Session {
         Ok(self.receiver.lane_state(lane))
     }
 
-    /// Whether the far end lets packets be sent on a channel, by the control words that were given. None if the channel is not listed.
+    /// Returns whether the far end lets packets be sent on a channel, by the control words that were given, or `None` if the channel is
+    /// not listed.
     pub fn is_on(&self, channel: u16) -> Option<bool>
         ensures { IsChannelState self.now channel result }
     {
@@ -180,7 +186,7 @@ impl Session {
     }
 }
 
-// Whether an event lends a packet.
+// True if an event lends a packet.
 fn is_lent(event: Option<RxEvent>) -> bool
     ensures { result ≡ is_lent event }
 {

@@ -27,6 +27,7 @@ use Rattle.live_stream.specs.declared.refused.Refused.{Refused}
 use Rattle.live_stream.specs.declared.refused.Refused.TheVariants as refused
 use Rattle.live_stream.specs.declared.scheduler.LiveScheduler.{LiveScheduler}
 use Rattle.live_stream.specs.declared.scheduler.TheConstants.{MOST_WORDS}
+pub use Rattle.burst_scheduler.specs.Asked.{words_of}
 
 -- ---- what calls give
 
@@ -60,11 +61,6 @@ packets_closed_in g = record g { packets_closed = true }
 -- closed at this slot, if it was not before
 abbrev pub closed_at : Given → List Word → Given
 closed_at g w = record g { closed = option_or g.closed (Some (length w)) }
-
--- the words that one call makes
-abbrev pub words_of : Option Word → List Word
-words_of None = []
-words_of (Some word) = word ∷ []
 
 -- the most words of a stream
 abbrev pub most_words : ℕ

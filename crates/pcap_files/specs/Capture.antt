@@ -27,7 +27,7 @@ header_of bytes =
 
 -- ---- the records
 
--- where a reader stands: the order, the largest packet, the record's number, its offset, and the bytes from there on
+-- the place of a reader: the order, the largest packet, the record's number, its offset, and the bytes from there on
 pub record Place : Type 0 where
   pub order : Order
   pub most : ℕ
@@ -76,7 +76,7 @@ answer_by [] (Some e) = Err e
 abbrev pub answer_of : Packets → Result (Option (List ℕ)) PcapError
 answer_of p = answer_by p.packets p.refusal
 
--- what a place gives, where `more` gives what the place after its packet does
+-- what a place gives, if `more` gives what the place after its packet does
 abbrev pub packets_by : (ℕ → Packets) → Result (Option (List ℕ)) PcapError → Packets
 packets_by more (Ok None) = nothing
 packets_by more (Ok (Some packet)) = with_packet packet (more (length packet))

@@ -1,8 +1,8 @@
--- Where the packets of a capture stand in its bytes.
+-- Where the packets of a capture are in its bytes.
 use Rattle.std.specs.Prelude.{ℕ, ◌+◌, ◌≤◌, List, length, take, drop}
 use Rattle.pcap_files.specs.declared.place.PacketPlace.{PacketPlace}
 
--- the bytes that stand there
+-- the bytes that are there
 abbrev pub bytes_at : List ℕ → PacketPlace → List ℕ
 bytes_at bytes place = take place.size (drop place.start bytes)
 

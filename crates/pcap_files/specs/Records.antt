@@ -1,4 +1,4 @@
--- Where the records of a capture stand: what makes a refusal the first one.
+-- Where the records of a capture are: what makes a refusal the first one.
 use Rattle.std.specs.Prelude.{ℕ, ◌+◌, ◌≤◌, ◌≡◌, List, ◌∷◌, ◌++◌, length, drop, sum_by, Option, Some, None, Result, Ok, Err}
 use Rattle.pcap_files.specs.declared.order.Order.{Order}
 use Rattle.pcap_files.specs.declared.error.PcapError.{PcapError}
@@ -12,12 +12,12 @@ space_of packets = sum_by (λ packet. 16 + length packet) packets
 abbrev pub place_behind : Order → ℕ → List ℕ → List (List ℕ) → Place
 place_behind order most bytes before = record { order = order; most = most; number = length before; offset = 24 + space_of before; rest = drop (24 + space_of before) bytes }
 
--- what stands after the last packet: the end of the bytes, or the refusal
+-- what is after the last packet: the end of the bytes, or the refusal
 abbrev pub end_of : Option PcapError → Result (Option (List ℕ)) PcapError
 end_of None = Ok None
 end_of (Some e) = Err e
 
--- the packets are those of the records from the header on, and what is reported of the end stands after the last of them
+-- the packets are those of the records from the header on, and what is reported of the end is after the last of them
 pub record AreRecords (order : Order) (most : ℕ) (bytes : List ℕ) (reading : Packets) : Type 0 where
   pub each : (before : List (List ℕ)) (packet : List ℕ) (more : List (List ℕ)) → reading.packets ≡ before ++ packet ∷ more → packet_at (place_behind order most bytes before) ≡ Ok (Some packet)
   pub end : packet_at (place_behind order most bytes reading.packets) ≡ end_of reading.refusal

@@ -10,7 +10,7 @@ header_bytes link_type =
     little_bytes 4 0xA1B2C3D4 ++ little_bytes 2 2 ++ little_bytes 2 4 ++ little_bytes 4 0 ++ little_bytes 4 0
     ++ little_bytes 4 262144 ++ little_bytes 4 link_type
 
--- what stands before a packet of this length: two stamps of 0 and both lengths
+-- what is before a packet of this length: two stamps of 0 and both lengths
 unfoldable pub record_head : ℕ → List ℕ
 record_head size = little_bytes 4 0 ++ little_bytes 4 0 ++ little_bytes 4 size ++ little_bytes 4 size
 

@@ -6,7 +6,7 @@ ghost use Rattle.pcap_files.specs.declared.error.PcapError.{PcapError};
 
 use crate::error::PcapError;
 use crate::reader::PcapReader;
-use std::alloc::Global;
+use std::alloc::{AllocFailed, Global};
 use thiserror::Error;
 
 /// Why the packets of a capture are not given.
@@ -20,8 +20,33 @@ pub enum CaptureError {
     OutOfMemory,
 }
 
-/// All packets of a capture, each lent from its bytes. The packets come exactly where the capture is accepted with
-/// packets of up to `most` bytes, and a refusal exactly where it is the capture's first, unless memory runs out.
+impl From<PcapError> for CaptureError {
+    ghost use Rattle.std.specs.Prelude.{◌≡◌};
+    ghost use Rattle.pcap_files.specs.declared.capture.CaptureError.TheVariants as error;
+
+    ghost from_gives = { λ refusal e. e ≡ error.Refused refusal };
+
+    fn from(refusal: PcapError) -> CaptureError {
+        CaptureError::Refused(refusal)
+    }
+}
+
+impl<T: Drop> From<AllocFailed<T>> for CaptureError {
+    ghost use Rattle.std.specs.Prelude.{◌≡◌};
+    ghost use Rattle.pcap_files.specs.declared.capture.CaptureError.TheVariants as error;
+
+    ghost from_gives = { λ _ e. e ≡ error.OutOfMemory };
+
+    fn from(_: AllocFailed<T>) -> CaptureError {
+        CaptureError::OutOfMemory
+    }
+}
+
+/// Lends all packets of a capture from its bytes. Packets may have up to `most` bytes.
+///
+/// # Errors
+///
+/// The first refusal of the capture, if there is one, or `OutOfMemory` if memory ran out.
 pub fn packets_of<'a>(
     alloc: Global,
     bytes: &'a [u8],
@@ -33,20 +58,10 @@ pub fn packets_of<'a>(
     ensures within { IfOk result (λ v. AllByRecursion (IsWithin most) (map (λ p. p.now) v.items)) }
     ensures whole { IfOk result (λ v. 24 + space_of (map (λ p. p.now) v.items) ≡ length bytes.now) }
 {
-    let mut reader = match PcapReader::begin(bytes, most) {
-        Ok(reader) => reader,
-        Err(e) => return Err(CaptureError::Refused(e)),
-    };
+    let mut reader = PcapReader::begin(bytes, most)?;
     let mut packets: Vec<&'a [u8]> = Vec::new(alloc);
-    loop {
-        match reader.next() {
-            Ok(Some(packet)) => {
-                if packets.push(packet).is_err() {
-                    return Err(CaptureError::OutOfMemory);
-                }
-            }
-            Ok(None) => return Ok(packets),
-            Err(e) => return Err(CaptureError::Refused(e)),
-        }
+    while let Some(packet) = reader.next()? {
+        packets.push(packet)?;
     }
+    Ok(packets)
 }

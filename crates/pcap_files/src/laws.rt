@@ -8,7 +8,7 @@ ghost use Rattle.pcap_files.specs.Written.{Fits, header_bytes, capture_bytes};
 ghost use Rattle.pcap_files.specs.Examples.{little_header, big_header, little_head, big_head, newer_format};
 
 /// The packets of a capture are those of its records, one after the other from the header on, and a refusal is that of
-/// the record after them. There is none exactly where the bytes end there.
+/// the record after them. There is none if the bytes end there, and only then.
 pub fn records_stand()
     ensures records { (bytes : List ℕ) (most : ℕ) (order : Order) →
         header_of bytes ≡ Ok order → AreRecords order most bytes (reading_of bytes most) }
@@ -18,7 +18,7 @@ pub fn records_stand()
 {}
 
 /// Each packet of an accepted capture has 1 to `most` bytes, with the header their records take the whole file, and
-/// where the file's numbers are bytes, so are the packets'.
+/// if the file's numbers are bytes, so are the packets'.
 pub fn packets_fit()
     ensures within { (bytes : List ℕ) (most : ℕ) (packets : List (List ℕ)) →
         capture_of bytes most ≡ Ok packets → AllByRecursion (IsWithin most) packets }

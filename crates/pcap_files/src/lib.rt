@@ -5,6 +5,7 @@
 mod capture;
 mod error;
 pub mod laws;
+mod lengths;
 mod name;
 mod order;
 mod place;

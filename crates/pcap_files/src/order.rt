@@ -6,11 +6,13 @@ use byteorder::{BigEndian, ByteOrder, LittleEndian};
 /// The order of the bytes in number fields.
 #[derive(Clone, Copy)]
 pub enum Order {
+    /// High byte first.
     Big,
+    /// Low byte first.
     Little,
 }
 
-/// The order that the first four bytes give, read high byte first.
+/// Returns the order that the first four bytes give, read high byte first.
 pub fn order_by_magic(magic: u32) -> Option<Order>
     ensures { result ≡ order_of magic }
 {
@@ -21,7 +23,7 @@ pub fn order_by_magic(magic: u32) -> Option<Order>
     }
 }
 
-/// The number in the two bytes from an offset.
+/// Reads the number in the two bytes from offset `at`.
 #[tactic(auto, unfolding(crate::specs::Numbers::number))]
 pub fn u16_at(order: Order, at: usize, bytes: &[u8]) -> u16
     requires { at + 2 ≤ length bytes.now }
@@ -33,7 +35,7 @@ pub fn u16_at(order: Order, at: usize, bytes: &[u8]) -> u16
     }
 }
 
-/// The number in the four bytes from an offset.
+/// Reads the number in the four bytes from offset `at`.
 #[tactic(auto, unfolding(crate::specs::Numbers::number))]
 pub fn u32_at(order: Order, at: usize, bytes: &[u8]) -> u32
     requires { at + 4 ≤ length bytes.now }

@@ -1,4 +1,4 @@
-/// Where a packet of a capture stands.
+/// The place of a packet in a capture.
 #[derive(Clone, Copy, Debug, PartialEq, Eq)]
 pub struct PacketPlace {
     /// The offset of its first byte.

@@ -5,23 +5,24 @@ ghost use Rattle.pcap_files.specs.Records.{space_of};
 ghost use Rattle.pcap_files.specs.declared.error.PcapError.{PcapError};
 
 use crate::capture::CaptureError;
+use crate::lengths::{HEAD_BYTES, HEADER_BYTES};
 use crate::place::PacketPlace;
 use crate::reader::PcapReader;
 use std::alloc::Global;
 
-// The place of the packet of a record that begins at this offset.
+// Returns the place of the packet of a record that begins at this offset.
 fn place_at(offset: u32, packet: &[u8]) -> PacketPlace
     requires { offset + (16 + length packet.now) < 2 ^ 32 }
     ensures start { result.start ≡ offset + 16 }
     ensures size { result.size ≡ length packet.now }
 {
     PacketPlace {
-        start: offset + 16,
+        start: offset + HEAD_BYTES as u32,
         size: packet.len() as u32,
     }
 }
 
-// The offset after a packet.
+// Returns the offset after a packet.
 fn after(place: PacketPlace) -> u32
     requires { place.start + place.size < 2 ^ 32 }
     ensures { result ≡ place.start + place.size }
@@ -29,8 +30,11 @@ fn after(place: PacketPlace) -> u32
     place.start + place.size
 }
 
-/// Where the packets of a capture stand, in order. The places come exactly where the capture is accepted with packets of
-/// up to `most` bytes, and a refusal exactly where it is the capture's first, unless memory runs out.
+/// Finds the places of all packets of a capture, in order. Packets may have up to `most` bytes.
+///
+/// # Errors
+///
+/// The first refusal of the capture, if there is one, or `OutOfMemory` if memory ran out.
 pub fn places_of(alloc: Global, bytes: &[u8], most: u32) -> Result<Vec<PacketPlace>, CaptureError>
     requires { length bytes.now < 2 ^ 32 }
     ensures answer { MatchResult result
@@ -39,23 +43,13 @@ pub fn places_of(alloc: Global, bytes: &[u8], most: u32) -> Result<Vec<PacketPla
     ensures placed { IfOk result (λ v. All (IsPlace most bytes.now) v.items) }
     ensures whole { IfOk result (λ v. 24 + space_of (map (bytes_at bytes.now) v.items) ≡ length bytes.now) }
 {
-    let mut reader = match PcapReader::begin(bytes, most) {
-        Ok(reader) => reader,
-        Err(e) => return Err(CaptureError::Refused(e)),
-    };
+    let mut reader = PcapReader::begin(bytes, most)?;
     let mut places = Vec::new(alloc);
-    let mut offset = 24;
-    loop {
-        match reader.next() {
-            Ok(Some(packet)) => {
-                let place = place_at(offset, packet);
-                if places.push(place).is_err() {
-                    return Err(CaptureError::OutOfMemory);
-                }
-                offset = after(place);
-            }
-            Ok(None) => return Ok(places),
-            Err(e) => return Err(CaptureError::Refused(e)),
-        }
+    let mut offset = HEADER_BYTES as u32;
+    while let Some(packet) = reader.next()? {
+        let place = place_at(offset, packet);
+        places.push(place)?;
+        offset = after(place);
     }
+    Ok(places)
 }

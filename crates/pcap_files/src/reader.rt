@@ -2,11 +2,12 @@ ghost use Rattle.std.specs.Prelude.{◌≡◌, ◌+◌, ◌^◌, ◌<◌, ◌≤
 ghost use Rattle.pcap_files.specs.Capture.{Packets, answer_of, header_of, packet_at, reading_of, nothing, refused, with_packet};
 
 use crate::error::PcapError;
+use crate::lengths::{HEAD_BYTES, HEADER_BYTES};
 use crate::order::{Order, order_by_magic, u16_at, u32_at};
 use lk_base::tail;
 use std::marker::Model;
 
-// The order of a capture's fields.
+// Checks the header of a capture, and returns the order of its fields.
 #[tactic(auto, unfolding(crate::specs::Capture::header_of))]
 fn read_header(bytes: &[u8]) -> Result<Order, PcapError>
     ensures value { result ≡ header_of bytes.now }
@@ -22,7 +23,7 @@ fn read_header(bytes: &[u8]) -> Result<Order, PcapError>
     let Some(order) = order_by_magic(magic) else {
         return Err(PcapError::Magic(magic));
     };
-    if bytes.len() < 24 {
+    if bytes.len() < HEADER_BYTES {
         return Err(PcapError::Short(0));
     }
     let major = u16_at(order, 4, bytes);
@@ -34,7 +35,7 @@ fn read_header(bytes: &[u8]) -> Result<Order, PcapError>
     }
 }
 
-// The packet of the record at the front of the bytes that are left.
+// Lends the packet of the record at the front of the bytes that are left, or returns `None` if none are left.
 #[tactic(auto, unfolding(crate::specs::Capture::packet_at))]
 fn packet_of(
     order: Order,
@@ -51,7 +52,7 @@ fn packet_of(
     if rest.is_empty() {
         return Ok(None);
     }
-    if rest.len() < 16 {
+    if rest.len() < HEAD_BYTES {
         return Err(PcapError::Short(offset));
     }
     let size = u32_at(order, 8, rest);
@@ -61,7 +62,7 @@ fn packet_of(
     if size > most {
         return Err(PcapError::Long(number, size));
     }
-    let captured = &rest[16..];
+    let captured = &rest[HEAD_BYTES..];
     if captured.len() < size as usize {
         return Err(PcapError::Short(offset));
     }
@@ -91,8 +92,11 @@ impl<'a> Model for PcapReader<'a> {
 }
 
 impl<'a> PcapReader<'a> {
-    /// Checks the header of a capture: it is refused exactly where the first refusal of its header is. The records are
-    /// still to be read; packets longer than `max_packet` bytes are refused then.
+    /// Checks the header of a capture, and creates a reader of its records. It refuses packets longer than `max_packet` bytes.
+    ///
+    /// # Errors
+    ///
+    /// The first refusal of the header.
     pub fn begin(bytes: &'a [u8], max_packet: u32) -> Result<PcapReader<'a>, PcapError>
         ensures header { MatchResult result (λ _. IsOk (header_of bytes.now)) (λ e. header_of bytes.now ≡ Err e) }
         ensures reads { IfOk result (λ r. r ≡ reading_of bytes.now max_packet) }
@@ -102,13 +106,13 @@ impl<'a> PcapReader<'a> {
             order,
             most: max_packet,
             number: 0,
-            offset: 24,
-            rest: tail(bytes, 24),
+            offset: HEADER_BYTES as u64,
+            rest: tail(bytes, HEADER_BYTES),
         })
     }
 
-    /// Lends the captured bytes of the next record; none exactly at the end of the bytes. After a refusal, as after
-    /// none, the reader is unchanged, and answers the same again.
+    /// Lends the captured bytes of the next record, or returns `None` at the end of the bytes and only then. After `None` or a
+    /// refusal the reader is unchanged, so the next call has that result too.
     pub fn next(&mut self) -> Result<Option<&'a [u8]>, PcapError>
         ensures answer { MatchResult result
             (λ o. answer_of self.old ≡ Ok (option_map (λ s. s.now) o))
@@ -119,7 +123,7 @@ impl<'a> PcapReader<'a> {
     {
         match packet_of(self.order, self.most, self.number, self.offset, self.rest) {
             Ok(Some(packet)) => {
-                let size = 16 + packet.len();
+                let size = HEAD_BYTES + packet.len();
                 self.rest = tail(self.rest, size);
                 self.number += 1;
                 self.offset += size as u64;

@@ -2,6 +2,7 @@ ghost use Rattle.std.specs.Prelude.{◌≡◌, ◌≤◌, ◌+◌, ◌++◌, len
 ghost use Rattle.byteorder.specs.Endian.{little_bytes};
 ghost use Rattle.pcap_files.specs.Written.{header_bytes, record_head, record_bytes};
 
+use crate::lengths::{HEAD_BYTES, HEADER_BYTES};
 use byteorder::{ByteOrder, LittleEndian};
 use lk_base::{LONGEST_PACKET, OutOfMemory};
 
@@ -35,7 +36,7 @@ fn put_header(bytes: &mut [u8], link_type: u32)
     put_u32(bytes, 20, link_type);
 }
 
-/// Writes what stands before a packet of this size in its record: two stamps of 0 and both lengths.
+/// Writes what is before a packet of this size in its record: two stamps of 0 and both lengths.
 #[tactic(auto, unfolding(crate::specs::Written::record_head))]
 pub fn put_record_head(bytes: &mut [u8], size: u32)
     requires { length bytes.old ≡ 16 }
@@ -48,18 +49,18 @@ pub fn put_record_head(bytes: &mut [u8], size: u32)
 }
 
 /// Appends the header of a capture, 24 bytes: little-endian, version 2.4, packets up to 262,144 bytes, and the link
-/// type given. Where memory runs out, `out` stays as it was.
+/// type given. If memory runs out, `out` stays as it was.
 pub fn write_header(out: &mut Vec<u8>, link_type: u32) -> Result<(), OutOfMemory>
     ensures ok { OnOk result (out.new.items ≡ out.old.items ++ header_bytes link_type) }
     ensures err { OnErr result (out.new.items ≡ out.old.items) }
 {
-    let mut header = [0u8; 24];
+    let mut header = [0u8; HEADER_BYTES];
     put_header(&mut header, link_type);
     out.extend_from_slice(&header)?;
     Ok(())
 }
 
-/// Appends the record of one packet of 1 to 262,144 bytes: both stamps are 0, and both lengths the packet's. Where
+/// Appends the record of one packet of 1 to 262,144 bytes: both stamps are 0, and both lengths the packet's. If
 /// memory runs out, `out` stays as it was.
 pub fn write_packet(out: &mut Vec<u8>, bytes: &[u8]) -> Result<(), OutOfMemory>
     requires least { 1 ≤ length bytes.now }
@@ -68,7 +69,7 @@ pub fn write_packet(out: &mut Vec<u8>, bytes: &[u8]) -> Result<(), OutOfMemory>
     ensures err { OnErr result (out.new.items ≡ out.old.items) }
 {
     let before = out.len();
-    let mut head = [0u8; 16];
+    let mut head = [0u8; HEAD_BYTES];
     put_record_head(&mut head, bytes.len() as u32);
     out.extend_from_slice(&head)?;
     if out.extend_from_slice(bytes).is_err() {

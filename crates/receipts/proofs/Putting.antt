@@ -12,7 +12,7 @@ more_begins [] i bytes = tt
 more_begins (g ∷ gs) zero bytes = ((bytes, refl), same_prefixes gs)
 more_begins (g ∷ gs) (suc i) bytes = (([], sym (append-nil g)), more_begins gs i bytes)
 
--- a part of what was given stands
+-- a part of what was given is there
 pub open_part : (opens : List Open) (given : List (List ℕ)) (was now : Option Files) → IsOpen opens given was now → Told was now (HoldsPart (outs (open_names opens) given))
 open_part opens given was now o = told_by was now (λ u v k. prefix_part (open_names opens) o.done given u v (given_prefixes opens o.done given o.are) k) o.stand
 

@@ -1,11 +1,11 @@
-//! What lends the bytes of a packet that came.
+//! What lends the bytes of a delivered packet.
 ghost use Rattle.std.specs.Prelude.{◌≡◌, ℕ, Bool, List, true, length};
 
 use reassembly::Reassembly;
 
 /// A receiver that lends the bytes of the packet that it gave last.
 pub trait Lender {
-    /// Whether it lends the bytes of a packet.
+    /// It lends the bytes of a packet.
     ghost lends: { Self → Bool };
 
     /// The bytes that it lends.

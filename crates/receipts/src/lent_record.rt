@@ -7,10 +7,10 @@ use crate::lender::Lender;
 use lk_base::OutOfMemory;
 use pcap_files::put_record_head;
 
-// How many bytes stand in a record before those of its packet.
+// How many bytes of a record are before those of its packet.
 const HEAD: usize = 16;
 
-// Writes what stands before a packet of this size.
+// Writes what is before a packet of this size in its record.
 fn put_head(bytes: &mut [u8], size: u32)
     requires { HEAD ≤ length bytes.old }
     ensures { take HEAD bytes.new ≡ record_head size }
@@ -38,7 +38,7 @@ fn write_record<L: Lender>(bytes: &mut [u8], lender: &L, size: u32)
     copy_packet(bytes, HEAD, lender);
 }
 
-/// Makes the record of the packet that is lent, of this size, in place of what `made` holds. It takes memory only where `made`
+/// Makes the record of the packet that is lent, of this size, in place of what `made` holds. It takes memory only if `made`
 /// never held as many bytes.
 pub fn make_record<L: Lender>(made: &mut Vec<u8>, lender: &L, size: u32) -> Result<(), OutOfMemory>
     requires lends { L.lends lender.now ≡ true }

@@ -21,13 +21,13 @@ use std::alloc::Global;
 /// Where the record of a packet goes, and where the packet is counted.
 #[derive(Clone, Copy, Debug, PartialEq, Eq)]
 pub struct CapturePlace {
-    /// How many outputs stand ahead of the captures.
+    /// How many outputs are ahead of the captures.
     pub ahead: u16,
-    /// Which of the captures after these, and which of the counts, from 0.
+    /// The number of the capture after these, and of the count, from 0.
     pub place: usize,
 }
 
-/// The record of a packet, which is made.
+/// The record of a packet, made whole.
 #[derive(Clone, Copy, Debug)]
 pub struct MadeRecord<'r> {
     /// The record.
@@ -36,7 +36,7 @@ pub struct MadeRecord<'r> {
     pub size: u64,
 }
 
-// The record of a packet in a capture.
+// Makes the record of a packet in a capture.
 fn record_of(alloc: Global, packet: &[u8]) -> Result<Vec<u8>, OutOfMemory>
     requires { HasSize longest_packet packet.now }
     ensures { IfOk result (λ bytes. bytes.items ≡ record_bytes packet.now) }
@@ -46,8 +46,8 @@ fn record_of(alloc: Global, packet: &[u8]) -> Result<Vec<u8>, OutOfMemory>
     Ok(bytes)
 }
 
-/// Puts a record that is made into the capture at this place, after the outputs that stand ahead, and counts its packet at the
-/// place. After an error each output has a prefix of what it was given, the record with it.
+/// Puts a record that is made into the capture at this place, after the outputs ahead, and counts its packet at the
+/// place. After an error each output has a prefix of what it was given, the record among it.
 pub fn put_made<S: Store>(
     alloc: Global,
     store: &mut S,
@@ -75,8 +75,8 @@ pub fn put_made<S: Store>(
     Ok(())
 }
 
-/// Puts the record of a packet into the capture at this place after those that stand ahead, and counts it at the place. After
-/// an error each output has a prefix of what it was given, the record with it.
+/// Puts the record of a packet into the capture at this place, after the outputs ahead, and counts it at the place. After
+/// an error each output has a prefix of what it was given, the record among it.
 pub fn put_record<S: Store>(
     alloc: Global,
     store: &mut S,

@@ -98,14 +98,14 @@ module _ (names contents : List (List ℕ)) (each : length contents ≡ length n
   pub nothing_delivered : (T : Type 0) (s : Stop) (x y : Option Files) → StoreStops {T = T} (Contains names) (Err s) → Told x y (HoldsPart (outs names (blank names))) → Writes IsDelivered names (Err s) x y
   nothing_delivered T s x y store h = stop_writes IsDelivered names T s (blank names) x y (λ o e. (contents, ap (λ (p : Outcome). p.files) e, blank_prefixes names contents each)) store h
 
-  -- this many of them were given their contents, and a part of that stands
+  -- this many of them were given their contents, and a part of that is there
   pub delivery_stops : (T : Type 0) (k : ℕ) (s : Stop) (x y : Option Files) → k ≤ length contents → StoreStops {T = T} (Contains names) (Err s) → Told x y (HoldsPart (outs names (filled k names contents))) → Writes IsDelivered names (Err s) x y
   delivery_stops T k s x y le store h = stop_writes IsDelivered names T s (filled k names contents) x y (begin k le) store h
 
   pub delivery_ends : (x y : Option Files) → Told x y (Holds (outs names contents)) → Writes IsDelivered names (Ok f) x y
   delivery_ends x y h = done_writes IsDelivered names f contents (delivered names contents f) x y refl refl refl refl h
 
-  -- the same, where the names are those of outputs that are open
+  -- this many of them were given their contents, if the names are those of outputs that are open
   pub named_stops : (T : Type 0) (k : ℕ) (s : Stop) (ns : List (List ℕ)) → ns ≡ names → (x y : Option Files) → k ≤ length contents → StoreStops {T = T} (Contains ns) (Err s) → Told x y (HoldsPart (outs ns (filled k names contents))) → Writes IsDelivered names (Err s) x y
   named_stops T k s ns is x y le store h =
       delivery_stops T k s x y le (subst (λ ms. StoreStops {T = T} (Contains ms) (Err s)) is store) (subst (λ ms. Told x y (HoldsPart (outs ms (filled k names contents)))) is h)
@@ -129,7 +129,7 @@ blank_same [] (c ∷ cs) e = absurd (omega arith)
 blank_same (n ∷ ns) [] e = absurd (omega arith)
 blank_same (n ∷ ns) (c ∷ cs) e = ap (λ (r : List (List ℕ)). [] ∷ r) (blank_same ns cs (omega arith))
 
--- after this many whole contents stand the first bytes of the next
+-- after this many whole contents there are the first bytes of the next
 filled_part : (k m : ℕ) (ns cs : List (List ℕ)) → k < length cs → length cs ≡ length ns → more (filled k ns cs) k (take m (get_or cs k [])) ≡ in_turn k m cs
 unfolding filled
 filled_part zero m [] [] lt e = absurd (omega arith)

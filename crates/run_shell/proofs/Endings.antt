@@ -39,7 +39,7 @@ stop_count T (stop.Store name) sb sa c = c
 stop_count T stop.StoreNoMemory sb sa c = c
 stop_count T stop.OutOfMemory sb sa c = c
 
--- a part of the outcome stands where there is no memory for the line of an answer too
+-- a part of the outcome is there, even if there is no memory for the line of an answer
 to_memory : (m : Meaning) (one : (files : Files) (o p : Outcome) → m.IsOutcome files o → m.IsOutcome files p → o ≡ p) (s : Stop) (u : Files) (x y : Option Files) → Ends m u (stop_status s) (stop_text s) x y → Ends m u OutOfMemory memory_line x y
 to_memory m one s u x y e = (refl, λ o w. ends_part m one u o w (stop_status s) (stop_text s) x y e)
 

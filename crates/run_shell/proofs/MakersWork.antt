@@ -30,7 +30,7 @@ pub goes_done : (s : Step) (f : Finished) (A : Type 0) (C : Finished → Type 0)
 goes_done s f A C is h = subst (Goes A C) is h
 
 module _ (of : Outcome → Type 0) (names : List (List ℕ)) where
-  -- where one outcome is made, what it has begins it
+  -- if one outcome is made, what it has begins it
   pub one_begins : (given : List (List ℕ)) (f : Finished) → ((o p : Outcome) → of o → of p → o ≡ p) → of (delivered names given f) → AllBegin of names given
   one_begins given f one made o is = (given, ap (λ (x : Outcome). x.files) (one o (delivered names given f) is made), same_prefixes given)
 
@@ -39,7 +39,7 @@ module _ (of : Outcome → Type 0) (names : List (List ℕ)) where
   goes_begins step.More given A B one on kept h = on kept h
   goes_begins (step.Done f) given A B one on kept h = one_begins given f one h
 
--- a part of what was given stands where the outputs are open
+-- a part of what was given is there, if the outputs are open
 pub open_stands : (names : List (List ℕ)) (opens : List Open) (given : List (List ℕ)) (was now : Option Files) → open_names opens ≡ names → IsOpen opens given was now → Told was now (HoldsPart (outs names given))
 open_stands names opens given was now is o = subst (λ ns. Told was now (HoldsPart (outs ns given))) is (open_part opens given given was now (same_prefixes given) o)
 

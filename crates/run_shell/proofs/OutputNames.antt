@@ -58,7 +58,7 @@ one_more_name prefix names new n lane e h is =
 
 -- ---- open outputs
 
--- outputs of the same names are as many
+-- outputs with equal names are as many
 pub as_many_opens : (a b : List Open) → open_names a ≡ open_names b → length a ≡ length b
 as_many_opens a b e = sym (length-map a (λ (x : Open). x.name)) ∙ ap length e ∙ length-map b (λ (x : Open). x.name)
 

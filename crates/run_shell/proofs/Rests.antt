@@ -1,4 +1,4 @@
--- What outputs were given: what stands, and then their rests.
+-- What outputs were given: what is there, and then their rests.
 use Rattle.lk_base.specs.declared.memory.OutOfMemory.{OutOfMemory}
 use Rattle.std.proofs.Common.{OnOk, Result, Ok, Err, ◌≡◌, ℕ, zero, suc, ◌<◌, List, [], ◌∷◌, ◌++◌, length, get_or, set, append_assoc, append-nil, refl, sym, ap, ◌∙◌, subst, arith, Option}
 use Rattle.lk_outside.specs.Files.{Files, Told}
@@ -42,7 +42,7 @@ abbrev tail_of : List (List ℕ) → List (List ℕ)
 tail_of [] = []
 tail_of (x ∷ xs) = xs
 
--- outputs of the same names with other rests were given what stands, and then these
+-- outputs with these names and other rests were given what is there, and then these rests
 pub joins_given : (fs now : List Open) (ds gs : List (List ℕ)) → open_names now ≡ open_names fs → AreGiven fs ds gs → AreGiven now ds (join ds (rests_of now))
 joins_given [] [] [] gs e a = tt
 joins_given [] (n ∷ now) ds gs e a = absurd (omega (arith, ap length e))
@@ -52,7 +52,7 @@ joins_given (f ∷ fs) (n ∷ now) [] gs e a = absurd a
 joins_given (f ∷ fs) (n ∷ now) (d ∷ ds) [] e a = absurd a
 joins_given (f ∷ fs) (n ∷ now) (d ∷ ds) (g ∷ gs) e a = (refl, joins_given fs now ds gs (ap tail_of e) a.1)
 
--- the files stand as they were, and the outputs hold more
+-- the files are as they were, and the outputs hold more
 pub holds_more : (fs now : List Open) (gs : List (List ℕ)) (was x : Option Files) → open_names now ≡ open_names fs → (o : IsOpen fs gs was x) → IsOpen now (join o.done (rests_of now)) was x
 holds_more fs now gs was x e o = record {
   done = o.done;

@@ -1,4 +1,4 @@
--- From the work and its saying to what stands after a run.
+-- From the work and its saying to what is there after a run.
 use Rattle.std.proofs.Common.{◌+◌, ◌<◌, ◌≤◌, ◌≡◌, ◌⊎◌, ℕ, Bool, true, false, List, [], ◌∷◌, ◌++◌, length, take, refl, sym, ap, ◌∙◌, subst, arith, Option, Some, cond, IfSome, inl, inr}
 use Rattle.std.specs.Option.{option_or}
 use Rattle.std.specs.Str.{bytes_eq}
@@ -161,7 +161,7 @@ module _ (m : Meaning) (one : (files : Files) (o p : Outcome) → m.IsOutcome fi
   complete_after status f text result sb sa kb ka was is x y t c (cut_off rose h) e s k = absurd (omega arith)
   complete_after status f text result sb sa kb ka was is x y t c (no_memory same h) e s k = inr refl
 
--- at which file the store failed, and what has changed then
+-- which file the line of the store's failure names, and what has changed then
 first_after : (m : Meaning) (u : Files) (status : Status) (f : Bool) (text : List ℕ) (result : Status) (kb ka : ℕ) (was is : Option (List ℕ)) (x y : Option Files) → Says status f text result kb ka was is → Ends m u status text x y → result ≡ StoreFault → FaultsAt (m.Names u) (m.Creates u) (m.IsReadLate u) kb ka was is x y
 first_after m u status f text result kb ka was is x y (said same h) e s =
     let (name, it, line) = ends_store m u status text x y s e in
@@ -182,7 +182,7 @@ sink_once status f text result kb ka was is (said same h) = omega arith
 sink_once status f text result kb ka was is (cut_off rose h) = omega arith
 sink_once status f text result kb ka was is (no_memory same h) = omega arith
 
--- a fault of the sink replaces every status, where the store did not fail
+-- a fault of the sink replaces every status, if the store did not fail
 sink_replaces : (status : Status) (f : Bool) (text : List ℕ) (result : Status) (sb sa kb ka : ℕ) (was is : Option (List ℕ)) → StoreCount f sb sa → Says status f text result kb ka was is → kb < ka → sa ≡ sb → result ≡ SinkFault
 sink_replaces status f text result sb sa kb ka was is c (said same h) rose quiet = absurd (omega arith)
 sink_replaces status true text result sb sa kb ka was is c (cut_off more h) rose quiet = absurd (omega arith)

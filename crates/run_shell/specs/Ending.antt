@@ -1,4 +1,4 @@
--- How the work of a command ends, and all that stands after a run.
+-- How the work of a command ends, and all that is there after a run.
 use Rattle.std.specs.Prelude.{false, ◌≡◌, ◌⊎◌, ℕ, ◌<◌, ◌+◌, ◌≤◌, List, [], Option, IfSome}
 use Rattle.run_stops.specs.Lines.{usage_line, memory_line}
 use Rattle.lk_outside.specs.Files.{Files, Told}
@@ -18,7 +18,7 @@ abbrev pub text_bytes : EndingText → List ℕ
 text_bytes (Made text) = text.items
 text_bytes NoMemory = memory_line
 
--- the line of a stop with its status, or that of memory, where it ran out
+-- the line of a stop with its status, or that of memory, if it ran out
 pub record IsEndingOf (s : Stop) (e : Ended) : Type 0 where
   pub is : ((e.status ≡ stop_status s) × (e.text ≡ stop_text s)) ⊎ ((e.status ≡ OutOfMemory) × (e.text ≡ memory_line))
   pub store : e.store_failed ≡ is_of_store s
@@ -62,7 +62,7 @@ pub record IsNoMemory (e : Ended) : Type 0 where
 
 -- ---- after a run
 
--- all that stands after a run of this meaning
+-- all that is there after a run of this meaning
 pub record Ran (accepted : Type 0) (m : Meaning) (status : Status) (store_before store_now sink_before sink_now : ℕ) (old new : Option Files) (was is : Option (List ℕ)) : Type 0 where
   pub store_fault : status ≡ StoreFault → store_before < store_now
   pub sink_fault : status ≡ SinkFault → (sink_before < sink_now) × (store_now ≡ store_before)

@@ -22,7 +22,7 @@ abbrev pub held_status : Bool → Status
 held_status true = Held
 held_status false = Done
 
--- an outcome's status and text, and its files stand
+-- an outcome's status and text, and its files are there
 pub record Answers (m : Meaning) (before : Files) (its_status : Status) (its_text : List ℕ) (old new : Option Files) : Type 0 where
   pub outcome : Outcome
   pub is_outcome : m.IsOutcome before outcome
@@ -30,12 +30,12 @@ pub record Answers (m : Meaning) (before : Files) (its_status : Status) (its_tex
   pub text : its_text ≡ outcome.text
   pub files : Told old new (Holds outcome.files)
 
--- a part of the outcome stands, where there is one
+-- a part of the outcome is there, if there is an outcome
 abbrev pub Stopped : Meaning → Files → Option Files → Option Files → Type 0
 Stopped m files old new = (o : Outcome) → m.IsOutcome files o → Told old new (HoldsPart o.files)
 
--- the store failed at the file of this name, which the command reads or creates; and if it neither creates it nor reads it late, no
--- file has changed
+-- this is the name in the line of the store's failure: of a file that the command reads or creates; and if the command neither creates
+-- the file of this name nor reads it late, no file has changed
 abbrev pub FailsAt : Meaning → Files → List ℕ → Option Files → Option Files → Type 0
 FailsAt m files name old new = m.Names files name × ((m.Creates files name → ⊥) → (m.IsReadLate files name → ⊥) → Told old new Unchanged)
 

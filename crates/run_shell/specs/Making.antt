@@ -12,17 +12,17 @@ use Rattle.run_shell.specs.Writing.{Begin, delivered}
 
 -- ---- one step
 
--- where there is more to do
+-- this holds if there is more to do
 abbrev pub IfMore : Type 0 → Step → Type 0
 IfMore more step.More = more
 IfMore more (step.Done f) = Unit {0}
 
--- where all is done
+-- this holds if all is done
 abbrev pub IfDone : (Finished → Type 0) → Step → Type 0
 IfDone done step.More = Unit {0}
 IfDone done (step.Done f) = done f
 
--- where there is more to do, and where all is done
+-- one holds if there is more to do, and the other if all is done
 abbrev pub Goes : Type 0 → (Finished → Type 0) → Step → Type 0
 Goes more done step.More = more
 Goes more done (step.Done f) = done f
@@ -34,12 +34,12 @@ abbrev pub AllBegin : (Outcome → Type 0) → List (List ℕ) → List (List �
 AllBegin of names given = (o : Outcome) → of o → Begin names given o.files
 
 -- one step was taken: the outputs were given what the maker gave, or what an outcome has; or, after an error, a part of what each
--- outcome has stands
+-- outcome has is there
 abbrev pub Stepped : (Outcome → Type 0) → List (List ℕ) → (List (List ℕ) → Type 0) → List Open → Result Step Stop → Option Files → Option Files → Type 0
 Stepped of names gave opens (Ok s) was now = (given : List (List ℕ)) × Goes (gave given) (λ f. of (delivered names given f)) s × IsOpen opens given was now
 Stepped of names gave opens (Err _) was now = (given : List (List ℕ)) × AllBegin of names given × Told was now (HoldsPart (outs names given))
 
--- all steps were taken: the outputs were given what an outcome has; or, after an error, a part of what each outcome has stands
+-- all steps were taken: the outputs were given what an outcome has; or, after an error, a part of what each outcome has is there
 abbrev pub Worked : (Outcome → Type 0) → List (List ℕ) → List Open → Result Finished Stop → Option Files → Option Files → Type 0
 Worked of names opens (Ok f) was now = (given : List (List ℕ)) × AllBegin of names given × of (delivered names given f) × IsOpen opens given was now
 Worked of names opens (Err _) was now = (given : List (List ℕ)) × AllBegin of names given × Told was now (HoldsPart (outs names given))

@@ -46,8 +46,8 @@ meaning_by w = record {
   IsHeld = λ files. MatchResult (w.inputs_in files) w.IsHeld (λ r. ⊥);
 }
 
--- what a work has to bring: one outcome of its inputs, where files hold bytes there is one, and it is held exactly where
--- bytes are left
+-- what a work has to bring: its inputs have at most one outcome; there is one if files hold bytes; and it is held if bytes are left, and
+-- only then
 pub record IsWork (w : Work) : Type 0 where
   pub one_made : (i : w.Inputs) (o p : Outcome) → w.IsMade i o → w.IsMade i p → o ≡ p
   pub some_made : (files : Files) → AreBytes files → (i : w.Inputs) → w.inputs_in files ≡ Ok i → (o : Outcome) × w.IsMade i o

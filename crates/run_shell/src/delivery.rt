@@ -13,7 +13,8 @@ use lk_outside::Store;
 use run_stops::Stop;
 use std::alloc::Global;
 
-/// Creates the files of these names, which differ, and fills them with these contents, one for each. The work is finished so.
+/// Creates the files of these names, which differ, and fills them with these contents, one for each. With that the work is
+/// finished.
 pub fn deliver<S: Store>(
     alloc: Global,
     store: &mut S,

@@ -26,6 +26,7 @@ enum EndingText {
 pub struct Ending {
     status: Status,
     text: EndingText,
+    // True if the store failed.
     store_failed: bool,
 }
 
@@ -74,7 +75,7 @@ fn is_of_store(stop: &Stop) -> bool
     matches!(stop, Stop::Store(_) | Stop::StoreNoMemory)
 }
 
-// The one line of a stop.
+// Makes the one line of a stop.
 fn line_of(alloc: Global, stop: &Stop) -> Result<Vec<u8>, OutOfMemory>
     ensures { IfOk result (λ line. line.items ≡ stop_text stop.now) }
 {
@@ -83,7 +84,7 @@ fn line_of(alloc: Global, stop: &Stop) -> Result<Vec<u8>, OutOfMemory>
     Ok(line)
 }
 
-// The line that says how the program is called.
+// Makes the line that says how the program is called.
 fn usage_text(alloc: Global) -> Result<Vec<u8>, OutOfMemory>
     ensures { IfOk result (λ line. line.items ≡ usage_line) }
 {
@@ -110,7 +111,7 @@ fn ending_of(alloc: Global, stop: &Stop) -> Ending
     }
 }
 
-/// The work of a command, ended with a status and a text.
+/// Ends the work of a command with a status and a text.
 pub fn end<C: Command, S: Store>(alloc: Global, command: &C, store: &mut S) -> Ending
     requires { S.faults store.old < 2 ^ 60 }
     ensures { IsEnding (Unit {0}) (C.meaning command.now) result (S.faults store.old) (S.faults store.new) (S.files store.old) (S.files store.new) }
@@ -125,7 +126,7 @@ pub fn end<C: Command, S: Store>(alloc: Global, command: &C, store: &mut S) -> E
     }
 }
 
-/// The ending where the words are not accepted: the line of the usage, or that of memory, where it ran out.
+/// Creates the ending for words that are not accepted: the line of the usage, or that of memory if it ran out.
 pub fn misused(alloc: Global) -> Ending
     ensures { IsMisused result }
 {
@@ -143,7 +144,7 @@ pub fn misused(alloc: Global) -> Ending
     }
 }
 
-/// The ending where memory ran out before there was a command.
+/// Creates the ending for memory that ran out before there was a command.
 pub fn no_memory() -> Ending
     ensures { IsNoMemory result }
 {
@@ -154,7 +155,7 @@ pub fn no_memory() -> Ending
     }
 }
 
-// A fault of the sink replaces every status, where the store did not fail.
+// Returns the status of a run: a fault of the sink replaces every status, if the store did not fail.
 fn sink_failed(status: Status, store_failed: bool) -> Status
     ensures { result ≡ sink_failed status store_failed }
 {
@@ -177,7 +178,7 @@ fn write_text<K: Sink>(status: Status, store_failed: bool, text: &[u8], out: &mu
     }
 }
 
-/// Gives the text to the sink, in one write. The status of the run.
+/// Gives the text to the sink, in one write, and returns the status of the run.
 pub fn say<K: Sink>(ending: &Ending, out: &mut K) -> Status
     requires { K.faults out.old < 2 ^ 60 }
     ensures { Says ending.now.status ending.now.store_failed ending.now.text result (K.faults out.old) (K.faults out.new) (K.written out.old) (K.written out.new) }

@@ -34,18 +34,19 @@ pub trait Maker {
     /// How many steps are left at most.
     ghost left: { Self → ℕ };
 
-    /// What a maker gave so far begins whatever may be made of its inputs, and of inputs one outcome is made at most.
+    /// States that all that may be made of a maker's inputs begins with what it gave so far, and that of inputs at most one outcome is
+    /// made.
     fn lawful(&self)
         ensures begins { (maker : Self) (given : List (List ℕ)) (o : Outcome) → gave maker given → IsMade (inputs maker) o → Begin (named (inputs maker)) given o.files }
         ensures one { (i : Inputs) (o p : Outcome) → IsMade i o → IsMade i p → o ≡ p };
 
-    /// The names of the outputs. No two of them are one.
+    /// Returns the names of the outputs. No two of them are one.
     fn names(&self, alloc: Global) -> Result<Vec<String>, OutOfMemory>
         ensures names { IfOk result (λ v. map string_bytes v.items ≡ named (inputs self.now)) }
         ensures differ { IfOk result (λ v. Differ (map string_bytes v.items)) };
 
-    /// Gives the outputs what comes next. Whatever was appended before: with what the outputs are given now it gave that, or, where
-    /// all is done, it made an outcome. In its last step it may use up its inputs.
+    /// Gives the outputs their next bytes. Whatever was appended before, these bytes go on after it: with them the maker gave that and
+    /// no more, or, if all is done, it made an outcome. In its last step it may use up its inputs.
     fn step(&mut self, alloc: Global, outputs: &mut Outputs) -> Result<Step, OutOfMemory>
         requires opens { open_names outputs.old ≡ named (inputs self.old) }
         requires stands { (done : List (List ℕ)) × gave self.old (join done (rests_of outputs.old)) }

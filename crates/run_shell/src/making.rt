@@ -14,7 +14,7 @@ use lk_outside::Store;
 use run_stops::Stop;
 use std::alloc::Global;
 
-// Has the maker take one step, and appends the whole pieces of what the outputs were given.
+// Has the maker take one step, and appends the whole pieces of what it gave the outputs.
 fn take_step<M: Maker, S: Store>(
     alloc: Global,
     store: &mut S,

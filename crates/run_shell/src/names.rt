@@ -16,21 +16,21 @@ pub fn only_name(alloc: Global, name: String) -> Result<Vec<String>, OutOfMemory
     Ok(names)
 }
 
-/// The name of the words file of a capture, or of a plan's prefix.
+/// Makes the name of the words file of a capture, or of a plan's prefix.
 pub fn words_name(alloc: Global, prefix: &str) -> Result<String, AllocError>
     ensures { IfOk result (λ s. string_bytes s ≡ words_name prefix.now) }
 {
     format!(in alloc; "{prefix}.words")
 }
 
-// The name of a lane's file.
+// Makes the name of a lane's file.
 fn lane_name(alloc: Global, prefix: &str, lane: u32) -> Result<String, AllocError>
     ensures { IfOk result (λ s. string_bytes s ≡ lane_name prefix.now lane) }
 {
     format!(in alloc; "{prefix}.lane.{lane}")
 }
 
-/// The names of the lanes' files, by number. They differ.
+/// Makes the names of the lanes' files, by number. They differ.
 pub fn lane_names(alloc: Global, prefix: &str, lanes: u32) -> Result<Vec<String>, AllocError>
     ensures names { IfOk result (λ v. map string_bytes v.items ≡ lane_names prefix.now lanes) }
     ensures differ { IfOk result (λ v. Differ (map string_bytes v.items)) }

@@ -1,4 +1,4 @@
--- Readings one after another, where the files are told.
+-- Readings one after another, if the files are told.
 use Rattle.std.proofs.Common.{◌≡◌, ℕ, List, ap, refl, sym, subst, Option, Some, None, IfSome, Result, Ok, Err, string_bytes, Bool, true, false, nat_lt, cond, length}
 use Rattle.run_stops.specs.declared.input_error.InputError.TheVariants.{TooLarge}
 use Rattle.run_stops.specs.declared.stop.Stop.{Stop}
@@ -6,7 +6,7 @@ use Rattle.run_stops.specs.declared.stop.Stop.TheVariants as stop
 use Rattle.lk_outside.specs.Files.{Files}
 use Rattle.run_stops.specs.Reading.{Refusal, of_plan, of_input, behind, Reads, bytes_by}
 
--- what was told of the files then is told of the files before, which are the same
+-- what was told of the files then is told of the files before, which are equal
 pub told_back : (P : Files → Type 0) (x y : Option Files) → y ≡ x → IfSome y P → IfSome x P
 told_back P x y same h = subst (λ z. IfSome z P) same h
 
@@ -15,7 +15,7 @@ pub behind_ok : {A B : Type 0} (first : Result A Refusal) (next : A → Result B
 behind_ok (Ok a) next b e = (a, refl, e)
 behind_ok (Err r) next b e = absurd (cc e)
 
--- the same under more names
+-- a reading under more names
 pub widened : {U B : Type 0} (more : U → B) (named names : List ℕ → Type 0) (r : Result U Stop) (answer : Result B Refusal) → ((q : List ℕ) → named q → names q) → Reads more named r answer → Reads more names r answer
 widened more named names (Ok t) answer are h = h
 widened more named names (Err (stop.Plan why)) answer are h = h

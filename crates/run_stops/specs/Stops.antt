@@ -22,7 +22,7 @@ stop_text (stop.Store name) = store_line (string_bytes name)
 stop_text stop.StoreNoMemory = memory_line
 stop_text stop.OutOfMemory = memory_line
 
--- whether the store failed
+-- true if the store failed
 abbrev pub is_of_store : Stop → Bool
 is_of_store (stop.Plan why) = false
 is_of_store (stop.Input name why) = false
@@ -30,7 +30,7 @@ is_of_store (stop.Store name) = true
 is_of_store stop.StoreNoMemory = true
 is_of_store stop.OutOfMemory = false
 
--- the store's count rose exactly where the store failed
+-- the store's count rose by one if the store failed, and only then
 abbrev pub StoreCount : Bool → ℕ → ℕ → Type 0
 StoreCount true before now = now ≡ before + 1
 StoreCount false before now = now ≡ before

@@ -8,7 +8,7 @@ use words_files::{TextError, WordsError};
 /// Why an input is refused.
 #[derive(Clone, Copy, Debug, PartialEq, Eq, Error)]
 pub enum InputError {
-    /// The name is absent.
+    /// There is no file of the name.
     NoFile,
     /// The file is longer than its limit.
     TooLarge,

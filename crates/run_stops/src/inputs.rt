@@ -9,8 +9,11 @@ use lk_outside::{ReadError, Store, WholeError, read_whole};
 use plan_errors::PlanError;
 use std::alloc::Global;
 
-/// The whole of an input of at most `limit` bytes. It is refused exactly where it is absent or longer, unless the
-/// store fails or memory runs out. The files are as they were.
+/// Reads the whole of an input of at most `limit` bytes. The files are unchanged.
+///
+/// # Errors
+///
+/// Unless the store fails or memory runs out: `Input` if the input is absent or longer, and only then.
 pub fn read_input<S: Store>(
     alloc: Global,
     store: &mut S,
@@ -32,8 +35,11 @@ pub fn read_input<S: Store>(
     }
 }
 
-/// The whole of a plan of at most `limit` bytes. It is refused exactly where it is absent or longer, unless the
-/// store fails or memory runs out. The files are as they were.
+/// Reads the whole of a plan of at most `limit` bytes. The files are unchanged.
+///
+/// # Errors
+///
+/// Unless the store fails or memory runs out: `Plan` if the plan is absent or longer, and only then.
 pub fn read_plan<S: Store>(
     alloc: Global,
     store: &mut S,
@@ -54,9 +60,12 @@ pub fn read_plan<S: Store>(
     }
 }
 
-/// Bytes of an input that is there, from an offset on: how many, which is 0 exactly where `buf` is empty or the offset is at
-/// or past the end; they stand at the front of `buf`. It is refused exactly where it is absent, unless the store fails
-/// or memory runs out. The files are as they were.
+/// Reads bytes of an input from `offset` on to the front of `buf`, and returns how many: 0 if `buf` is empty or the offset is at or
+/// past the end, and only then. The files are unchanged.
+///
+/// # Errors
+///
+/// Unless the store fails or memory runs out: `Input` if the input is absent, and only then.
 pub fn read_piece<S: Store>(
     alloc: Global,
     store: &mut S,
@@ -78,8 +87,12 @@ pub fn read_piece<S: Store>(
     }
 }
 
-/// Asks for an input of at most `limit` bytes that is read later: for its first byte, and for a byte at the limit. It is
-/// refused exactly where it is absent or longer, unless the store fails or memory runs out. The files are as they were.
+/// Asks for an input of at most `limit` bytes that is read later: for its first byte, and for a byte at the limit. The files are
+/// unchanged.
+///
+/// # Errors
+///
+/// Unless the store fails or memory runs out: `Input` if the input is absent or longer, and only then.
 pub fn probe_input<S: Store>(
     alloc: Global,
     store: &mut S,

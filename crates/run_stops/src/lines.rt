@@ -7,14 +7,14 @@ use crate::stop::Stop;
 use lk_base::OutOfMemory;
 use std::alloc::{AllocError, Global};
 
-/// The line that says that memory ran out, which itself needs none.
+/// Returns the line that says that memory ran out. It needs no memory.
 pub fn memory_line() -> &'static [u8]
     ensures { result.now ≡ memory_line }
 {
     b"out of memory\n"
 }
 
-/// Appends the line that says how the program is called. `out` is as before where memory runs out.
+/// Appends the line that says how the program is called. `out` is as before if memory runs out.
 pub fn usage_line(out: &mut Vec<u8>) -> Result<(), OutOfMemory>
     ensures ok { OnOk result (out.new.items ≡ out.old.items ++ usage_line) }
     ensures err { OnErr result (out.new.items ≡ out.old.items) }
@@ -25,7 +25,7 @@ pub fn usage_line(out: &mut Vec<u8>) -> Result<(), OutOfMemory>
     Ok(())
 }
 
-// The line of a stop.
+// Makes the line of a stop.
 #[tactic(auto, using(crate::proofs::StopLine::words_line))]
 fn line_of(alloc: Global, stop: &Stop) -> Result<String, AllocError>
     ensures { IfOk result (λ text. string_bytes text ≡ stop_text stop.now) }
@@ -33,8 +33,8 @@ fn line_of(alloc: Global, stop: &Stop) -> Result<String, AllocError>
     format!(in alloc; "{stop}\n")
 }
 
-/// Appends the line of what stopped a command, the text that `Display` writes and a line end. `out` is as before where memory
-/// runs out.
+/// Appends the line of what stopped a command, the text that `Display` writes and a line end. `out` is as before if memory runs
+/// out.
 pub fn stop_line(alloc: Global, out: &mut Vec<u8>, stop: &Stop) -> Result<(), OutOfMemory>
     ensures ok { OnOk result (out.new.items ≡ out.old.items ++ stop_text stop.now) }
     ensures err { OnErr result (out.new.items ≡ out.old.items) }

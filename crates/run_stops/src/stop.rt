@@ -74,7 +74,7 @@ impl<T: Drop> From<AllocFailed<T>> for Stop {
     }
 }
 
-/// A call of the store with this name failed.
+/// Makes the stop of a call of the store with this name that failed.
 pub fn store_stop(alloc: Global, name: &str) -> Stop
     ensures name { IsOfStore (λ n. n ≡ name.now) result }
     ensures store { is_of_store result ≡ true }
@@ -85,7 +85,7 @@ pub fn store_stop(alloc: Global, name: &str) -> Stop
     }
 }
 
-/// The input of this name is refused.
+/// Makes the stop of a refused input with this name.
 pub fn input_stop(alloc: Global, name: &str, why: InputError) -> Stop
     ensures { IsOfInput name.now why result }
 {

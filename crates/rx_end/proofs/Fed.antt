@@ -1,5 +1,5 @@
 -- Lanes that are fed have few bytes still.
-use Rattle.std.proofs.Common.{ℕ, zero, suc, ◌≡◌, refl, sym, ap, subst, ◌<◌, ◌+◌, ◌^◌, List, [], ◌∷◌, length, max, arith}
+use Rattle.std.proofs.Common.{ℕ, zero, suc, ◌≡◌, sym, subst, ◌<◌, ◌+◌, ◌^◌, List, [], ◌∷◌, length, arith}
 use Rattle.std.proofs.lemmas.List.{length-append}
 use Rattle.lk_base.specs.declared.word.Aligned.{Aligned}
 use Rattle.lk_base.specs.Link.{Settings}

@@ -6,48 +6,48 @@ ghost use Rattle.rx_end.specs.Observing.{AsksItem, AsksLocks, AsksWords, TakesIt
 use lk_base::Aligned;
 use rx_front::Front;
 
-/// An observer of the front of a receiver. It is told each item that is taken of the front, and each lock that a lane declares: at
-/// once, once each, and in order.
+/// Observes the front of a receiver: it is told each item that is taken of the front, and each lock that a lane declares, at once,
+/// once each, and in order.
 pub trait Observer {
     /// What is fixed of an observer: no call changes it.
     ghost Fixed: { Type 0 };
 
-    /// What is fixed of this one.
+    /// What is fixed of this observer.
     ghost fixed: { Self → Fixed };
 
-    /// Whether each call asks that `keeps` held before it, as those of a counter do. An observer that does not ask may be told
+    /// True if each call asks that `keeps` held before it, as those of a counter do. An observer that does not ask may be told
     /// anything.
     ghost asks: { Bool };
 
-    /// What holds of it where the lanes of a link declared these locks (lane number `i` those of `i`, each by its bit position), and
+    /// What holds of it once the lanes of a link declared these locks (lane number `i` those of `i`, each by its bit position), and
     /// these items were taken: its own bounds.
     ghost keeps: { Self → Settings → (ℕ → List ℕ) → List Item → Type 0 };
 
-    /// It has seen these locks and items, of lanes that have these bytes in the end.
+    /// What holds of it once it has seen these locks and items, of lanes that have these bytes in the end.
     ghost saw: { Self → Settings → List (List ℕ) → (ℕ → List ℕ) → List Item → Type 0 };
 
-    /// The first `count` of the words that wait in the front are taken.
+    /// Takes note of the first `count` of the words that wait in the front, which are taken.
     fn words(&mut self, front: &Front, count: usize)
         requires most { count ≤ length front.now.waiting }
         requires told { asks ≡ true → AsksWords keeps self.old front.now }
         ensures fixed { fixed self.new ≡ fixed self.old }
         ensures takes { TakesWords keeps saw self.old self.new front.now count };
 
-    /// The front gave this item last, and none waits in it.
+    /// Takes note of the item that the front gave last; no word waits in it.
     fn item(&mut self, front: &Front, item: Aligned)
         requires none { length front.now.waiting ≡ 0 }
         requires told { asks ≡ true → AsksItem keeps self.old front.now item }
         ensures fixed { fixed self.new ≡ fixed self.old }
         ensures takes { TakesItem keeps saw self.old self.new front.now item };
 
-    /// The front's clock moved on: each lane may have declared a lock at the bit that it passed last.
+    /// Takes note that the front's clock moved on: each lane may have declared a lock at the bit that it passed last.
     fn moved(&mut self, front: &Front)
         requires { asks ≡ true → AsksLocks keeps self.old front.now }
         ensures fixed { fixed self.new ≡ fixed self.old }
         ensures takes { TakesLocks keeps saw self.old self.new front.now };
 }
 
-/// Nobody is told.
+/// Takes note of nothing.
 impl Observer for () {
     ghost Fixed = { Unit {0} };
 

@@ -11,7 +11,7 @@ use lk_base::OutOfMemory;
 use std::alloc::Global;
 use std::marker::Model;
 
-/// The steps that there is room for: one for each bit, and one.
+// The number of steps that there is room for: one for each bit, and one.
 const ROOM: usize = 8 * MOST_BYTES + 1;
 
 /// The steps that one lane shows in many bytes.
@@ -34,13 +34,13 @@ impl Model for Batch {
 }
 
 impl Batch {
-    /// No steps. It takes memory here, and no later call does.
+    /// Creates an empty batch. It takes memory here, and no later call does.
     pub fn new(alloc: Global) -> Result<Batch, OutOfMemory> {
         let found = StepList::new(alloc, ROOM)?;
         Ok(Batch { found })
     }
 
-    /// A lane takes the first bytes of its ring, at most 536, and these are the steps that their bits show.
+    /// Takes the first bytes of a lane's ring, at most 536, and keeps the steps that their bits show.
     pub fn take(&mut self, steps: &mut LaneSteps, ring: &HeapCircularBuffer<u8>, count: usize)
         requires most { count ≤ 536 }
         requires there { count ≤ length ring.now.items }

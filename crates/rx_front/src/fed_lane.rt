@@ -6,6 +6,7 @@ ghost use Rattle.lock_model.specs.declared.types.LaneStep.{LaneStep as Step};
 ghost use Rattle.lock_model.specs.Low.{is_low};
 ghost use Rattle.lane_lock.specs.Search.{IsFar};
 ghost use Rattle.lane_lock.specs.Standing.{IsReport, IsState};
+ghost use Rattle.lane_lock.specs.Taken.{bits_to_end};
 ghost use Rattle.event_model.specs.Fed.{Fed, first_bits};
 ghost use Rattle.rx_front.specs.Batches.{IsBatchOf};
 ghost use Rattle.rx_front.specs.Locks.{lock_of};
@@ -26,11 +27,11 @@ const ROOM: usize = 4096;
 /// A lane of a receiver, to which bytes are fed: those that no round took, and the locks of those that rounds took.
 #[derive(Drop)]
 pub struct FedLane {
-    /// The bytes that no round took.
+    /// The bytes that no round took yet.
     ring: HeapCircularBuffer<u8>,
-    /// No further byte comes.
+    /// True if no further byte comes.
     finished: bool,
-    /// How many bytes were fed: fewer than 2^57.
+    /// The number of bytes that were fed: below 2^57.
     fed: u64,
     /// The locks of the bytes that rounds took, and what the last rounds found.
     steps: LaneSteps,
@@ -47,7 +48,7 @@ impl Model for FedLane {
     ghost invariant = { λ a. (a.ring.capacity ≡ 4096) × (a.fed < 2 ^ 57) × (a.steps.lock.taken + 8 * length a.ring.items ≡ 8 * a.fed) };
 }
 
-// The next byte of a ring.
+// Takes the next byte of a ring.
 fn next_byte(ring: &mut HeapCircularBuffer<u8>) -> u8
     requires { 0 < length ring.old.items }
     ensures value { result ≡ slice_index ring.old.items 0 }
@@ -59,7 +60,7 @@ fn next_byte(ring: &mut HeapCircularBuffer<u8>) -> u8
     }
 }
 
-// The number of the bits of this many first bytes of a ring, where its first eight lie together.
+// Returns the number of the bits of the first `count` bytes of a ring, if its first eight lie together.
 fn bits_ahead(ring: &HeapCircularBuffer<u8>, count: u32) -> Option<u64>
     requires some { 1 ≤ count }
     requires most { count ≤ 7 }
@@ -73,7 +74,7 @@ fn bits_ahead(ring: &HeapCircularBuffer<u8>, count: u32) -> Option<u64>
     Some(eight_at(front, 0) >> (64 - 8 * count))
 }
 
-// Takes this many bytes from a ring, and returns the number of their bits, the first of them highest.
+// Takes `count` bytes from a ring, and returns the number of their bits, the first of them highest.
 fn take_bits(ring: &mut HeapCircularBuffer<u8>, count: u32) -> u64
     requires some { 1 ≤ count }
     requires most { count ≤ 7 }
@@ -92,7 +93,7 @@ fn take_bits(ring: &mut HeapCircularBuffer<u8>, count: u32) -> u64
     }
 }
 
-// Takes this many bytes from a ring one by one, and returns the number of their bits, the first of them highest.
+// Takes `count` bytes from a ring one by one, and returns the number of their bits, the first of them highest.
 fn gathered(ring: &mut HeapCircularBuffer<u8>, count: u32) -> u64
     requires most { count ≤ 7 }
     requires there { count ≤ length ring.old.items }
@@ -107,7 +108,7 @@ fn gathered(ring: &mut HeapCircularBuffer<u8>, count: u32) -> u64
     bits
 }
 
-// Passes over this many bytes of a ring.
+// Passes over `count` bytes of a ring.
 fn pass_bytes(ring: &mut HeapCircularBuffer<u8>, count: usize)
     requires { count ≤ length ring.old.items }
     ensures { ring.new ≡ buffer (drop count ring.old.items) ring.old.capacity }
@@ -116,7 +117,7 @@ fn pass_bytes(ring: &mut HeapCircularBuffer<u8>, count: usize)
     ring.truncate_front(rest);
 }
 
-/// The bit position of the lock that a step declares, if it declares one: below 2^60.
+/// Returns the bit position of the lock that a step declares, if it declares one: below 2^60.
 pub fn lock_of(step: LaneStep) -> Option<u64>
     requires { is_low step }
     ensures value { result ≡ lock_of step }
@@ -132,7 +133,7 @@ pub fn lock_of(step: LaneStep) -> Option<u64>
 }
 
 impl FedLane {
-    /// A lane of which no byte came.
+    /// Creates a lane of which no byte came.
     pub fn new(alloc: Global, link: &Link) -> Result<FedLane, OutOfMemory>
         ensures { IfOk result (λ v. IsFresh link.now v × (length v.steps ≡ 8)) }
     {
@@ -146,7 +147,7 @@ impl FedLane {
         })
     }
 
-    /// Takes as many bytes as its ring has room for, and returns how many. Fewer than 2^57 bytes come in all.
+    /// Takes as many bytes as its ring has room for, and returns their number. Fewer than 2^57 bytes come in all.
     pub fn feed(&mut self, piece: &[u8]) -> usize
         requires { self.old.fed + length piece.now < 2 ^ 57 }
         ensures count { result ≡ min (length piece.now) (4096 - length self.old.ring) }
@@ -157,14 +158,14 @@ impl FedLane {
         count
     }
 
-    /// No further byte comes.
+    /// Ends the lane: no further byte comes.
     pub fn finish(&mut self)
         ensures { self.new ≡ finished_lane self.old }
     {
         self.finished = true;
     }
 
-    /// Whether a round can take a byte of it, or finds it at its end.
+    /// True if a round can take a byte of it, or finds it at its end.
     pub fn is_ready(&self) -> bool
         ensures { result ≡ can_take self.now }
     {
@@ -172,14 +173,14 @@ impl FedLane {
         self.finished || !empty
     }
 
-    /// Whether a round finds no byte.
+    /// True if a round finds no byte.
     pub fn is_empty(&self) -> bool
         ensures { result ≡ has_no_byte self.now }
     {
         self.ring.is_empty()
     }
 
-    /// A round takes its next byte, or finds it at its end.
+    /// Makes a round: takes its next byte, or finds it at its end.
     pub fn take(&mut self)
         requires { can_take self.old ≡ true }
         ensures { IsTaken 1 self.old self.new }
@@ -190,14 +191,14 @@ impl FedLane {
         }
     }
 
-    /// How many rounds at once find a byte of it each.
+    /// Counts the rounds that find a byte of it each.
     pub fn bytes_there(&self) -> usize
         ensures { (n : ℕ) → n ≤ result → HasBytes n self.now }
     {
         self.ring.len()
     }
 
-    /// Whether it is far from a declared lock: then rounds that take at most 536 bytes of it, whatever they are, show none.
+    /// True if it is far from a declared lock: then rounds that take at most 536 bytes of it, whatever they are, show none.
     pub fn is_far(&self) -> bool
         ensures far { result ≡ true → IsFar self.now.lock }
         ensures near { result ≡ false → IsFar self.now.lock → ⊥ }
@@ -205,8 +206,16 @@ impl FedLane {
         self.steps.is_far()
     }
 
-    /// This many rounds take a byte of it each. Returns at which of their bits it may show something: bit k of the number is 0 only
-    /// where bit k of the rounds shows nothing.
+    /// Returns the number of bits up to the end of the next word of a word lock, at most 67: 0 if no word lock goes on.
+    pub fn bits_left(&self) -> u64
+        ensures value { result ≡ bits_to_end self.now.lock }
+        ensures most { result ≤ 67 }
+    {
+        self.steps.bits_left()
+    }
+
+    /// Makes `count` rounds, each of which takes a byte of it. Returns the bits at which it may show something: if bit k of the number
+    /// is 0, bit k of the rounds shows nothing.
     pub fn take_bytes(&mut self, count: u32) -> u64
         requires some { 1 ≤ count }
         requires most { count ≤ 7 }
@@ -219,8 +228,8 @@ impl FedLane {
         self.steps.shows()
     }
 
-    /// This many rounds, at most 536, take a byte of it each, and the deskew takes the steps that their bits show, as those of this
-    /// lane. No step is kept.
+    /// Makes `count` rounds, at most 536, each of which takes a byte of it. Gives the deskew the steps that their bits show, as those
+    /// of lane `lane`. No step is kept.
     pub fn take_batch(&mut self, lane: u32, count: usize, batch: &mut Batch, deskew: &mut Deskew)
         requires some { 1 ≤ count }
         requires most { count ≤ 536 }
@@ -233,7 +242,7 @@ impl FedLane {
         batch.give(lane, deskew);
     }
 
-    /// The step of bit k of the last rounds.
+    /// Returns the step of bit k of the last rounds.
     pub fn step(&self, k: u32) -> LaneStep
         ensures value { result ≡ step_at k self.now }
         ensures low { is_low result }
@@ -241,7 +250,7 @@ impl FedLane {
         self.steps.step(k)
     }
 
-    /// The report over the bytes that rounds took.
+    /// Returns the report over the bytes that rounds took.
     pub fn report(&self) -> LaneReport
         ensures { (s : Settings) (rounds : ℕ) (fed : Fed) (column : List Step) → LaneStands self.now s rounds fed column →
             IsReport s (first_bits (8 * rounds) fed) result }
@@ -249,7 +258,7 @@ impl FedLane {
         self.steps.report()
     }
 
-    /// How far the search for locks is after the bytes that rounds took.
+    /// Returns how far the search for locks is after the bytes that rounds took.
     pub fn state(&self) -> LaneState
         ensures { (s : Settings) (rounds : ℕ) (fed : Fed) (column : List Step) → LaneStands self.now s rounds fed column →
             IsState s (first_bits (8 * rounds) fed) result }

@@ -1,8 +1,9 @@
-ghost use Rattle.std.specs.Prelude.{◌≡◌, ◌<◌, ◌≤◌, ◌+◌, ◌*◌, ◌%◌, ◌^◌, ◌==◌, ◌++◌, [], ◌⊎◌, true, false, None, List, ℕ, min, length, take, drop, All, IfOk, IfSome, IfNone, OnSome};
+ghost use Rattle.std.specs.Prelude.{◌≡◌, ◌<◌, ◌≤◌, ◌+◌, ◌*◌, ◌%◌, ◌^◌, ◌==◌, ◌++◌, [], ◌⊎◌, true, false, None, List, ℕ, min, length, take, drop, get_or, All, IfOk, IfSome, IfNone, OnSome};
 ghost use Rattle.std.specs.Bool.{OnFalse, OnTrue};
 ghost use Rattle.lk_base.specs.Link.{Settings};
 ghost use Rattle.lk_base.specs.Positions.{words_from};
 ghost use Rattle.lk_base.specs.declared.word.Aligned.{Aligned as Item};
+ghost use Rattle.lk_base.specs.declared.word.RxWord.TheVariants.{Bad};
 ghost use Rattle.event_model.specs.Fed.{Fed};
 ghost use Rattle.deskew.specs.Blocks.{has_row};
 ghost use Rattle.deskew.specs.Steps.{start_at};
@@ -13,6 +14,7 @@ ghost use Rattle.rx_front.specs.Locks.{declared_at};
 ghost use Rattle.rx_front.specs.Standing.{GivesItem, MovesOn, MovesQuietly, Progress, Stands, begun, is_over, items_left, weight};
 ghost use Rattle.rx_front.specs.States.{with_lanes};
 ghost use Rattle.rx_front.specs.Waiting.{words_in};
+ghost use Rattle.word_list.specs.Received.{data_front};
 
 use crate::batch::Batch;
 use crate::block::Block;
@@ -22,7 +24,7 @@ use crate::lanes::{
     state_at, take_all, take_batches, take_rounds, whole_rounds, zeros_from,
 };
 use deskew::Deskew;
-use lane_lock::MOST_BYTES;
+use lane_lock::{EIGHT_CODES_BYTES, MOST_BYTES};
 use lk_base::{Aligned, Link, OutOfMemory, Pos, RxWord};
 use lock_model::{LaneReport, LaneState};
 use std::alloc::Global;
@@ -35,18 +37,18 @@ use std::marker::Model;
 #[derive(Drop)]
 pub struct Front {
     lanes: Vec<FedLane>,
-    /// The bits of the last rounds by which the clock has not moved yet.
+    /// The bits of the last rounds that the clock has not passed yet.
     left: u32,
-    /// How many bits of each lane they took: 8 times 1..=7; none where they were more, since no bit of theirs is left then.
+    /// The number of bits that the last rounds took of each lane: 8 times 1..=7, or 0 after more than 7 rounds at once.
     width: u32,
-    /// At which of these some lane may show something: bit k of the number is 0 only where no lane shows anything at bit k.
+    /// The bits of the last rounds at which a lane may show something: if bit k of the number is 0, no lane shows anything at bit k.
     shows: u64,
     deskew: Deskew,
     /// The steps of one lane in many bytes.
     batch: Batch,
     /// The words that the deskew gave and that are still to be taken.
     block: Block,
-    /// The last round found all lanes at their end.
+    /// True if the last round found all lanes at their end.
     over: bool,
 }
 
@@ -62,12 +64,31 @@ impl Model for Front {
     ghost invariant = { λ a. (length a.lanes.items ≡ a.deskew.settings.lanes) × (length a.lanes.items ≤ 64) × (1 ≤ length a.lanes.items) × (a.left ≤ a.width) × (a.width ≤ 56) × AreWide a.width a.lanes.items × AreCovered a.shows a.lanes.items };
 }
 
-// How many bytes of each lane make it worth to take them at once.
+// With fewer bytes of each lane than these a batch is not worth its cost.
 const LEAST_BYTES: usize = 16;
 
+// Returns the most of `count` rounds after which a word of a lane ends with a byte, given the bits left to the end of its next word:
+// then its next words are taken eight at a time from their first byte on. All of them, if they are too few.
+fn whole_words(count: usize, left: u64) -> usize
+    requires { left ≤ 67 }
+    ensures most { result ≤ count }
+    ensures some { 1 ≤ count → 1 ≤ result }
+{
+    // After `first` rounds a word ends with a byte, and then after every 67: 8 * 42 is 5 * 67 + 1.
+    let first = left as usize * 42 % EIGHT_CODES_BYTES;
+    if count <= first {
+        return count;
+    }
+    let whole = count - (count - first) % EIGHT_CODES_BYTES;
+    if whole == 0 { count } else { whole }
+}
+
 impl Front {
-    /// A front for a link, to which nothing was fed. It answers `OutOfMemory` where memory ran out, and nowhere else; no later
-    /// call takes memory.
+    /// Creates a front for a link, to which nothing was fed. No later call takes memory.
+    ///
+    /// # Errors
+    ///
+    /// `OutOfMemory` if memory ran out, and only then.
     pub fn new(alloc: Global, link: &Link) -> Result<Front, OutOfMemory>
         ensures { IfOk result (λ v. Stands v link.now (nothing_fed link.now.lanes) [] (begun link.now.lanes) × (v.waiting ≡ []) × (v.over ≡ false) × (v.deskew.settled ≡ true)) }
     {
@@ -89,9 +110,8 @@ impl Front {
         })
     }
 
-    /// Takes the longest prefix of the piece that the lane's ring has room for, and returns how many bytes that is. The lane is
-    /// below the link's lanes and not finished. Fewer than 2^57 bytes come of a lane. It is less than the piece's length exactly
-    /// where the piece is longer than the room; the ring is then full.
+    /// Takes the longest prefix of the piece that the lane's ring has room for, and returns its length. The lane is below the link's
+    /// lanes and not finished. Fewer than 2^57 bytes come of a lane. If the piece is longer than the room, the ring is full then.
     pub fn feed(&mut self, lane: u32, piece: &[u8]) -> usize
         requires unfinished { is_open lane self.old.lanes ≡ true }
         requires few { count_at lane self.old.lanes + length piece.now < 2 ^ 57 }
@@ -104,7 +124,7 @@ impl Front {
         feed_at(&mut self.lanes, lane, piece)
     }
 
-    /// No further byte of this lane comes. The lane is below the link's lanes and not finished.
+    /// Ends this lane: no further byte of it comes. The lane is below the link's lanes and not finished.
     pub fn finish(&mut self, lane: u32)
         requires { is_open lane self.old.lanes ≡ true }
         ensures state { self.new ≡ with_lanes (lanes_finished lane self.old.lanes) self.old }
@@ -114,7 +134,7 @@ impl Front {
         finish_at(&mut self.lanes, lane);
     }
 
-    /// The report of a lane over the bytes that the rounds took from its ring. The lane is below the link's lanes.
+    /// Returns the report of a lane over the bytes that the rounds took from its ring. The lane is below the link's lanes.
     pub fn lane_report(&self, lane: u32) -> LaneReport
         requires { lane < length self.now.lanes }
         ensures { (s : Settings) (fed : List Fed) (items : List Item) (t : Progress) → Stands self.now s fed items t →
@@ -123,8 +143,8 @@ impl Front {
         report_at(&self.lanes, lane)
     }
 
-    /// How far the search for locks of a lane is after the bytes that the rounds took from its ring. The lane is below the link's
-    /// lanes.
+    /// Returns how far the search for locks of a lane is after the bytes that the rounds took from its ring. The lane is below the
+    /// link's lanes.
     pub fn lane_state(&self, lane: u32) -> LaneState
         requires { lane < length self.now.lanes }
         ensures { (s : Settings) (fed : List Fed) (items : List Item) (t : Progress) → Stands self.now s fed items t →
@@ -133,22 +153,22 @@ impl Front {
         state_at(&self.lanes, lane)
     }
 
-    /// Whether the last round found all lanes at their end, and the clock has passed all its bits.
+    /// True if the last round found all lanes at their end, and the clock has passed all its bits.
     pub fn is_over(&self) -> bool
         ensures { result ≡ is_over self.now }
     {
         self.over && self.left == 0
     }
 
-    /// Whether no words wait.
+    /// True if no words wait.
     pub fn is_empty(&self) -> bool
         ensures { result ≡ (length self.now.waiting == 0) }
     {
         self.block.is_empty()
     }
 
-    /// Takes words of the deskew, where none wait: the next block of whole rows, as many as the deskew has to give and 512 words are
-    /// room for. Where words wait, nothing changes.
+    /// If no words wait, takes the next block of whole rows of the deskew: as many as it has to give and fit into 512 words. If words
+    /// wait, changes nothing.
     pub fn fill(&mut self)
         ensures stands { (s : Settings) (fed : List Fed) (items : List Item) (t : Progress) →
             Stands self.old s fed items t → Stands self.new s fed items t }
@@ -167,7 +187,7 @@ impl Front {
         self.block.fill(&mut self.deskew);
     }
 
-    /// The place of the first of the words that wait; where none wait it means nothing. They stand one after another in its group.
+    /// Returns the place of the first of the words that wait, which follow one another in its group. It means nothing if none wait.
     pub fn at(&self) -> Pos
         ensures waiting { self.now.waiting ≡ words_from result.group result.index (words_in self.now.waiting) }
         ensures fits { result.index + length self.now.waiting < 2 ^ 32 }
@@ -176,15 +196,31 @@ impl Front {
         self.block.at()
     }
 
-    /// The words that wait.
-    pub fn words(&self) -> &[RxWord]
-        ensures value { result.now ≡ words_in self.now.waiting }
-        ensures count { length result.now ≡ length self.now.waiting }
+    /// Returns the number of words that wait.
+    pub fn len(&self) -> usize
+        ensures count { result ≡ length self.now.waiting }
+        ensures most { result < 2 ^ 32 }
     {
-        self.block.words()
+        self.block.len()
     }
 
-    /// This many of the words that wait, the first of them, were taken.
+    /// Returns the word number `i` of those that wait, from 0.
+    pub fn word(&self, i: usize) -> RxWord
+        requires { i < length self.now.waiting }
+        ensures { result ≡ get_or (words_in self.now.waiting) i Bad }
+    {
+        self.block.word(i)
+    }
+
+    /// Returns the numbers of the data words from number `from` of those that wait on, before the first word of another kind.
+    pub fn data_run(&self, from: usize) -> &[u64]
+        requires { from ≤ length self.now.waiting }
+        ensures { result.now ≡ data_front (drop from (words_in self.now.waiting)) }
+    {
+        self.block.data_run(from)
+    }
+
+    /// Passes over the first `count` of the words that wait: they were taken.
     pub fn pass(&mut self, count: usize)
         requires { count ≤ length self.old.waiting }
         ensures stands { (s : Settings) (fed : List Fed) (items : List Item) (t : Progress) →
@@ -199,8 +235,8 @@ impl Front {
         self.block.pass(count);
     }
 
-    /// The next item that the clock has shown, where no words wait. `None` exactly where all items that are known of what the
-    /// clock has shown were taken.
+    /// Gives the next item that the clock has shown; no words wait. `None` if all items that are known of what the clock has shown
+    /// were taken.
     pub fn item(&mut self) -> Option<Aligned>
         requires { length self.old.waiting ≡ 0 }
         ensures gives { (s : Settings) (fed : List Fed) (items : List Item) (t : Progress) →
@@ -215,9 +251,9 @@ impl Front {
         self.deskew.next()
     }
 
-    /// Moves the clock on, where nothing is left to be taken: by the bits of many bytes where they can be taken at once, or up to
-    /// and by the next bit at which a lane may show something. False where neither can be: all bits of the rounds were passed, and
-    /// no further round can be made, since the last one found all lanes at their end or a lane that is not finished lacks a byte.
+    /// Moves the clock on; nothing is left to be taken. If the bits of many bytes can be taken at once, it moves by them, otherwise
+    /// up to and by the next bit at which a lane may show something. Returns false if neither is possible: all bits of the rounds
+    /// were passed, and the last round found all lanes at their end, or a lane that is not finished lacks a byte.
     pub fn go_on(&mut self) -> bool
         requires settled { self.old.deskew.settled ≡ true }
         ensures moves { OnTrue result ((s : Settings) (fed : List Fed) (items : List Item) (t : Progress) →
@@ -234,8 +270,8 @@ impl Front {
         true
     }
 
-    /// The bit position of the lock that this lane declared at the bit that the clock passed last, if it declared one there: below
-    /// 2^60. The lane is below the link's lanes.
+    /// Returns the bit position of the lock that this lane declared at the bit that the clock passed last, if it declared one there.
+    /// It is below 2^60. The lane is below the link's lanes.
     pub fn declared(&self, lane: u32) -> Option<u64>
         requires { lane < length self.now.lanes }
         ensures value { result ≡ declared_at lane self.now }
@@ -247,7 +283,7 @@ impl Front {
         lock_of(self.lanes[lane as usize].step(self.width - self.left - 1))
     }
 
-    /// The bit position of the lane's Sync in the group that was given last: below 2^60. The lane is below the link's lanes.
+    /// Returns the bit position of the lane's Sync in the group that was given last: below 2^60. The lane is below the link's lanes.
     pub fn start(&self, lane: u32) -> u64
         requires { lane < length self.now.lanes }
         ensures value { result ≡ start_at lane self.now.deskew }
@@ -256,7 +292,7 @@ impl Front {
         self.deskew.start(lane)
     }
 
-    // Moves the clock on by a bit; false where it can't be.
+    // Moves the clock on by a bit. Returns false if it cannot be moved.
     fn advance(&mut self) -> bool
         requires settled { self.old.deskew.settled ≡ true }
         ensures moves { OnTrue result ((s : Settings) (fed : List Fed) (items : List Item) (t : Progress) →
@@ -275,8 +311,8 @@ impl Front {
         true
     }
 
-    // How many rounds can be made at once: some only where all their bits may be taken before an item is given, and where they are
-    // enough to be worth it.
+    // Counts the rounds that can be made at once: 0 unless all their bits may be taken before an item is given, and they are enough
+    // to be worth it.
     fn batch_bytes(&self) -> usize
         ensures most { result ≤ 536 }
         ensures there { All (HasBytes result) self.now.lanes }
@@ -291,10 +327,10 @@ impl Front {
         if count < LEAST_BYTES || !self.may_take() {
             return 0;
         }
-        count
+        whole_rounds(&self.lanes, whole_words(count, self.lanes[0].bits_left()))
     }
 
-    // Whether all bits of at most 536 rounds may be taken before an item is given: an epoch goes on in which each lane is in a declared
+    // True if all bits of at most 536 rounds may be taken before an item is given: an epoch goes on in which each lane is in a declared
     // lock; or none goes on, and none can begin before a lane declares a lock, which no lane does.
     fn may_take(&self) -> bool
         ensures may { result ≡ true → MayTake self.now }
@@ -306,7 +342,7 @@ impl Front {
         self.deskew.awaits_lock() && keep_locks(&self.lanes, &self.deskew)
     }
 
-    // This many rounds at once, each of which finds a byte of every lane. The clock moves on by all their bits.
+    // Makes `count` rounds at once, each of which finds a byte of every lane, and moves the clock on by all their bits.
     fn take_batch(&mut self, count: usize)
         requires some { 1 ≤ count }
         requires most { count ≤ 536 }
@@ -323,7 +359,8 @@ impl Front {
         self.shows = 0;
     }
 
-    // Rounds, where one can be made: as many as find a byte of every lane each, or else one.
+    // Makes rounds: up to 7 that find a byte of every lane each, or else one in which lanes may be at their end. Returns false if no
+    // round can be made.
     fn round(&mut self) -> bool
         requires { self.old.left ≡ 0 }
         ensures moves { OnTrue result ((s : Settings) (fed : List Fed) (items : List Item) (t : Progress) →
@@ -345,7 +382,7 @@ impl Front {
         self.one_round()
     }
 
-    // This many rounds, which find a byte of every lane each.
+    // Makes `count` rounds, each of which finds a byte of every lane.
     fn rounds(&mut self, count: u32)
         requires none { self.old.left ≡ 0 }
         requires running { self.old.over ≡ false }
@@ -363,7 +400,7 @@ impl Front {
         self.width = 8 * count;
     }
 
-    // A round in which lanes may be at their end, where it can be made.
+    // Makes a round in which lanes may be at their end. Returns false if it cannot be made.
     fn one_round(&mut self) -> bool
         requires none { self.old.left ≡ 0 }
         requires running { self.old.over ≡ false }
@@ -386,7 +423,7 @@ impl Front {
         true
     }
 
-    // The clock moves on by the bits of the last rounds that show nothing, up to the next that shows something.
+    // Moves the clock on by the bits of the last rounds that show nothing, up to the next that shows something.
     fn rest(&mut self)
         requires left { 1 ≤ self.old.left }
         requires settled { self.old.deskew.settled ≡ true }
@@ -402,7 +439,7 @@ impl Front {
         self.left -= quiet;
     }
 
-    // The clock moves on by a bit of the last rounds.
+    // Moves the clock on by a bit of the last rounds.
     fn tick(&mut self)
         requires left { 1 ≤ self.old.left }
         requires settled { self.old.deskew.settled ≡ true }

@@ -17,7 +17,7 @@ use lk_base::{Link, OutOfMemory};
 use lock_model::{LaneReport, LaneState};
 use std::alloc::Global;
 
-/// The lanes of a link, of which no byte came.
+/// Creates the lanes of a link, of which no byte came.
 pub fn fresh_lanes(alloc: Global, link: &Link) -> Result<Vec<FedLane>, OutOfMemory>
     ensures count { IfOk result (λ lanes. length lanes.items ≡ link.now.lanes) }
     ensures each { IfOk result (λ lanes. All (λ v. IsFresh link.now v) lanes.items) }
@@ -31,31 +31,21 @@ pub fn fresh_lanes(alloc: Global, link: &Link) -> Result<Vec<FedLane>, OutOfMemo
     Ok(lanes)
 }
 
-/// Whether a round can be made: no lane that is not finished lacks a byte.
+/// True if a round can be made: no lane that is not finished lacks a byte.
 pub fn are_ready(lanes: &[FedLane]) -> bool
     ensures { result ≡ can_be_taken lanes.now }
 {
-    for lane in lanes {
-        if !lane.is_ready() {
-            return false;
-        }
-    }
-    true
+    lanes.iter().all(|lane| lane.is_ready())
 }
 
-/// Whether a round finds no byte of any lane.
+/// True if a round finds no byte of any lane.
 pub fn are_empty(lanes: &[FedLane]) -> bool
     ensures { result ≡ have_no_byte lanes.now }
 {
-    for lane in lanes {
-        if !lane.is_empty() {
-            return false;
-        }
-    }
-    true
+    lanes.iter().all(|lane| lane.is_empty())
 }
 
-/// A round: it takes one byte of every lane that is not at its end.
+/// Makes a round: takes one byte of every lane that is not at its end.
 pub fn take_all(lanes: &mut [FedLane])
     requires { can_be_taken lanes.old ≡ true }
     ensures { AreTaken 1 lanes.old lanes.new }
@@ -65,7 +55,7 @@ pub fn take_all(lanes: &mut [FedLane])
     }
 }
 
-/// The deskew takes the steps of bit k of the last rounds, one of each lane.
+/// Gives the deskew the steps of bit k of the last rounds, one of each lane.
 pub fn show_steps(lanes: &[FedLane], k: u32, deskew: &mut Deskew)
     requires some { 0 < length lanes.now }
     requires few { length lanes.now ≤ 64 }
@@ -77,7 +67,7 @@ pub fn show_steps(lanes: &[FedLane], k: u32, deskew: &mut Deskew)
     }
 }
 
-/// How many bits of a number are 0 from bit k on, up to the next that is 1, or to this end.
+/// Counts the bits of a number that are 0 from bit k on, up to the next that is 1, or to bit `end`.
 pub fn zeros_from(number: u64, k: u32, end: u32) -> u32
     requires order { k ≤ end }
     requires end { end ≤ 56 }
@@ -87,7 +77,7 @@ pub fn zeros_from(number: u64, k: u32, end: u32) -> u32
     (number >> k).trailing_zeros().min(end - k)
 }
 
-/// How many rounds at once find a byte of every lane each: at most this many.
+/// Counts the rounds at once that find a byte of every lane each: at most `most`.
 pub fn whole_rounds(lanes: &[FedLane], most: usize) -> usize
     ensures most { result ≤ most }
     ensures there { All (HasBytes result) lanes.now }
@@ -99,8 +89,7 @@ pub fn whole_rounds(lanes: &[FedLane], most: usize) -> usize
     count
 }
 
-/// Whether in at most 536 rounds no lane declares a lock, since each is in one or far from one: false only where some lane is
-/// neither.
+/// True if each lane is in a lock or far from one. Then no lane declares a lock in at most 536 rounds.
 pub fn keep_locks(lanes: &[FedLane], deskew: &Deskew) -> bool
     requires few { length lanes.now ≤ 64 }
     requires count { length lanes.now ≡ deskew.now.settings.lanes }
@@ -116,7 +105,7 @@ pub fn keep_locks(lanes: &[FedLane], deskew: &Deskew) -> bool
     true
 }
 
-// Whether in at most 536 rounds the lane declares no lock, since it is in one, as `locked` says, or far from one.
+// True if the lane is in a lock, as `locked` says, or far from one. Then it declares no lock in at most 536 rounds.
 fn declares_none(lane: &FedLane, locked: bool) -> bool
     ensures none { result ≡ true → (locked ≡ true) ⊎ IsFar lane.now.lock }
     ensures some { result ≡ false → (locked ≡ true) ⊎ IsFar lane.now.lock → ⊥ }
@@ -124,8 +113,8 @@ fn declares_none(lane: &FedLane, locked: bool) -> bool
     locked || lane.is_far()
 }
 
-/// This many rounds, at most 536, take a byte of every lane each, and the deskew takes the steps that their bits show, lane by lane.
-/// No step is kept.
+/// Makes `count` rounds, at most 536, each of which finds a byte of every lane. Gives the deskew the steps that their bits show, lane
+/// by lane. No step is kept.
 pub fn take_batches(lanes: &mut [FedLane], count: usize, batch: &mut Batch, deskew: &mut Deskew)
     requires some { 1 ≤ count }
     requires most { count ≤ 536 }
@@ -139,8 +128,8 @@ pub fn take_batches(lanes: &mut [FedLane], count: usize, batch: &mut Batch, desk
     }
 }
 
-/// This many rounds take a byte of every lane each. Returns at which of their bits some lane may show something: bit k of the number
-/// is 0 only where no lane shows anything at bit k.
+/// Makes `count` rounds, each of which finds a byte of every lane. Returns the bits at which a lane may show something: if bit k of
+/// the number is 0, no lane shows anything at bit k.
 pub fn take_rounds(lanes: &mut [FedLane], count: u32) -> u64
     requires some { 1 ≤ count }
     requires most { count ≤ 7 }
@@ -155,7 +144,7 @@ pub fn take_rounds(lanes: &mut [FedLane], count: u32) -> u64
     shows
 }
 
-/// Feeds a lane, which is not finished, and returns how many bytes it took.
+/// Feeds a lane, which is not finished. Returns the number of bytes that it took.
 pub fn feed_at(lanes: &mut [FedLane], lane: u32, piece: &[u8]) -> usize
     requires unfinished { is_open lane lanes.old ≡ true }
     requires few { count_at lane lanes.old + length piece.now < 2 ^ 57 }
@@ -165,7 +154,7 @@ pub fn feed_at(lanes: &mut [FedLane], lane: u32, piece: &[u8]) -> usize
     lanes[lane as usize].feed(piece)
 }
 
-/// No further byte of this lane comes, which is not finished.
+/// Ends this lane, which is not finished: no further byte of it comes.
 pub fn finish_at(lanes: &mut [FedLane], lane: u32)
     requires { is_open lane lanes.old ≡ true }
     ensures { lanes.new ≡ lanes_finished lane lanes.old }
@@ -173,7 +162,7 @@ pub fn finish_at(lanes: &mut [FedLane], lane: u32)
     lanes[lane as usize].finish();
 }
 
-/// The report of a lane over the bytes that the rounds took of it.
+/// Returns the report of a lane over the bytes that the rounds took of it.
 pub fn report_at(lanes: &[FedLane], lane: u32) -> LaneReport
     requires { lane < length lanes.now }
     ensures { (s : Settings) (rounds : ℕ) (fed : List Fed) (columns : List (List Step)) → AllStand lanes.now s rounds fed columns → IsReportOf s rounds lane fed result }
@@ -181,7 +170,7 @@ pub fn report_at(lanes: &[FedLane], lane: u32) -> LaneReport
     lanes[lane as usize].report()
 }
 
-/// How far the search for locks of a lane is after the bytes that the rounds took of it.
+/// Returns how far the search for locks of a lane is after the bytes that the rounds took of it.
 pub fn state_at(lanes: &[FedLane], lane: u32) -> LaneState
     requires { lane < length lanes.now }
     ensures { (s : Settings) (rounds : ℕ) (fed : List Fed) (columns : List (List Step)) → AllStand lanes.now s rounds fed columns → IsStateOf s rounds lane fed result }

@@ -18,7 +18,7 @@ pub enum Shown {
     Step(u32, LaneStep),
 }
 
-/// Bytes of this many bits within which a word ends, or none does.
+/// Returns what bytes of `width` bits show, within which a word ends, or none does.
 pub fn shown_of(completed: Option<Completed>, width: u32) -> Shown
     requires place { IfSome completed (λ c. c.place < width) }
     requires low { IfSome completed (λ c. is_low c.step) }
@@ -32,7 +32,7 @@ pub fn shown_of(completed: Option<Completed>, width: u32) -> Shown
 }
 
 impl Shown {
-    /// The step of bit k of `width` bits; after them it has ended.
+    /// Returns the step of bit k of `width` bits; after them it has ended.
     pub fn step(self, k: u32, width: u32) -> LaneStep
         requires { IsWithin width self }
         ensures value { result ≡ get_or (steps_shown width self) k variants.Ended }
@@ -46,7 +46,7 @@ impl Shown {
     }
 }
 
-// The step, or none; after the bits it has ended.
+// Returns the step, or none; after the bits it has ended.
 fn step_if(here: bool, within: bool, step: LaneStep) -> LaneStep
     requires { is_low step }
     ensures here { here ≡ true → result ≡ step }

@@ -8,6 +8,7 @@ ghost use Rattle.lane_lock.specs.Bytes.{Brings, BringsBatch};
 ghost use Rattle.lane_lock.specs.Found.{found_steps};
 ghost use Rattle.lane_lock.specs.Search.{IsFar};
 ghost use Rattle.lane_lock.specs.Standing.{IsReport, IsState, Stands};
+ghost use Rattle.lane_lock.specs.Taken.{bits_to_end};
 
 use crate::shown::{Shown, shown_of};
 use lane_lock::{LaneLock, StepList};
@@ -21,9 +22,9 @@ use std::marker::Model;
 #[derive(Drop)]
 pub struct LaneSteps {
     lock: LaneLock,
-    /// What the last bytes show: the end before the first.
+    /// What the last bytes show; before the first byte the end.
     last_shown: Shown,
-    /// How many bits they have: at most 56; none where the steps of the last bytes were appended to a list.
+    /// The number of their bits, at most 56; 0 if the steps of the last bytes were appended to a list.
     width: u32,
 }
 
@@ -40,7 +41,7 @@ impl Model for LaneSteps {
 }
 
 impl LaneSteps {
-    /// A lane of which no byte came. It takes memory here, and none after.
+    /// Creates a lane of which no byte came. It takes memory here, and none after.
     pub fn new(alloc: Global, link: &Link) -> Result<LaneSteps, OutOfMemory>
         ensures { IfOk result (λ v. Stands v.lock link.now [] × (v.lock.taken ≡ 0) × (length v.shown ≡ 8)) }
     {
@@ -72,7 +73,7 @@ impl LaneSteps {
         self.width = 8;
     }
 
-    /// Takes this many bytes at once: the number is that of their bits, the first of them highest. At most 2^60 bits come in all.
+    /// Takes `count` bytes at once: `bits` is the number of their bits, the first of them highest. At most 2^60 bits come in all.
     pub fn take(&mut self, bits: u64, count: u32)
         requires some { 1 ≤ count }
         requires most { count ≤ 7 }
@@ -102,7 +103,7 @@ impl LaneSteps {
         self.width = 0;
     }
 
-    /// Whether it is far from a declared lock: no word lock goes on, and no position of its search has more than 32 words with legal
+    /// True if it is far from a declared lock: no word lock goes on, and no position of its search has more than 32 words with legal
     /// headers in a row up to the last bit; or no lock is declared of the word lock, and at no place of its metaframes more than
     /// one word in a row, up to the last, was Sync. Then the bits of 64 words, whatever they are, declare none.
     pub fn is_far(&self) -> bool
@@ -112,7 +113,7 @@ impl LaneSteps {
         self.lock.is_far()
     }
 
-    /// The step of bit k of the last bytes, counted from the first, the highest of the first byte; after them it has ended.
+    /// Returns the step of bit k of the last bytes, counted from the highest of the first byte; after them it has ended.
     pub fn step(&self, k: u32) -> LaneStep
         ensures value { result ≡ get_or self.now.shown k variants.Ended }
         ensures low { is_low result }
@@ -120,7 +121,15 @@ impl LaneSteps {
         self.last_shown.step(k, self.width)
     }
 
-    /// At which of the last bytes' bits it may show something: bit k of the number is 0 only where bit k of the bytes, counted from
+    /// Returns the number of bits up to the end of the next word of a word lock, at most 67: 0 if no word lock goes on.
+    pub fn bits_left(&self) -> u64
+        ensures value { result ≡ bits_to_end self.now.lock }
+        ensures most { result ≤ 67 }
+    {
+        self.lock.bits_left()
+    }
+
+    /// Returns the bits of the last bytes at which it may show something: if bit k of the number is 0, bit k of the bytes, counted from
     /// the first, shows nothing.
     pub fn shows(&self) -> u64
         ensures { (k : ℕ) → k < length self.now.shown → bit_at result k ≡ 0 → get_or self.now.shown k variants.Ended ≡ variants.Nothing }
@@ -132,14 +141,14 @@ impl LaneSteps {
         }
     }
 
-    /// The report over the bytes so far.
+    /// Returns the report over the bytes so far.
     pub fn report(&self) -> LaneReport
         ensures { (s : Settings) (bits : List Bool) → Stands self.now.lock s bits → IsReport s bits result }
     {
         self.lock.report()
     }
 
-    /// How far the search for locks is after the bytes so far.
+    /// Returns how far the search for locks is after the bytes so far.
     pub fn state(&self) -> LaneState
         ensures { (s : Settings) (bits : List Bool) → Stands self.now.lock s bits → IsState s bits result }
     {

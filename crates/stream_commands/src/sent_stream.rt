@@ -4,7 +4,7 @@ ghost use Rattle.lk_base.specs.declared.word.Word.{Word as SentWord};
 ghost use Rattle.stream_model.specs.BurstStream.{Source, IsBurstStream};
 ghost use Rattle.tx_words.specs.Making.{GaveWords};
 ghost use Rattle.tx_words.specs.Sent.{AreSent};
-ghost use Rattle.stream_commands.specs.Listing.{Lists};
+ghost use Rattle.tx_end.specs.SentLanes.{IsListed};
 ghost use Rattle.stream_commands.specs.Payload.{IsSentStreamOf};
 ghost use Rattle.stream_commands.specs.Stream.{stream_text};
 
@@ -31,9 +31,9 @@ fn make_few(
     list: &mut SentList,
     words: &mut WordList,
 ) -> Result<(), OutOfMemory>
-    requires { (source : Source) × Lists maker.old list.old source words.old }
-    ensures lists { OnOk result ((source : Source) → Lists maker.old list.old source words.old → Lists maker.new list.new source words.new) }
-    ensures more { OnOk result ((source : Source) → Lists maker.old list.old source words.old → (IsBurstStream source words.old → ⊥) → length words.old < length words.new) }
+    requires { (source : Source) × IsListed maker.old list.old source words.old }
+    ensures lists { OnOk result ((source : Source) → IsListed maker.old list.old source words.old → IsListed maker.new list.new source words.new) }
+    ensures more { OnOk result ((source : Source) → IsListed maker.old list.old source words.old → (IsBurstStream source words.old → ⊥) → length words.old < length words.new) }
 {
     let count = maker.next_data(usize::MAX);
     if count > 0 {
@@ -57,8 +57,8 @@ fn make_all(
     list: &mut SentList,
     words: &mut WordList,
 ) -> Result<(), OutOfMemory>
-    requires { (source : Source) × Lists maker.old list.old source words.old }
-    ensures { OnOk result ((source : Source) → Lists maker.old list.old source words.old → Lists maker.new list.new source words.new × IsBurstStream source words.new) }
+    requires { (source : Source) × IsListed maker.old list.old source words.old }
+    ensures { OnOk result ((source : Source) → IsListed maker.old list.old source words.old → IsListed maker.new list.new source words.new × IsBurstStream source words.new) }
 {
     while !maker.is_over() {
         make_few(maker, list, words)?;
@@ -66,8 +66,8 @@ fn make_all(
     Ok(())
 }
 
-// The lines of the source's stream of this many words, which sends these packets.
-fn listed_lines(
+/// The lines of the source's stream of this many words, which sends these packets.
+pub fn listed_lines(
     alloc: Global,
     source: &StreamSource,
     sent: &[Sent],

@@ -7,6 +7,7 @@ ghost use Rattle.metaframe.specs.Writing.{wants_payload};
 ghost use Rattle.tx_end.specs.Lanes.{Carries, Fills, HasEnded, HasFilled, HasRoom};
 
 use crate::lane_writer::LaneWriter;
+use coding_67b::EIGHT_CODES_BYTES;
 use lk_base::{Link, OutOfMemory, Word};
 use std::alloc::Global;
 
@@ -107,7 +108,7 @@ fn fill_block(
             lane.put_eight(&eight, block, at);
             taken += 8;
             place += 8;
-            at += 67;
+            at += EIGHT_CODES_BYTES;
         } else {
             taken = next_word(lane, group, lanes, number, taken);
             at = give_bytes(lane, block, at);

@@ -2,3 +2,5 @@
 pub mod Places
 -- What this crate alone cites.
 mod Lists
+mod Received
+mod Spread

@@ -11,7 +11,7 @@ use std::marker::Model;
 #[derive(Drop)]
 pub struct WordList {
     numbers: Vec<u64>,
-    // Which of the words are control words.
+    /// True for each control word.
     controls: Vec<bool>,
 }
 
@@ -27,7 +27,7 @@ impl Model for WordList {
     ghost invariant = { λ a. length a.controls.items ≡ length a.numbers.items };
 }
 
-// The word of this number and this kind.
+// Returns the word with this number, a control word if `control`.
 fn word_of(number: u64, control: bool) -> Word
     ensures { result ≡ word_of number control }
 {
@@ -38,7 +38,7 @@ fn word_of(number: u64, control: bool) -> Word
     }
 }
 
-// Puts a number and a kind after the others. After `OutOfMemory` both lists are as they were.
+// Puts a number and a kind after the others. After `OutOfMemory` both lists are unchanged.
 fn push_parts(
     numbers: &mut Vec<u64>,
     controls: &mut Vec<bool>,
@@ -58,7 +58,7 @@ fn push_parts(
     Ok(())
 }
 
-// Puts the numbers and the kinds of these words after the others, for which there is room.
+// Puts the numbers and the kinds of these words after the others; there is room for them.
 fn push_all(numbers: &mut Vec<u64>, controls: &mut Vec<bool>, words: &[Word])
     requires numbers { vec_len numbers.old + length words.now ≤ vec_capacity numbers.old }
     requires controls { vec_len controls.old + length words.now ≤ vec_capacity controls.old }
@@ -71,7 +71,7 @@ fn push_all(numbers: &mut Vec<u64>, controls: &mut Vec<bool>, words: &[Word])
     }
 }
 
-// Puts these numbers after the others, and as many kinds of data words, for which there is room.
+// Puts these numbers after the others, and as many kinds of data words; there is room for them.
 fn push_data(numbers: &mut Vec<u64>, controls: &mut Vec<bool>, more: &[u64])
     requires numbers { vec_len numbers.old + length more.now ≤ vec_capacity numbers.old }
     requires controls { vec_len controls.old + length more.now ≤ vec_capacity controls.old }
@@ -98,7 +98,7 @@ fn read_parts(numbers: &[u64], controls: &[bool], first: usize, block: &mut [Wor
 }
 
 impl WordList {
-    /// An empty list, which takes its memory from this allocator.
+    /// Creates an empty list, which takes its memory from this allocator.
     pub fn new(alloc: Global) -> WordList
         ensures { result ≡ [] }
     {
@@ -108,11 +108,11 @@ impl WordList {
         }
     }
 
-    /// Puts a word after the others. After `OutOfMemory` the list is as it was.
+    /// Puts a word after the others. After `OutOfMemory` the list is unchanged.
     ///
     /// # Errors
     ///
-    /// `OutOfMemory` where memory ran out, and nowhere else.
+    /// `OutOfMemory` if memory ran out, and only then.
     pub fn push(&mut self, word: Word) -> Result<(), OutOfMemory>
         ensures ok { OnOk result (self.new ≡ self.old ++ word ∷ []) }
         ensures err { OnErr result (self.new ≡ self.old) }
@@ -125,11 +125,11 @@ impl WordList {
         )
     }
 
-    /// Puts these words after the others, as a `push` of each would. After `OutOfMemory` the list is as it was.
+    /// Puts these words after the others, as a `push` of each would. After `OutOfMemory` the list is unchanged.
     ///
     /// # Errors
     ///
-    /// `OutOfMemory` where memory ran out, and nowhere else.
+    /// `OutOfMemory` if memory ran out, and only then.
     pub fn extend(&mut self, words: &[Word]) -> Result<(), OutOfMemory>
         ensures ok { OnOk result (self.new ≡ self.old ++ words.now) }
         ensures err { OnErr result (self.new ≡ self.old) }
@@ -140,7 +140,7 @@ impl WordList {
         Ok(())
     }
 
-    /// Puts data words of these numbers after the others, as a `push` of each would. After `OutOfMemory` the list is as it was.
+    /// Puts data words of these numbers after the others, as a `push` of each would. After `OutOfMemory` the list is unchanged.
     ///
     /// # Errors
     ///
@@ -155,7 +155,7 @@ impl WordList {
         Ok(())
     }
 
-    /// How many words it has: fewer than 2^60.
+    /// Returns the number of its words, which is below 2^60.
     pub fn len(&self) -> usize
         ensures value { result ≡ length self.now }
         ensures few { length self.now < 2 ^ 60 }
@@ -163,14 +163,14 @@ impl WordList {
         self.numbers.as_slice().len()
     }
 
-    /// Whether it has no word.
+    /// True if it has no word.
     pub fn is_empty(&self) -> bool
         ensures { result ≡ (length self.now == 0) }
     {
         self.numbers.is_empty()
     }
 
-    /// The word number `i`, from 0.
+    /// Returns the word number `i`, from 0.
     pub fn get(&self, i: usize) -> Word
         requires { i < length self.now }
         ensures { result ≡ word_at self.now i }

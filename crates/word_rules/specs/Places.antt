@@ -6,6 +6,7 @@ use Rattle.lk_base.specs.declared.word.RxWord.{RxWord}
 use Rattle.lk_base.specs.declared.word.RxWord.TheVariants.{Data, Control, Bad}
 use Rattle.lk_base.specs.Fields.{is_control_word, has_burst, channel_number}
 use Rattle.lk_base.specs.Words.{is_bad}
+pub use Rattle.word_list.specs.Received.{data_front as data_before}
 
 -- a burst word: an accepted control word with bit 62
 abbrev pub is_burst_word : ℕ → Bool
@@ -37,13 +38,6 @@ since_control [] = []
 since_control (Data x ∷ earlier) = Data x ∷ since_control earlier
 since_control (Control x ∷ earlier) = []
 since_control (Bad ∷ earlier) = Bad ∷ since_control earlier
-
--- the Data words that stand right before the place
-abbrev pub data_before : List RxWord → List ℕ
-data_before [] = []
-data_before (Data x ∷ earlier) = x ∷ data_before earlier
-data_before (Control x ∷ earlier) = []
-data_before (Bad ∷ earlier) = []
 
 -- the word right before these Data words, or right before the place where there are none
 abbrev pub word_before_data : List RxWord → Option RxWord

@@ -19,6 +19,7 @@ use Rattle.word_rules.specs.declared.limits.WordLimits.{WordLimits}
 use Rattle.word_rules.specs.Places.{control_number, is_burst_word, known, since_control, data_before, burst_before, follows_bad, words_since_burst}
 use Rattle.word_rules.specs.declared.burst.Burst.{Burst}
 use Rattle.word_rules.specs.Bursts.{bursts_on, ends, is_ended, burst_bytes, whole_bytes, since_sop}
+pub use Rattle.stream_model.specs.Calendar.{is_listed}
 
 -- ---- Data words
 
@@ -121,10 +122,6 @@ breaks_sop s earlier x = is_burst_word x && (has_sop x && is_open s.wide earlier
 -- `open`: it is a burst word without SOP, and its channel is known not to be open
 abbrev pub breaks_open : WordLimits → List RxWord → ℕ → Bool
 breaks_open s earlier x = is_burst_word x && (not (has_sop x) && is_known_closed s.wide earlier x)
-
--- a channel is among the listed ones
-abbrev pub is_listed : List ℕ → ℕ → Bool
-is_listed channels channel = list_any (λ c. c == channel) channels
 
 -- `channel`: it is a burst word whose channel is not listed
 abbrev pub breaks_channel : WordLimits → List ℕ → ℕ → Bool

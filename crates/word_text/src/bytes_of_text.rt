@@ -34,7 +34,7 @@ fn put_bytes(
 ///
 /// # Errors
 ///
-/// Why the text is no listing, and `OutOfMemory` where memory ran out and nowhere else. Each leaves `out` as it was.
+/// Why the text is no listing; `OutOfMemory` if memory ran out, and only then. Each leaves `out` as it was.
 pub fn assemble(
     alloc: Global,
     text: &[u8],

@@ -10,14 +10,14 @@ use coding_67b::code_with;
 use lane_model::{SCRAMBLER_STATE, SYNC};
 use lk_base::OutOfMemory;
 
-// Whether the character at a place is that of the bit 1.
+// True if the character at a place is that of the bit 1.
 fn is_one(text: &[u8], place: usize) -> bool
     ensures { result ≡ (byte_at text.now place == 49) }
 {
     byte_at(text, place) == b'1'
 }
 
-// The header that two characters give.
+// Returns the header that the first two characters give.
 fn header_at(text: &[u8]) -> u8
     ensures value { result ≡ 2 * digit (byte_at text.now 0 == 49) + digit (byte_at text.now 1 == 49) }
     ensures below { result < 4 }
@@ -25,8 +25,8 @@ fn header_at(text: &[u8]) -> u8
     2 * is_one(text, 0) as u8 + is_one(text, 1) as u8
 }
 
-// The code that a line can be the line of, and no other. A line is `sync I`, `state I S` or `code I HH P`, with the inversion I,
-// the header HH, and the state S or the payload P in hexadecimal digits. What stands between them is not looked at: `code_of`
+// Returns the one code that a line can be the line of. A line is `sync I`, `state I S` or `code I HH P`, with the inversion I,
+// the header HH, and the state S or the payload P in hexadecimal digits. The characters between them are not looked at: `code_of`
 // spells the code again and compares.
 fn code_candidate(line: &[u8]) -> u128
     ensures below { result < 2 ^ 67 }
@@ -46,7 +46,7 @@ fn code_candidate(line: &[u8]) -> u128
     code_with(is_one(fields, 0), header, payload)
 }
 
-// The code of which this is the line. `None` exactly where it is the line of no code. A code is spelled in the buffer.
+// Returns the code of which this is the line; `None` if it is the line of no code. A code is spelled in `spelled`.
 pub fn code_of(spelled: &mut Vec<u8>, line: &[u8]) -> Result<Option<u128>, OutOfMemory>
     ensures { IfOk result (λ answer. MatchOption answer
         ((code : ℕ) → code < 2 ^ 67 → IsCodeLine code line.now → ⊥)

@@ -27,7 +27,7 @@ fn drain(writer: &mut BitWriter, bytes: &mut Vec<u8>) -> Result<(), OutOfMemory>
     Ok(())
 }
 
-// Where the lines of codes end.
+// The place at which the lines of codes end.
 #[derive(Clone, Copy)]
 struct CodesEnd<'a> {
     // The bits that wait.
@@ -38,8 +38,8 @@ struct CodesEnd<'a> {
     number: u64,
 }
 
-// Appends the bits of the lines of codes, which come after the first line of a text, to `out` as bytes. Bits that fill no
-// byte wait in the writer. Codes are spelled in the buffer.
+// Appends the bits of the lines of codes, those after the first line of a text, to `out` as bytes. Bits that fill no
+// byte wait in the writer. Codes are spelled in `spelled`.
 fn put_codes<'a>(
     spelled: &mut Vec<u8>,
     writer: &mut BitWriter,
@@ -102,8 +102,8 @@ fn put_last(
     Ok(())
 }
 
-// Puts the bytes of the lane of these lines, as `put_lane` does, through a writer in which nothing waits. Lines are spelled in
-// the buffer.
+// Appends the bytes of the lane of these lines, as `put_lane` does, through a writer in which nothing waits. Lines are spelled
+// in `spelled`.
 fn put_lines(
     spelled: &mut Vec<u8>,
     writer: &mut BitWriter,
@@ -137,8 +137,8 @@ fn put_lines(
     Ok(Ok(()))
 }
 
-// Appends the bytes of the lane of these lines, which come after the first line of a text, to `out`, or as many as there
-// are before a refusal.
+// Appends the bytes of the lane of these lines, those after the first line of a text, to `out`, or as many as there are
+// before a refusal.
 pub fn put_lane(
     alloc: Global,
     lines: &[u8],

@@ -11,10 +11,10 @@ use lk_base::OutOfMemory;
 // The header of a control word, 10.
 pub const CONTROL: u8 = 2;
 
-// The bits of the state in the payload of a word that carries the state of the key; the mark of that word stands above them.
+// The bits of the state in the payload of a Scrambler State word: its lowest. The bits above them are the mark of that word.
 pub const STATE_BITS: u32 = 58;
 
-// Whether a code is that of a word by which a receiver finds the metaframe.
+// True if a code is that of a Sync word, by which a receiver finds the metaframe.
 fn is_sync(code: u128) -> bool
     requires { code < 2 ^ 67 }
     ensures is { result ≡ true → IsSync code }
@@ -23,7 +23,7 @@ fn is_sync(code: u128) -> bool
     header_of(code) == CONTROL && payload_of(code) == SYNC
 }
 
-// Whether a code is that of a word that carries the state of the key.
+// True if a code is that of a Scrambler State word, which has the mark and carries the state of the key.
 fn is_state(code: u128) -> bool
     requires { code < 2 ^ 67 }
     ensures is { result ≡ true → IsState code }
@@ -32,7 +32,7 @@ fn is_state(code: u128) -> bool
     header_of(code) == CONTROL && payload_of(code) >> STATE_BITS == SCRAMBLER_STATE >> STATE_BITS
 }
 
-// Makes the line that of a word by which a receiver finds the metaframe.
+// Writes the line of a Sync word to `line`, in place of what was in it.
 fn sync_line(line: &mut Vec<u8>, inverted: bool) -> Result<(), OutOfMemory>
     ensures { OnOk result (line.new.items ≡ sync_text inverted) }
 {
@@ -40,7 +40,7 @@ fn sync_line(line: &mut Vec<u8>, inverted: bool) -> Result<(), OutOfMemory>
     put_bit(line, b"sync ", inverted)
 }
 
-// Makes the line that of a word that carries the state of the key.
+// Writes the line of a Scrambler State word to `line`, in place of what was in it.
 fn state_line(line: &mut Vec<u8>, inverted: bool, state: u64) -> Result<(), OutOfMemory>
     ensures { OnOk result (line.new.items ≡ state_text inverted state) }
 {
@@ -49,7 +49,7 @@ fn state_line(line: &mut Vec<u8>, inverted: bool, state: u64) -> Result<(), OutO
     put_digits(line, b" ", 15, state)
 }
 
-// Makes the line that of any other code.
+// Writes the line of any other code to `line`, in place of what was in it.
 fn other_line(
     line: &mut Vec<u8>,
     inverted: bool,
@@ -66,7 +66,7 @@ fn other_line(
     put_digits(line, b" ", 16, payload)
 }
 
-// Makes the line that of a code, in place of what stood in it.
+// Writes the line of a code to `line`, in place of what was in it.
 pub fn code_line(line: &mut Vec<u8>, code: u128) -> Result<(), OutOfMemory>
     requires { code < 2 ^ 67 }
     ensures { OnOk result (IsCodeLine code line.new.items) }

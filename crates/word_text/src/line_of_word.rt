@@ -9,14 +9,14 @@ use control_words::{Control, ControlWord, Eop};
 use lk_base::OutOfMemory;
 use words_files::FileWord;
 
-// The name of a control word.
+// Returns the name of a control word.
 fn kind_text(burst: bool) -> &'static [u8]
     ensures { result.now ≡ kind_text burst }
 {
     if burst { b"burst" } else { b"idle" }
 }
 
-// Puts how the data before a control word end.
+// Appends to a line how the data before a control word end.
 fn put_end(line: &mut Vec<u8>, eop: Eop) -> Result<(), OutOfMemory>
     ensures { OnOk result (line.new.items ≡ line.old.items ++ end_text eop) }
 {
@@ -35,7 +35,7 @@ fn put_number(line: &mut Vec<u8>, name: &[u8], n: u8) -> Result<(), OutOfMemory>
     put_decimal(line, n)
 }
 
-// Makes the line that of a control word by its fields.
+// Writes the line of a control word, by its fields, to `line`, in place of what was in it.
 fn fields_line(line: &mut Vec<u8>, c: Control, crc: u32) -> Result<(), OutOfMemory>
     ensures { OnOk result (line.new.items ≡ control_text c crc) }
 {
@@ -51,7 +51,7 @@ fn fields_line(line: &mut Vec<u8>, c: Control, crc: u32) -> Result<(), OutOfMemo
     put_digits(line, b" crc=", 6, crc as u64)
 }
 
-// Makes the line a name and the 16 digits of a number.
+// Writes a name and the 16 digits of a number to `line`, in place of what was in it.
 fn number_line(line: &mut Vec<u8>, name: &[u8], x: u64) -> Result<(), OutOfMemory>
     ensures { OnOk result (line.new.items ≡ name.now ++ hex 16 x) }
 {
@@ -59,7 +59,7 @@ fn number_line(line: &mut Vec<u8>, name: &[u8], x: u64) -> Result<(), OutOfMemor
     put_digits(line, name, 16, x)
 }
 
-// Makes the line that of a number sent as a control word.
+// Writes the line of a number sent as a control word to `line`, in place of what was in it.
 fn control_line(line: &mut Vec<u8>, x: u64) -> Result<(), OutOfMemory>
     ensures { OnOk result (IsControlLine x line.new.items) }
 {
@@ -69,7 +69,7 @@ fn control_line(line: &mut Vec<u8>, x: u64) -> Result<(), OutOfMemory>
     }
 }
 
-// Makes the line that of a word, in place of what stood in it.
+// Writes the line of a word to `line`, in place of what was in it.
 pub fn word_line(line: &mut Vec<u8>, word: FileWord) -> Result<(), OutOfMemory>
     ensures { OnOk result (IsWordLine word line.new.items) }
 {

@@ -4,7 +4,7 @@ ghost use Rattle.lk_base.specs.Checksum.{bits_of};
 use coding_67b::BitReader;
 use lane_model::CODE_BITS;
 
-// This many bits as a number, the first of them highest.
+// The first `count` bits of a piece as a number, the first of them highest.
 #[derive(Clone, Copy)]
 pub struct CodePiece {
     pub count: u32,

@@ -7,7 +7,7 @@ use crate::digits::{bit_text, put};
 use crate::piece::CodePiece;
 use lk_base::OutOfMemory;
 
-// Makes the line that of the last bits of a lane, in place of what stood in it.
+// Writes the line of the last bits of a lane to `line`, in place of what was in it.
 pub fn rest_line(line: &mut Vec<u8>, rest: &CodePiece) -> Result<(), OutOfMemory>
     requires { rest.now.count < 67 }
     ensures { OnOk result (line.new.items ≡ rest_line (bits_of rest.now.count rest.now.bits)) }
@@ -20,7 +20,7 @@ pub fn rest_line(line: &mut Vec<u8>, rest: &CodePiece) -> Result<(), OutOfMemory
     Ok(())
 }
 
-// The bits that these characters give, as a number.
+// Returns the bits that these characters give, as a number.
 fn bits_told(text: &[u8]) -> u128
     requires { length text.now < 67 }
     ensures below { result < 2 ^ length text.now }
@@ -33,8 +33,8 @@ fn bits_told(text: &[u8]) -> u128
     bits
 }
 
-// The bits of which this is the last line, 1 to 66 of them. `None` exactly where it is no such line. The bits are spelled
-// in the buffer.
+// Returns the bits of which this is the last line, 1 to 66 of them; `None` if it is no such line. The bits are spelled in
+// `spelled`.
 pub fn rest_of(spelled: &mut Vec<u8>, line: &[u8]) -> Result<Option<CodePiece>, OutOfMemory>
     ensures { IfOk result (λ answer. MatchOption answer
         (IsRestLine line.now → ⊥)

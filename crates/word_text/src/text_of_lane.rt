@@ -14,7 +14,7 @@ use lane_model::CODE_BITS;
 use lk_base::OutOfMemory;
 use std::alloc::Global;
 
-// Appends the line of a code, ended, to a text. It is spelled in the buffer.
+// Appends the line of a code, ended, to a text. It is spelled in `line`.
 fn put_code(line: &mut Vec<u8>, text: &mut Vec<u8>, code: u128) -> Result<(), OutOfMemory>
     requires { code < 2 ^ 67 }
     ensures ok { OnOk result ((told : List ℕ) × IsCodeLine code told × (text.new.items ≡ text.old.items ++ ended told)) }
@@ -25,7 +25,7 @@ fn put_code(line: &mut Vec<u8>, text: &mut Vec<u8>, code: u128) -> Result<(), Ou
     put(text, line)
 }
 
-// Appends the line of the last bits, ended, to a text. It is spelled in the buffer.
+// Appends the line of the last bits, ended, to a text. It is spelled in `line`.
 fn put_rest(line: &mut Vec<u8>, text: &mut Vec<u8>, rest: &CodePiece) -> Result<(), OutOfMemory>
     requires { rest.now.count < 67 }
     ensures ok { OnOk result (text.new.items ≡ text.old.items ++ ended (rest_line (bits_of rest.now.count rest.now.bits))) }
@@ -62,7 +62,7 @@ fn put_lane_text(alloc: Global, bytes: &[u8], out: &mut Vec<u8>) -> Result<u64, 
 ///
 /// # Errors
 ///
-/// `OutOfMemory` where memory ran out and nowhere else; `out` is then as it was.
+/// `OutOfMemory` if memory ran out, and only then; `out` is then as it was.
 pub fn list_lane(alloc: Global, bytes: &[u8], out: &mut Vec<u8>) -> Result<u64, OutOfMemory>
     ensures lane { IfOk result (λ count. ListsLane bytes.now out.old.items out.new.items count) }
     ensures memory { OnErr result (out.new.items ≡ out.old.items) }

@@ -12,7 +12,7 @@ use lk_base::OutOfMemory;
 use std::alloc::Global;
 use words_files::{FileWord, Tags, WORD_BYTES, WordsError, read_word};
 
-// Appends the line of a word, ended, to a text. It is spelled in the buffer.
+// Appends the line of a word, ended, to a text. It is spelled in `line`.
 fn put_word(line: &mut Vec<u8>, text: &mut Vec<u8>, word: FileWord) -> Result<(), OutOfMemory>
     ensures ok { OnOk result ((told : List ℕ) × IsWordLine word told × (text.new.items ≡ text.old.items ++ ended told)) }
     ensures err { OnErr result (text.new.items ≡ text.old.items) }
@@ -56,7 +56,7 @@ fn put_words_text(
 ///
 /// # Errors
 ///
-/// The refusal of the file, and `OutOfMemory` where memory ran out and nowhere else. Each leaves `out` as it was.
+/// The refusal of the file; `OutOfMemory` if memory ran out, and only then. Each leaves `out` as it was.
 pub fn list_words(
     alloc: Global,
     bytes: &[u8],

@@ -12,7 +12,7 @@ use control_words::{Control, Eop, to_word};
 use lk_base::OutOfMemory;
 use words_files::FileWord;
 
-// How the data before a control word end, from the text where that is written.
+// Reads how the data before a control word end, at the start of a text.
 fn end_of(text: &[u8]) -> Eop
     ensures { result ≡ end_at (byte_at text.now 0) }
 {
@@ -28,7 +28,7 @@ fn end_of(text: &[u8]) -> Eop
     }
 }
 
-// The control word whose fields a line can give.
+// Returns the control word whose fields a line can give.
 fn control_of(line: &[u8]) -> u64
     ensures { (c : Control) (crc x : ℕ) → IsWordOf c crc x → line.now ≡ control_text c crc → result ≡ x }
 {
@@ -51,9 +51,9 @@ fn control_of(line: &[u8]) -> u64
     to_word(c, (number_of(crc, 16) % 0x100_0000) as u32)
 }
 
-// The word that a line can be the line of, and no other. A line is `data X`, `control X` or `bad X`, with the number X in
-// hexadecimal digits, or has the fields of a control word. What stands after the digits is not looked at: `word_of` spells the
-// word again and compares.
+// Returns the one word that a line can be the line of. A line is `data X`, `control X` or `bad X`, with the number X in
+// hexadecimal digits, or has the fields of a control word. The characters after the digits are not looked at: `word_of` spells
+// the word again and compares.
 fn candidate(line: &[u8]) -> FileWord
     ensures { (word : FileWord) → IsSized word → IsWordLine word line.now → result ≡ word }
 {
@@ -69,7 +69,7 @@ fn candidate(line: &[u8]) -> FileWord
     FileWord::Control(control_of(line))
 }
 
-// The word of which this is the line. `None` exactly where it is the line of no word. A word is spelled in the buffer.
+// Returns the word of which this is the line; `None` if it is the line of no word. A word is spelled in `spelled`.
 pub fn word_of(spelled: &mut Vec<u8>, line: &[u8]) -> Result<Option<FileWord>, OutOfMemory>
     ensures { IfOk result (λ answer. MatchOption answer
         ((word : FileWord) → IsSized word → IsWordLine word line.now → ⊥)

@@ -9,8 +9,8 @@ use lk_base::OutOfMemory;
 use std::alloc::Global;
 use words_files::{TextError, append_word};
 
-// Appends the bytes of the words of these lines, which come after the first line of a text, to `out`, or as many as there
-// are before a refusal.
+// Appends the bytes of the words of these lines, those after the first line of a text, to `out`, or as many as there are
+// before a refusal.
 pub fn put_words(
     alloc: Global,
     lines: &[u8],

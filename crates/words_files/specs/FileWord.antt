@@ -1,5 +1,5 @@
 -- A word in a words file: nine bytes.
-use Rattle.std.specs.Prelude.{ℕ, List, ◌∷◌}
+use Rattle.std.specs.Prelude.{ℕ, Bool, true, false, List, ◌∷◌}
 use Rattle.std.specs.Int.{bytes_high_first}
 use Rattle.lk_base.specs.declared.word.RxWord.{RxWord}
 use Rattle.lk_base.specs.declared.word.RxWord.TheVariants as received
@@ -52,3 +52,15 @@ abbrev pub sent_of : FileWord → Word
 sent_of (file.Data x) = sent.Data x
 sent_of (file.Control x) = sent.Control x
 sent_of (file.Bad x) = sent.Control x
+
+-- ---- words that are data words
+
+abbrev pub is_data : FileWord → Bool
+is_data (file.Data x) = true
+is_data (file.Control x) = false
+is_data (file.Bad x) = false
+
+abbrev pub is_received_data : RxWord → Bool
+is_received_data (received.Data x) = true
+is_received_data (received.Control x) = false
+is_received_data received.Bad = false

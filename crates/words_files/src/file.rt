@@ -1,5 +1,6 @@
 //! An accepted words file, whose words are read from its bytes one by one.
-ghost use Rattle.std.specs.Prelude.{◌≡◌, MatchResult, Ok, Err, length, slice_get};
+ghost use Rattle.std.specs.Prelude.{◌≡◌, ◌≤◌, ◌<◌, ◌+◌, MatchResult, Ok, Err, false, length, map, take, drop, slice_get, slice_index_or};
+ghost use Rattle.words_files.specs.FileWord.{is_received_data};
 ghost use Rattle.words_files.specs.WordsOfFile.{words_of_file};
 
 use crate::error::WordsError;
@@ -25,7 +26,7 @@ impl Model for WordsFile {
 }
 
 impl WordsFile {
-    /// The words file of these bytes, nine for each word: 1 if it is data, 2 if it is control and 3 if it is bad, and then its
+    /// Creates the words file of these bytes, nine for each word: 1 if it is data, 2 if it is control and 3 if it is bad, and then its
     /// number, the highest byte first. The number of a bad word is ignored. The file is refused for the least offset at which
     /// something is wrong: a byte that should be 1, 2 or 3 and is not, or otherwise a last word that is not whole.
     ///
@@ -43,14 +44,14 @@ impl WordsFile {
         }
     }
 
-    /// How many words there are.
+    /// Returns the count of words.
     pub fn len(&self) -> usize
         ensures { result ≡ length self.now }
     {
         self.words.len()
     }
 
-    /// The word of this number, from 0; none exactly after the last.
+    /// Returns the word of this number, from 0; `None` after the last word.
     pub fn get(&self, index: usize) -> Option<RxWord>
         ensures { result ≡ slice_get self.now index }
     {
@@ -58,5 +59,18 @@ impl WordsFile {
             Some(word) => Some(RxWord::from(word)),
             None => None,
         }
+    }
+
+    /// Copies the numbers of the data words from word `from` on, until another word, the end of the file or the end of `numbers`.
+    /// Returns how many.
+    pub fn copy_data(&self, from: usize, numbers: &mut [u64]) -> usize
+        requires { from ≤ length self.now }
+        ensures within { from + result ≤ length self.now }
+        ensures fits { result ≤ length numbers.new }
+        ensures long { length numbers.new ≡ length numbers.old }
+        ensures copied { map RxWord.Data (take result numbers.new) ≡ take result (drop from self.now) }
+        ensures stops { result < length numbers.new → from + result < length self.now → is_received_data (slice_index_or self.now (from + result) RxWord.Bad) ≡ false }
+    {
+        self.words.copy_data(from, numbers)
     }
 }

@@ -17,7 +17,7 @@ pub enum FileWord {
 }
 
 impl FileWord {
-    /// The first byte of the word: 1 for data, 2 for control, 3 for a bad word.
+    /// Returns the first byte of the word: 1 for data, 2 for control, 3 for a bad word.
     pub fn tag(self) -> u8
         ensures { result ≡ file_tag self }
     {
@@ -28,7 +28,7 @@ impl FileWord {
         }
     }
 
-    /// The number in the eight other bytes.
+    /// Returns the number in the eight other bytes.
     pub fn number(self) -> u64
         ensures { result ≡ file_number self }
     {
@@ -39,7 +39,7 @@ impl FileWord {
         }
     }
 
-    /// The word as a sent one. A bad word, which no file of sent words has, counts as control.
+    /// Returns the word as a sent one. A bad word, which no file of sent words has, counts as control.
     pub fn sent(self) -> Word
         ensures { result ≡ sent_of self }
     {
@@ -52,7 +52,7 @@ impl FileWord {
 }
 
 impl From<FileWord> for RxWord {
-    /// The word as a received one: the number of a bad word is ignored.
+    /// Returns the word as a received one: the number of a bad word is ignored.
     fn from(word: FileWord) -> RxWord
         ensures { result ≡ received_of word }
     {
@@ -65,7 +65,7 @@ impl From<FileWord> for RxWord {
 }
 
 impl From<RxWord> for FileWord {
-    /// A received word in a words file. The number of a bad word is 0.
+    /// Returns a received word as it stands in a words file. The number of a bad word is 0.
     fn from(word: RxWord) -> FileWord
         ensures { result ≡ received_in_file word }
     {
@@ -78,7 +78,7 @@ impl From<RxWord> for FileWord {
 }
 
 impl From<Word> for FileWord {
-    /// A sent word in a words file.
+    /// Returns a sent word as it stands in a words file.
     fn from(word: Word) -> FileWord
         ensures { result ≡ sent_in_file word }
     {

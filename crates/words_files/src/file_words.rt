@@ -1,7 +1,9 @@
 //! The words of an accepted file, which are read from its bytes one by one.
-ghost use Rattle.std.specs.Prelude.{◌≡◌, ◌≤◌, ◌<◌, ◌+◌, ◌*◌, ◌/◌, ◌^◌, MatchResult, IfNone, Ok, Err, length, take, drop, slice_get};
+ghost use Rattle.std.specs.Prelude.{◌≡◌, ◌≤◌, ◌<◌, ◌+◌, ◌*◌, ◌/◌, ◌^◌, MatchResult, IfNone, Ok, Err, false, length, map, take, drop, slice_get, slice_index_or};
 ghost use Rattle.std.specs.Result.{result_err};
+ghost use Rattle.words_files.specs.FileWord.{is_data};
 ghost use Rattle.words_files.specs.Tags.{file_words};
+ghost use Rattle.words_files.specs.WordsOfFile.{cut_file, file_word_in};
 
 use crate::error::WordsError;
 use crate::file_word::FileWord;
@@ -11,7 +13,7 @@ use crate::tags::Tags;
 use lk_base::tail;
 use std::marker::Model;
 
-// The refusal of a file with these tags, if it is refused.
+// Returns the refusal of a file with these tags, if it is refused.
 fn refusal_of(tags: Tags, bytes: &[u8]) -> Option<WordsError>
     ensures refusal { result ≡ result_err (file_words tags bytes.now) }
     ensures whole { IfNone result (length bytes.now ≡ 9 * (length bytes.now / 9)) }
@@ -28,7 +30,7 @@ fn refusal_of(tags: Tags, bytes: &[u8]) -> Option<WordsError>
     None
 }
 
-// The bytes of the word of this number.
+// Returns the bytes of the word of this number.
 fn bytes_of_word(bytes: &[u8], index: usize) -> &[u8]
     requires { 9 * index + 9 ≤ length bytes.now }
     ensures { result.now ≡ take 9 (drop (9 * index) bytes.now) }
@@ -37,11 +39,29 @@ fn bytes_of_word(bytes: &[u8], index: usize) -> &[u8]
     &bytes[at..at + WORD_BYTES]
 }
 
+// Copies the numbers of the data words from word `from` on, at most `most`, stopping before the first other word. Returns how many.
+fn copy_numbers(bytes: &[u8], from: usize, most: usize, numbers: &mut [u64]) -> usize
+    requires there { 9 * (from + most) ≤ length bytes.now }
+    requires room { most ≤ length numbers.old }
+    ensures few { result ≤ most }
+    ensures long { length numbers.new ≡ length numbers.old }
+    ensures copied { map FileWord.Data (take result numbers.new) ≡ take result (drop from (map file_word_in (cut_file bytes.now))) }
+    ensures stops { result < most → is_data (slice_index_or (map file_word_in (cut_file bytes.now)) (from + result) (FileWord.Bad 0)) ≡ false }
+{
+    for place in 0..most {
+        match word_in(bytes_of_word(bytes, from + place)) {
+            FileWord::Data(number) => numbers[place] = number,
+            _ => return place,
+        }
+    }
+    most
+}
+
 /// The words of an accepted file. Contracts see them; each is read from the bytes of the file when it is requested.
 #[derive(Drop)]
 pub struct FileWords {
     bytes: Vec<u8>,
-    // How many words there are.
+    // The count of words.
     count: usize,
 }
 
@@ -77,7 +97,7 @@ impl FileWords {
         }
     }
 
-    /// The count of words: fewer than 2^60.
+    /// Returns the count of words, which is less than 2^60.
     pub fn len(&self) -> usize
         ensures value { result ≡ length self.now }
         ensures few { length self.now < 2 ^ 60 }
@@ -85,7 +105,7 @@ impl FileWords {
         self.count
     }
 
-    /// The word of this number, from 0; none exactly after the last.
+    /// Returns the word of this number, from 0; `None` after the last word.
     pub fn get(&self, index: usize) -> Option<FileWord>
         ensures { result ≡ slice_get self.now index }
     {
@@ -94,5 +114,19 @@ impl FileWords {
         } else {
             None
         }
+    }
+
+    /// Copies the numbers of the data words from word `from` on, until another word, the end of the file or the end of `numbers`.
+    /// Returns how many.
+    pub fn copy_data(&self, from: usize, numbers: &mut [u64]) -> usize
+        requires { from ≤ length self.now }
+        ensures within { from + result ≤ length self.now }
+        ensures fits { result ≤ length numbers.new }
+        ensures long { length numbers.new ≡ length numbers.old }
+        ensures copied { map FileWord.Data (take result numbers.new) ≡ take result (drop from self.now) }
+        ensures stops { result < length numbers.new → from + result < length self.now → is_data (slice_index_or self.now (from + result) (FileWord.Bad 0)) ≡ false }
+    {
+        let most = numbers.len().min(self.count - from);
+        copy_numbers(&self.bytes, from, most, numbers)
     }
 }

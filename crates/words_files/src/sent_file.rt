@@ -26,7 +26,7 @@ impl Model for SentFile {
 }
 
 impl SentFile {
-    /// The words file of these bytes, nine for each word: 1 if it is data and 2 if it is control, and then its number, the
+    /// Creates the words file of these bytes, nine for each word: 1 if it is data and 2 if it is control, and then its number, the
     /// highest byte first. It is refused for the least offset at which something is wrong: a byte that should be 1 or 2 and is
     /// not, or otherwise a last word that is not whole.
     ///
@@ -44,7 +44,7 @@ impl SentFile {
         }
     }
 
-    /// How many words there are: fewer than 2^60.
+    /// Returns the count of words, which is less than 2^60.
     pub fn len(&self) -> usize
         ensures value { result ≡ length self.now }
         ensures few { length self.now < 2 ^ 60 }
@@ -52,7 +52,7 @@ impl SentFile {
         self.words.len()
     }
 
-    /// The word of this number, from 0; none exactly after the last.
+    /// Returns the word of this number, from 0; `None` after the last word.
     pub fn get(&self, index: usize) -> Option<Word>
         ensures { result ≡ slice_get self.now index }
     {

@@ -1,5 +1,4 @@
-use Rattle.std.proofs.Common.{◌≡◌, ◌∙◌, ◌==◌, false, true, List, [], ℕ, length, ap, sym}
-use Rattle.word_rules.specs.declared.fault.Fault.{Fault}
+use Rattle.std.proofs.Common.{◌∙◌, List, ℕ, ap, sym}
 use Rattle.run_shell.specs.Outputs.{more}
 use Rattle.run_shell.specs.Rests.{rests_of}
 use Rattle.run_shell.proofs.Rests.{more_none}

@@ -1,4 +1,4 @@
-use Rattle.std.proofs.Common.{◌≡◌, ◌∷◌, ◌++◌, ◌<◌, ◌∙◌, refl, ℕ, List, ap, subst, sym, length, take, reverse, arith}
+use Rattle.std.proofs.Common.{◌∷◌, ◌++◌, ◌<◌, ◌∙◌, refl, ℕ, List, ap, subst, sym, length, take, reverse, arith}
 use Rattle.lk_base.specs.declared.word.RxWord.{RxWord}
 use Rattle.lk_base.specs.declared.word.RxWord.TheVariants.{Bad}
 use Rattle.word_rules.specs.Checks.{Keeps}
@@ -11,16 +11,16 @@ pub returns-then-count-gt0-clause-keeps : goal.returns-then-count-gt0-clause-kee
 returns-then-count-gt0-clause-keeps c p k =
     let words : List RxWord = c.args.words.now in
     let count : ℕ = c.copy_data-count.result in
-    let run : List ℕ = take count c.copy_data-count.new.room in
-    subst (λ (e : List RxWord). Keeps c.data_run.new.self p e) (after_words words c.args.number count run c.copy_data-count.ensures.same)
+    let run : List ℕ = take count c.copy_data-count.new.numbers in
+    subst (λ (e : List RxWord). Keeps c.data_run.new.self p e) (after_words words c.args.number count run c.copy_data-count.ensures.copied)
     (c.in_ok-data_run.ensures.keeps p (reverse (take c.args.number words)) k)
 
 pub returns-then-count-gt0-clause-found : goal.returns-then-count-gt0-clause-found
 returns-then-count-gt0-clause-found c p k o =
     let words : List RxWord = c.args.words.now in
     let count : ℕ = c.copy_data-count.result in
-    let run : List ℕ = take count c.copy_data-count.new.room in
-    rows_run p words c.args.number count run c.args.found.now.items c.data_run.new.faults.items c.copy_data-count.ensures.same
+    let run : List ℕ = take count c.copy_data-count.new.numbers in
+    rows_run p words c.args.number count run c.args.found.now.items c.data_run.new.faults.items c.copy_data-count.ensures.copied
     (c.in_ok-data_run.ensures.rows p (reverse (take c.args.number words)) k)
 
 pub returns-clause-keeps : goal.returns-clause-keeps

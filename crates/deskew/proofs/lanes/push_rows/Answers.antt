@@ -7,8 +7,8 @@ use Rattle.deskew.proofs.lanes.push_rows.Goals as goal
 
 pub loop-i-init : goal.loop-i-init
 loop-i-init c =
-    let long : length c.make_places.new.block.items ≡ c.args.rows * length c.args.lanes.now = c.make_places.ensures.items in
-    (c.make_places.ensures.capacity, long, all_spread c.args.after c.args.rows c.args.lanes.now c.make_places.new.block.items long)
+    let long : length c.resize.new.self.words ≡ c.args.rows * length c.args.lanes.now = c.resize.ensures.words in
+    (c.resize.ensures.room, long, all_spread c.args.after c.args.rows c.args.lanes.now c.resize.new.self.words long)
 
 pub loop-i-preserved : goal.loop-i-preserved
 loop-i-preserved c =
@@ -17,8 +17,8 @@ loop-i-preserved c =
     let i = c.loop-i.i in
     let lane = c.index-lanes-i.result in
     let step = length lanes in (
-      c.spread.ensures.capacity ∙ inv.0,
-      ap length c.spread.ensures.items ∙ length_spread step i (column c.args.after c.args.rows lane) c.loop-i.block.items ∙ inv.1,
-      ap (λ (ws : List RxWord). spread_all step (i + 1) c.args.after c.args.rows (drop (i + 1) lanes) ws) c.spread.ensures.items
-          ∙ lane_more step i c.args.after c.args.rows lanes lane c.loop-i.block.items c.loop-i-test.true c.index-lanes-i.is ∙ inv.2,
+      c.spread.ensures.room ∙ inv.0,
+      ap length c.spread.ensures.words ∙ length_spread step i (column c.args.after c.args.rows lane) c.loop-i.block.words ∙ inv.1,
+      ap (λ (ws : List RxWord). spread_all step (i + 1) c.args.after c.args.rows (drop (i + 1) lanes) ws) c.spread.ensures.words
+          ∙ lane_more step i c.args.after c.args.rows lanes lane c.loop-i.block.words c.loop-i-test.true c.index-lanes-i.is ∙ inv.2,
     )

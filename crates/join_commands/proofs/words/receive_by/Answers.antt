@@ -2,7 +2,6 @@ use Rattle.std.proofs.Common.{◌≡◌, refl, subst, false, [], Err}
 use Rattle.std.proofs.lemmas.Result.{err_from_is_err_and}
 use Rattle.receive_model.specs.Events.{word_events}
 use Rattle.run_shell.specs.Writing.{Writes}
-use Rattle.run_shell.proofs.Writing.{none_writes}
 use Rattle.receipts.specs.Received.{output_names, received_outcome, received_text}
 use Rattle.receipts.specs.Receipts.{Beginning}
 use Rattle.receipts.proofs.Making.{stopped_writes}

@@ -1,8 +1,7 @@
-use Rattle.std.proofs.Common.{◌≡◌, ◌≤◌, ◌+◌, ◌-◌, ◌∙◌, ◌++◌, [], refl, sym, subst, arith, length, take, drop, min}
+use Rattle.std.proofs.Common.{◌≡◌, ◌∙◌, refl, arith, length, take}
 use Rattle.std.proofs.lemmas.Result.{err_from_is_err_and}
 use Rattle.lk_base.specs.Positions.{words_from}
-use Rattle.join_commands.specs.Going.{IsReady, outputs_of}
-use Rattle.join_commands.proofs.Steps.{ready_all, ready_more, stopped_more}
+use Rattle.join_commands.proofs.Steps.{ready_all, ready_more, rest_stopped}
 use Rattle.join_commands.proofs.words.take_all.Goals as goal
 
 pub loop-index-init : goal.loop-index-init
@@ -19,23 +18,18 @@ returns-in_err-count-clause-takes g c b ready =
     let i = c.loop-index.index in
     let r = c.from_residual in
     let p = err_from_is_err_and r.result r.ensures.1 in
-    rw (p.1, p.2) (stopped_more b words i (min 512 (length words - i)) c.in_err-count.field-0.0 _ c.loop-index.invariant.within
+    rw (p.1, p.2) (rest_stopped b words i c.in_err-count.field-0.0 _ c.loop-index.invariant.within
     (c.in_err-count.ensures.takes b (words_from 0 0 (take i words)) (c.loop-index.invariant.ready b ready)))
 
 pub loop-index-preserved : goal.loop-index-preserved
 loop-index-preserved g c =
     let words = c.args.words.now in
     let i = c.loop-index.index in
-    let k = min 512 (length words - i) in
-    let e : c.in_ok-count.count ≡ k = c.in_ok-count.ensures.read in
-    let least = c.loop-index.invariant.within in
     record {
-      within = omega arith;
+      within = c.in_ok-count.ensures.within;
       same_faults = c.in_ok-count.ensures.cause ∙ c.loop-index.invariant.same_faults;
       waits = c.in_ok-count.ensures.waits;
-      ready = λ b ready.
-          subst (λ m. IsReady b (i + m) (words_from 0 0 (take (i + m) words)) c.take_next.new.reassembly c.take_next.new.receipt (g.S.Store.files c.take_next.new.store)) (sym e)
-          (ready_more b words i k _ _ _ (omega arith) (c.in_ok-count.ensures.takes b (words_from 0 0 (take i words)) (c.loop-index.invariant.ready b ready)));
+      ready = λ b ready. ready_more b words i c.in_ok-count.count _ _ _ c.loop-index.invariant.within (c.in_ok-count.ensures.takes b (words_from 0 0 (take i words)) (c.loop-index.invariant.ready b ready));
     }
 
 pub returns-clause-takes : goal.returns-clause-takes
@@ -43,6 +37,7 @@ returns-clause-takes g c b ready =
     let words = c.args.words.now in
     let i = c.loop-index.index in
     let within = c.loop-index.invariant.within in
-    let all : i ≡ length words = omega arith in
-    let e : i ≡ 0 + i = omega arith in
-    ready_all b 0 [] words i _ _ _ all (subst (λ m. IsReady b m (words_from 0 0 (take i words)) c.loop-index.reassembly c.loop-index.receipt (g.S.Store.files c.loop-index.store)) e (c.loop-index.invariant.ready b ready))
+    let past = c.loop-index-test.false in
+    let len = c.len.ensures in
+    let all : i ≡ length words = omega (arith, within, past, len) in
+    ready_all b words i _ _ _ all (c.loop-index.invariant.ready b ready)

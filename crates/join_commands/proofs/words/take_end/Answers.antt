@@ -1,4 +1,4 @@
-use Rattle.std.proofs.Common.{◌≡◌, false, true}
+use Rattle.std.proofs.Common.{false, true}
 use Rattle.std.proofs.lemmas.Result.{err_from_is_err_and}
 use Rattle.join_commands.specs.Going.{ended_at, outputs_of}
 use Rattle.join_commands.proofs.Steps.{end_finished, end_put, last_stopped}

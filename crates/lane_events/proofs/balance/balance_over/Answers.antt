@@ -1,7 +1,7 @@
 -- One code more.
 use Rattle.std.proofs.Common.{◌∙◌, sym, ap, take, get_or, arith}
 use Rattle.std.proofs.lemmas.List.{take_all, take_more}
-use Rattle.lane_lock.proofs.CodesTaken.{code_low}
+use Rattle.lane_lock.proofs.EightWords.{code_low}
 use Rattle.lane_events.specs.Balance.{balance_over}
 use Rattle.lane_events.proofs.PassedCodes.{balance_next, over_more}
 use Rattle.lane_events.proofs.balance.balance_over.Goals as goal

@@ -1,6 +1,6 @@
 -- The last code below the one before.
 use Rattle.std.proofs.Common.{get_or, arith}
-use Rattle.lane_lock.proofs.CodesTaken.{code_low}
+use Rattle.lane_lock.proofs.EightWords.{code_low}
 use Rattle.lane_events.proofs.LastBits.{pushed_is}
 use Rattle.lane_events.proofs.windows.last_of.Goals as goal
 

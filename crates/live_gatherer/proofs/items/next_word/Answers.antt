@@ -14,4 +14,4 @@ returns-clause-words c =
 
 pub returns-clause-gives : goal.returns-clause-gives
 returns-clause-gives c = λ s fed items t st.
-    subst (λ (xs : List Aligned). Stands c.pass.new.self s fed (items ++ xs) t) (first_is c.args.front.now.waiting c.at-at.result c.words.result.now _ _ c.at-at.ensures.waiting c.words.ensures.value c.requires) (c.pass.ensures.stands s fed items t st)
+    subst (λ (xs : List Aligned). Stands c.pass.new.self s fed (items ++ xs) t) (first_is c.args.front.now.waiting c.at-at.result (words_in c.args.front.now.waiting) c.word-word.result _ c.at-at.ensures.waiting c.word-word.ensures c.requires) (c.pass.ensures.stands s fed items t st)

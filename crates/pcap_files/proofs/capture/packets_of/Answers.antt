@@ -11,13 +11,13 @@ whole-of xs [] None r p e h = ap (whole_by r.packets) (sym e) ∙ ap (λ (ps : L
 whole-of xs [] (Some x) r p e h = absurd cc
 whole-of xs (q ∷ left) end r p e h = absurd cc
 
-accepted : (c : goal.In-Ok-None) → capture_of c.args.bytes.now c.args.most ≡ Ok (map (λ p. p.now) c.loop-packet.packets.items)
+accepted : (c : goal.In_default) → capture_of c.args.bytes.now c.args.most ≡ Ok (map (λ p. p.now) c.loop-packets.packets.items)
 accepted c =
-    whole-of (map (λ p. p.now) c.loop-packet.packets.items) c.loop-packet.reader.packets c.loop-packet.reader.refusal (reading_of c.args.bytes.now c.args.most)
-    c.loop-packet.invariant.packets c.loop-packet.invariant.refusal (rw c.in-Ok-None.field-0-is at c.in-Ok-None.ensures.answer)
+    whole-of (map (λ p. p.now) c.loop-packets.packets.items) c.loop-packets.reader.packets c.loop-packets.reader.refusal (reading_of c.args.bytes.now c.args.most)
+    c.loop-packets.invariant.packets c.loop-packets.invariant.refusal (rw c.in_default.is at (c.in_ok-packet.ensures {u = tt}).answer)
 
-pub returns-in-Ok-None-clause-within : goal.returns-in-Ok-None-clause-within
-returns-in-Ok-None-clause-within c = packets-within c.args.bytes.now c.args.most _ (accepted c)
+pub returns-clause-within : goal.returns-clause-within
+returns-clause-within c = packets-within c.args.bytes.now c.args.most _ (accepted c)
 
-pub returns-in-Ok-None-clause-whole : goal.returns-in-Ok-None-clause-whole
-returns-in-Ok-None-clause-whole c = records-whole c.args.bytes.now c.args.most _ (accepted c)
+pub returns-clause-whole : goal.returns-clause-whole
+returns-clause-whole c = records-whole c.args.bytes.now c.args.most _ (accepted c)

@@ -3,11 +3,11 @@ use Rattle.pcap_files.specs.Capture.{reading_of}
 use Rattle.pcap_files.proofs.capture.packets_of.Given as goal
 
 -- the packets so far and what is left are the whole
-abbrev pub invariant-loop-packet : goal.invariant-loop-packet
-invariant-loop-packet l = record {
+abbrev pub invariant-loop-packets : goal.invariant-loop-packets
+invariant-loop-packets l = record {
   packets : map (λ p. p.now) l.packets.items ++ l.reader.packets ≡ (reading_of l.fn.bytes l.fn.most).packets;
   refusal : l.reader.refusal ≡ (reading_of l.fn.bytes l.fn.most).refusal;
 }
 
-abbrev pub decreases-loop-packet : goal.decreases-loop-packet
-decreases-loop-packet l = length l.reader.packets
+abbrev pub decreases-loop-packets : goal.decreases-loop-packets
+decreases-loop-packets l = length l.reader.packets

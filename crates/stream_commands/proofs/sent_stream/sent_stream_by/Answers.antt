@@ -6,13 +6,13 @@ use Rattle.tx_words.specs.SentLaw.{EachHasBytes}
 use Rattle.tx_words.specs.SentLists as packets
 use Rattle.tx_words.specs.declared.sent_list.SentList.{SentList}
 use Rattle.tx_words.specs.declared.word_maker.WordMaker.{WordMaker}
-use Rattle.stream_commands.specs.Listing.{Lists}
+use Rattle.tx_end.specs.SentLanes.{IsListed}
 use Rattle.stream_commands.proofs.sent_stream.sent_stream_by.Goals as goal
 
 -- no word is made, and there is room for all packets
-begins : (m : WordMaker) (l : SentList) (source : Source) (words : List Word) (room : ℕ) → GaveWords m source [] → EachHasBytes source → length source.packets < 2 ^ 32 → packets.Lists l [] room → room ≡ length source.packets → words ≡ [] → Lists m l source words
+begins : (m : WordMaker) (l : SentList) (source : Source) (words : List Word) (room : ℕ) → GaveWords m source [] → EachHasBytes source → length source.packets < 2 ^ 32 → packets.Lists l [] room → room ≡ length source.packets → words ≡ [] → IsListed m l source words
 begins m l source words room gave bytes few lists all none =
-    subst (Lists m l source) (sym none) (record { gave = gave; bytes = bytes; few = few; lists = subst (packets.Lists l []) all lists })
+    subst (IsListed m l source) (sym none) (record { gave = gave; bytes = bytes; few = few; lists = subst (packets.Lists l []) all lists })
 
 pub make_all-requires : goal.make_all-requires
 make_all-requires c = (

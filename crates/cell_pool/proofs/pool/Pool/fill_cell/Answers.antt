@@ -1,4 +1,4 @@
--- The words stand in the cell after those that were there.
+-- The words are in the cell after those that were there.
 use Rattle.std.proofs.Common.{◌<◌, ◌≤◌, ◌∙◌, sym, length, subst, arith}
 use Rattle.std.proofs.lemmas.List.{get_or_read}
 use Rattle.cell_pool.proofs.Whole.{lengths_whole}

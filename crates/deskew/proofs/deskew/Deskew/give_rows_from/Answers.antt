@@ -1,5 +1,5 @@
 -- All rows that were counted.
-use Rattle.std.proofs.Common.{ℕ, ◌≡◌, sym, ap, ◌∙◌, subst, ◌+◌, ◌*◌, ◌/◌, ◌%◌, false, List, arith, vec_capacity}
+use Rattle.std.proofs.Common.{ℕ, ◌≡◌, sym, ap, ◌∙◌, subst, ◌+◌, ◌*◌, ◌/◌, ◌%◌, false, List, arith}
 use Rattle.deskew.specs.declared.phase.Phase.{Phase}
 use Rattle.deskew.specs.declared.phase.Phase.TheVariants as phases
 use Rattle.deskew.specs.States.{LaneState, State}
@@ -42,10 +42,10 @@ returns-clause-rows c =
     let after : State = record { settings = link; lanes = c.self.inside.lanes.items; phase = phases.Inside (index + count * c.lanes.result); settled = false } in
     let phase : c.self.inside.phase ≡ phases.Inside index = ap (λ (d : State). d.phase) c.self.view_is ∙ c.requires in
     let behind : c.after_sync-after.result ≡ link.skips + 2 + index / link.lanes = c.after_sync-after.ensures ∙ ap (λ (d : State). d.settings.skips + 2 + index / d.settings.lanes) (sym c.self.view_is) in
-    let counted : IsCount (vec_capacity c.args.block.now) count index held =
-    subst (λ (n : ℕ). IsCount n count index held) c.capacity.ensures (subst (λ (d : State). IsCount c.capacity.result count index d) (sym c.self.view_is) c.count_rows-count.ensures.count) in
-    let items : c.push_rows.new.block.items ≡ rows_at c.after_sync-after.result count c.self.inside.lanes.items =
-    c.push_rows.ensures.items ∙ ap (λ (ls : List LaneState). rows_at c.after_sync-after.result count ls) c.deref.ensures.value in
-    subst (λ (d : State). AllRows (vec_capacity c.args.block.now) d c.push_rows.new.block.items after) c.self.view_is
-    (all_rows (vec_capacity c.args.block.now) count index c.after_sync-after.result held after c.push_rows.new.block.items phase i.0 i.2 behind counted (omega (arith, none)) items
+    let counted : IsCount c.args.block.now.room count index held =
+    subst (λ (n : ℕ). IsCount n count index held) c.room.ensures (subst (λ (d : State). IsCount c.room.result count index d) (sym c.self.view_is) c.count_rows-count.ensures.count) in
+    let items : c.push_rows.new.block.words ≡ rows_at c.after_sync-after.result count c.self.inside.lanes.items =
+    c.push_rows.ensures.words ∙ ap (λ (ls : List LaneState). rows_at c.after_sync-after.result count ls) c.deref.ensures.value in
+    subst (λ (d : State). AllRows c.args.block.now.room d c.push_rows.new.block.words after) c.self.view_is
+    (all_rows c.args.block.now.room count index c.after_sync-after.result held after c.push_rows.new.block.words phase i.0 i.2 behind counted (omega (arith, none)) items
     (ap (λ (n : ℕ). record { settings = link; lanes = c.self.inside.lanes.items; phase = phases.Inside (index + count * n); settled = false }) c.lanes.ensures))

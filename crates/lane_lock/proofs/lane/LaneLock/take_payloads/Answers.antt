@@ -1,5 +1,5 @@
 -- One payload word more, or eight.
-use Rattle.std.proofs.Common.{◌≡◌, ◌+◌, ◌*◌, ◌++◌, ◌∷◌, [], false, refl, sym, ap, subst, ◌∙◌, Bool, List, take, drop, set, arith}
+use Rattle.std.proofs.Common.{◌≡◌, ◌+◌, ◌*◌, ◌++◌, ◌∷◌, [], false, refl, sym, ap, subst, ◌∙◌, Bool, List, map, take, drop, set, get_or, arith}
 use Rattle.std.proofs.lemmas.Grind.{take-set_at}
 use Rattle.std.proofs.lemmas.List.{append-nil, drop-drop, length-set}
 use Rattle.lk_base.specs.Checksum.{bits_of_bytes}
@@ -10,7 +10,7 @@ use Rattle.lock_model.specs.declared.types.LaneStep.{LaneStep}
 use Rattle.lane_lock.specs.Found.{found_steps}
 use Rattle.lane_lock.specs.Inside.{payload_number}
 use Rattle.lane_lock.specs.Lane.{LaneView}
-use Rattle.lane_lock.specs.Run.{AreWordsOf, RunState, keyed_word, keyed_words, lane_ran, run_of, word_ran}
+use Rattle.lane_lock.specs.Run.{AreCodesOf, RunState, keyed_word, keyed_words, lane_ran, run_of, word_ran}
 use Rattle.lane_lock.proofs.Batches.{Ran}
 use Rattle.lane_lock.proofs.PayloadRuns.{ahead_first, ran_first}
 use Rattle.lane_lock.proofs.RunsReached.{Reached, reached_eight, reached_one}
@@ -80,15 +80,16 @@ loop-done-preserved-in-Some c =
     let more = c.in-Some.ensures.0 in
     let old = take done c.loop-done.plain in
     let run : RunState = c.loop-done.run in
-    let words : List RxWord = c.in-Some.eight in
+    let codes = c.in-Some.codes in
+    let words : List RxWord = map word_of_code codes in
     let from = drop-drop (67 * done) c.args.first bits in
+    let last = get_or codes 7 0 in
     let r = reached_eight v given (found_steps c.args.found.now) c.payload_number-number.result c.self.inside.at c.args.words c.requires.watching c.requires.begins (ap (λ (x : LaneView). x.at) c.self.view_is) c.requires.few
-    words done c.loop-done.last c.code_at-last.result run old i.reached (omega (arith, more)) c.in-Some.ensures.1 (subst (λ (x : List Bool). AreWordsOf words x) (sym from) c.in-Some.ensures.2) c.code_at-last.ensures.below
-    (c.code_at-last.ensures.bits ∙ ap (take 67) (sym (drop-drop 469 (c.args.first + 67 * done) bits) ∙ ap (drop 469) (sym from))) in
-    let put : old ++ keyed_words run.inside.state words ≡ take (done + 8) c.put_eight.new.plain = sym (c.put_eight.ensures ∙ ap (λ (ws : List RxWord). old ++ ws) c.payload_eight.ensures.words) in
+    codes done c.loop-done.last run old i.reached (omega (arith, more)) c.in-Some.ensures.1 (subst (λ (x : List Bool). AreCodesOf codes x) (sym from) c.in-Some.ensures.2) in
+    let put : old ++ keyed_words run.inside.state words ≡ take (done + 8) c.put_eight.new.plain = sym (c.put_eight.ensures ∙ ap (λ (ws : List RxWord). old ++ ws) c.payload_codes.ensures.words) in
     record {
-      reached = subst (λ (ws : List RxWord). Reached v given (found_steps c.args.found.now) c.payload_number-number.result c.self.inside.at c.args.words (done + 8) c.code_at-last.result c.payload_eight.new.self ws) put
-          (subst (λ (x : RunState). Reached v given (found_steps c.args.found.now) c.payload_number-number.result c.self.inside.at c.args.words (done + 8) c.code_at-last.result x (old ++ keyed_words run.inside.state words)) (sym c.payload_eight.ensures.value) r);
+      reached = subst (λ (ws : List RxWord). Reached v given (found_steps c.args.found.now) c.payload_number-number.result c.self.inside.at c.args.words (done + 8) last c.payload_codes.new.self ws) put
+          (subst (λ (x : RunState). Reached v given (found_steps c.args.found.now) c.payload_number-number.result c.self.inside.at c.args.words (done + 8) last x (old ++ keyed_words run.inside.state words)) (sym c.payload_codes.ensures.value) r);
       most = omega (arith, more);
       long = c.put_eight.array_long;
     }

@@ -26,7 +26,7 @@ returns-in-Group-clause-watches c = λ lanes locks items shown w. (
 
 pub returns-in-Word-clause-holds : goal.returns-in-Word-clause-holds
 returns-in-Word-clause-holds c = λ locks items h.
-    subst (λ (a : Aligned). Holds c.words.new.self c.args.sent.now locks (items ++ a ∷ [])) (sym c.in-Word.is) (c.words.ensures.holds locks items h)
+    subst (λ (a : Aligned). Holds c.one_word.new.self c.args.sent.now locks (items ++ a ∷ [])) (sym c.in-Word.is) (c.one_word.ensures.holds locks items h)
 
 pub returns-in-Break-clause-holds : goal.returns-in-Break-clause-holds
 returns-in-Break-clause-holds c = λ locks items h. (

@@ -1,4 +1,4 @@
--- Lanes that have ended stand before a Sync.
+-- Lanes that have ended are before a Sync.
 use Rattle.std.proofs.Common.{◌≡◌, ◌∙◌, sym, ap, not, false}
 use Rattle.lane_model.specs.Framing.{role_of}
 use Rattle.metaframe.specs.Writing.{is_payload}

@@ -23,7 +23,7 @@ pub returns : goal.returns
 returns c =
     let w = c.args.self.now in
     let words = c.args.words.now in
-    let crc = c.crc32_words-self-inside in
-    subst (λ (x : Progress). record { settings = x.settings; position = x.position + 8; state = c.args.key; register = crc.result } ≡ passed_payloads w c.args.key words) (sym c.self.view_is)
-    (eight_passed w words c.numbers_of.result c.args.key crc.result c.told-words c.numbers_of.ensures
-    (crc.ensures ∙ ap (λ (x : Progress). register_after 32 0x1EDC6F41 x.register (bits_of_words c.numbers_of.result)) c.self.view_is))
+    let register = c.eight.new.self in
+    subst (λ (x : Progress). record { settings = x.settings; position = x.position + 8; state = c.args.key; register = register } ≡ passed_payloads w c.args.key words) (sym c.self.view_is)
+    (eight_passed w words c.numbers_of.result c.args.key register c.told-words c.numbers_of.ensures
+    (c.eight.ensures ∙ ap (λ (x : Progress). register_after 32 0x1EDC6F41 x.register (bits_of_words c.numbers_of.result)) c.self.view_is))

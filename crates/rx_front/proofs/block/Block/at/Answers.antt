@@ -12,14 +12,14 @@ returns-clause-waiting c =
     let i = c.self.inside in
     let group = i.first.group in
     let index = i.first.index + i.cursor in
-    sym c.self.view_is ∙ ap (words_from group index) (sym (words_are group index (drop i.cursor i.words.items)) ∙ ap words_in c.self.view_is)
+    sym c.self.view_is ∙ ap (words_from group index) (sym (words_are group index (drop i.cursor i.words.words)) ∙ ap words_in c.self.view_is)
 
 pub returns-clause-fits : goal.returns-clause-fits
 returns-clause-fits c =
     let i = c.self.inside in
     let e = ap length c.self.view_is in
-    let l = words_count i.first.group (i.first.index + i.cursor) (drop i.cursor i.words.items) in
-    let d = length-drop i.cursor i.words.items in
+    let l = words_count i.first.group (i.first.index + i.cursor) (drop i.cursor i.words.words) in
+    let d = length-drop i.cursor i.words.words in
     let a = c.self.invariant.0 in
     let b = c.self.invariant.1 in
     omega (arith, e, l, d, a, b)

@@ -7,4 +7,4 @@ use Rattle.rx_front.proofs.block.Block.is_empty.Goals as goal
 pub returns : goal.returns
 returns c =
     let i = c.self.inside in
-    ap (λ (n : ℕ). i.cursor == n) (c.len.ensures ∙ i.words.ok.0) ∙ none_waits_where i.first.group (i.first.index + i.cursor) i.cursor i.words.items c.self.invariant.0 ∙ ap (λ (items : List Aligned). length items == 0) c.self.view_is
+    ap (λ (n : ℕ). i.cursor == n) c.len.ensures.value ∙ none_waits_where i.first.group (i.first.index + i.cursor) i.cursor i.words.words c.self.invariant.0 ∙ ap (λ (items : List Aligned). length items == 0) c.self.view_is

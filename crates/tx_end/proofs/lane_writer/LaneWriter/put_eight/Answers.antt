@@ -43,7 +43,7 @@ loop-place-preserved c =
       carries = λ s lane given made before k.
           rw e
           (one_put c.args.self.now s lane made c.loop-place.key c.under_key.new.key c.loop-place.encoder c.encode.new.self given words n _ c.under_key.result (take (at + 8 * n) c.loop-place.bytes) (take (at + 8 * n + 8) c.put_number.new.bytes) c.loop-place.bits c.push.new.self
-          c.take_64.new.self c.encode.result c.take_64.result c.requires.wants here (omega (arith, here, long)) c.under_key.ensures c.encode.ensures.codes c.push.ensures.bits c.take_64.ensures.bits c.put_number.ensures before (i.carries s lane given made before k));
+          c.take_64.new.self c.encode.result c.take_64.result c.requires.wants here (omega (arith, here, long)) c.under_key.ensures.writes c.encode.ensures.codes c.push.ensures.bits c.take_64.ensures.bits c.put_number.ensures before (i.carries s lane given made before k));
       count = omega (arith, i.count, more, less);
     }
 

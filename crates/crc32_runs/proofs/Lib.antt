@@ -1,0 +1,7 @@
+-- What this crate alone cites.
+mod Sums
+mod Later
+mod Multiple
+mod Added
+mod Mixed
+mod Waiting

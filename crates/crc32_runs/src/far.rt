@@ -1,0 +1,56 @@
+ghost use Rattle.std.specs.Prelude.{◌≡◌, ◌+◌, ◌≤◌, ◌<◌, ◌∷◌, length, drop};
+ghost use Rattle.crc32_runs.specs.Registers.{register_of};
+
+use crate::add::add_at;
+
+/// The distance of the last of the five words that a word is added to.
+const REACH: usize = 209;
+
+// Adds a word to five of the words after it. From zeros these lead to the register that they led to with the word before them.
+#[inline(always)]
+fn add_word(word: u64, after: &mut [u64])
+    requires room { 209 ≤ length after.old }
+    ensures register { register_of after.new ≡ register_of (word ∷ after.old) }
+    ensures length { length after.new ≡ length after.old }
+{
+    add_at(after, 208, word);
+    add_at(after, 194, word);
+    add_at(after, 169, word);
+    add_at(after, 154, word);
+    add_at(after, 64, word);
+}
+
+// Adds the word at this place to later words.
+#[inline(always)]
+fn fold_word(words: &mut [u64], at: usize)
+    requires room { at + 209 < length words.old }
+    ensures register { register_of (drop (at + 1) words.new) ≡ register_of (drop at words.old) }
+    ensures length { length words.new ≡ length words.old }
+{
+    let word = words[at];
+    add_word(word, &mut words[at + 1..]);
+}
+
+// Adds the eight words from this place on to later words.
+fn fold_eight(words: &mut [u64], at: usize)
+    requires room { at + 217 ≤ length words.old }
+    ensures register { register_of (drop (at + 8) words.new) ≡ register_of (drop at words.old) }
+    ensures length { length words.new ≡ length words.old }
+{
+    for place in 0..8 {
+        fold_word(words, at + place);
+    }
+}
+
+/// Adds all words but the last 209 to 216 to later words, and returns the place of the first of these. Fewer words stay as they are.
+pub fn fold_far(words: &mut [u64]) -> usize
+    ensures register { register_of (drop result words.new) ≡ register_of words.old }
+    ensures within { result ≤ length words.new }
+{
+    let mut at = 0;
+    while words.len() - at >= REACH + 8 {
+        fold_eight(words, at);
+        at += 8;
+    }
+    at
+}
