@@ -112,13 +112,13 @@
  * 2,048 words, and the others one of 8,192. Each has the default calendar:
  *
  *     lanes channels max_packet receiver transmitter inspector checker gatherer
- *         1        1       1518      485         142        11    1639      404
- *        12       64       9600     1888         194       119    1640      929
- *        24      256       9600     5107         263       238    1640     1504
- *        64     1024       9600    28574         502      2183    1642    11262
- *        64     1024     262144   417202         502      2183    1642    11262
+ *         1        1       1518      481         158        11    1639      401
+ *        12       64       9600     1885         456       119    1640      925
+ *        24      256       9600     5103         788       238    1640     1500
+ *        64     1024       9600    28570        1552      2183    1642    11258
+ *        64     1024     262144   417199        1552      2183    1642    11258
  *
- * Each `new` with a plan, `interlaken_plan_read` and `interlaken_plan_channels` use up to 64 KiB of
+ * Each `new` with a plan, `interlaken_plan_read` and `interlaken_plan_channels` use up to 80 KiB of
  * stack. All other calls use up to 8 KiB. A thread that calls one of the first should have a stack
  * of 128 KiB or more. */
 #ifndef INTERLAKEN_H
