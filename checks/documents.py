@@ -161,9 +161,9 @@ def check_made(tally):
     """That what tools write into pages is up to date. The first line of the table of costs says when they were measured."""
     faults = list(edits.faults_of(edits.edits_in(TOP), edits.reasons_in(TOP)))
     tally.count("checks/edits/REASONS.csv", "\n  ".join(faults))
-    if not faults:
-        is_new = part_in("docs/WRONG_BODIES.md", "edits") == edits.page_part(TOP)
-        tally.count("docs/WRONG_BODIES.md", "" if is_new else "its list is not that of today: tools/wrong_bodies --page writes it")
+    listed = subprocess.run([os.path.join(TOP, "tools", "wrong_bodies")], stdout=subprocess.PIPE, encoding="utf-8").stdout
+    rows, wanted = len(re.findall(r"^\| `", listed, re.M)), len(edits.edits_in(TOP))
+    tally.count("tools/wrong_bodies", "" if rows == wanted else "it lists %d mutations of %d" % (rows, wanted))
     with open(os.path.join(TOP, "docs", "WORKING.md"), encoding="utf-8") as file:
         working = file.read()
     names = [os.path.basename(path)[: -len(".sh")] for path in sorted(glob.glob(os.path.join(TOP, "checks", "*.sh")))]

@@ -69,12 +69,12 @@ def table_of(rows, edits):
         yield "| `%s`%s | %s | %s |" % (row["edit"], mark, "" if says_its_name(row) else row["does"], row["rejected_by"])
 
 
-def page_part(top):
-    """The list of docs/WRONG_BODIES.md, in the order of crates.txt. The reasons have no fault."""
+def listing(top, crates=(), gate_only=False):
+    """The list in the order of crates.txt: of these crates, or of all, with the counts before it. The reasons have no fault."""
     edits, reasons = edits_in(top), reasons_in(top)
-    lines = list(heads_of(top, edits))
+    lines = [] if crates or gate_only else list(heads_of(top, edits))
     for crate in graph_of(os.path.join(top, "crates.txt")):
-        rows = [row for row in reasons if row["crate"] == crate]
-        if rows:
+        rows = [row for row in reasons if row["crate"] == crate and (edits[crate, row["edit"]] or not gate_only)]
+        if rows and (not crates or crate in crates):
             lines += ["", "### `%s`" % crate, "", *table_of(rows, edits)]
-    return "\n".join(lines) + "\n"
+    return "\n".join(lines).lstrip("\n") + "\n"
