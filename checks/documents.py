@@ -6,7 +6,7 @@ no line stands below a command, the page says in words what it prints. A command
 the next one is `echo $?`, below which the page has the status. Where a tool of a block is missing the block is not tried.
 
 No page of the repository has a place that is still to be filled, as a measured number: a name between two `@`, in capital letters.
-What tools write into pages is what they would write now; the words of pages are those of documents.words
+The lists that tools print in place of pages are whole; the words of pages are those of documents.words
 (wording.py), and the names that they cite exist (cited.py).
 """
 
@@ -21,8 +21,7 @@ import tempfile
 PROGRAM, TOP = os.path.abspath(sys.argv[1]), os.path.abspath(sys.argv[2])
 sys.path.append(os.path.join(TOP, "tools"))
 
-from building import costs, edits
-from building.page import NoPlace, part_of
+from building import edits
 from cited import check_cited
 from machine import copy_examples, has_tool, patience
 from tally import Tally
@@ -148,30 +147,17 @@ def check_filled(tally):
     tally.count("pages", "" if len(pages) >= len(PAGES) else "there are %d" % len(pages))
 
 
-def part_in(page, name):
-    """What a tool wrote into a page, or why there is no place for it."""
-    with open(os.path.join(TOP, page), encoding="utf-8") as file:
-        try:
-            return part_of(file.read(), name)
-        except NoPlace as error:
-            return str(error)
-
-
 def check_made(tally):
-    """That what tools write into pages is up to date. The first line of the table of costs says when they were measured."""
+    """That the lists which tools print, and no page has, are whole."""
     faults = list(edits.faults_of(edits.edits_in(TOP), edits.reasons_in(TOP)))
     tally.count("checks/edits/REASONS.csv", "\n  ".join(faults))
     listed = subprocess.run([os.path.join(TOP, "tools", "wrong_bodies")], stdout=subprocess.PIPE, encoding="utf-8").stdout
     rows, wanted = len(re.findall(r"^\| `", listed, re.M)), len(edits.edits_in(TOP))
     tally.count("tools/wrong_bodies", "" if rows == wanted else "it lists %d mutations of %d" % (rows, wanted))
-    with open(os.path.join(TOP, "docs", "WORKING.md"), encoding="utf-8") as file:
-        working = file.read()
-    names = [os.path.basename(path)[: -len(".sh")] for path in sorted(glob.glob(os.path.join(TOP, "checks", "*.sh")))]
-    lacking = [name for name in names if "\n| `%s` |" % name not in working]
-    tally.count("the checks of docs/WORKING.md", "it has no row of " + ", ".join(lacking) if lacking else "")
-    part = part_in("docs/WORKING.md", "seconds")
-    is_new = part == costs.page_part(TOP, part.split("\n")[0])
-    tally.count("docs/WORKING.md", "" if is_new else "its table of costs is not that of today: tools/seconds --page writes it")
+    names = {os.path.basename(path)[: -len(".sh")] for path in glob.glob(os.path.join(TOP, "checks", "*.sh"))}
+    listed = subprocess.run([os.path.join(TOP, "checks", "run"), "--list"], stdout=subprocess.PIPE, encoding="utf-8").stdout
+    lacking = sorted(names - set(re.findall(r"^(\w+)\n  \S", listed, re.M)))
+    tally.count("checks/run --list", "it says nothing of " + ", ".join(lacking) if lacking else "")
 
 
 def main():

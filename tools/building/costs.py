@@ -78,10 +78,3 @@ def sums(uses, costs):
     lacking = [name for name in uses if name not in costs]
     if lacking:
         yield "Not measured yet: %s." % ", ".join("`%s`" % name for name in lacking)
-
-
-def page_part(top, note):
-    """The part of docs/WORKING.md: the note, and the table of release/seconds.csv."""
-    uses = graph_of(os.path.join(top, "crates.txt"))
-    costs = {name: cost for name, cost in costs_in(os.path.join(top, "release", "seconds.csv")).items() if name in uses}
-    return "\n".join([note, "", *table(uses, costs), "", *sums(uses, costs)]) + "\n"
