@@ -158,6 +158,8 @@ def check_made(tally):
     listed = subprocess.run([os.path.join(TOP, "checks", "run"), "--list"], stdout=subprocess.PIPE, encoding="utf-8").stdout
     lacking = sorted(names - set(re.findall(r"^(\w+)\n  \S", listed, re.M)))
     tally.count("checks/run --list", "it says nothing of " + ", ".join(lacking) if lacking else "")
+    listed = subprocess.run([os.path.join(TOP, "tools", "laws"), "--names", "lane_damage"], stdout=subprocess.PIPE, encoding="utf-8").stdout
+    tally.count("tools/laws", "" if re.search(r"^joins_to_the_damaged_lane: \w", listed, re.M) else "it does not name a law of lane_damage")
 
 
 def main():
