@@ -22,6 +22,7 @@ import sys
 from reading.files import Refused, shown_name
 
 DONE, FOUND, FAILED, INTERRUPTED, CLOSED = 0, 1, 2, 130, 141
+HELP = os.path.join(os.path.dirname(os.path.dirname(os.path.realpath(__file__))), "help")
 
 
 class Options(argparse.ArgumentParser):
@@ -29,6 +30,14 @@ class Options(argparse.ArgumentParser):
 
     def __init__(self, **settings):
         super().__init__(allow_abbrev=False, **settings)
+
+    def format_help(self):
+        """The options, and then what tools/help has of the tool: its columns, signals or items."""
+        more = os.path.join(HELP, self.prog + ".txt")
+        if not os.path.exists(more):
+            return super().format_help()
+        with open(more, encoding="utf-8") as file:
+            return super().format_help() + "\n" + file.read()
 
     def error(self, message):
         self.exit(FAILED, "%s: %s; `%s --help` shows the words\n" % (self.prog, one_line(message), self.prog))
