@@ -7,7 +7,7 @@ the next one is `echo $?`, below which the page has the status. Where a tool of 
 
 No page of the repository has a place that is still to be filled, as a measured number: a name between two `@`, in capital letters.
 The lists that tools print in place of pages are whole; the words of pages are those of documents.words
-(wording.py), and the names that they cite exist (cited.py).
+(wording.py), their size is within pages.csv (pages.py), and the names that they cite exist (cited.py).
 """
 
 import glob
@@ -24,6 +24,7 @@ sys.path.append(os.path.join(TOP, "tools"))
 from building import edits
 from cited import check_cited
 from machine import copy_examples, has_tool, patience
+from pages import check_pages
 from tally import Tally
 from wording import check_words
 
@@ -167,6 +168,7 @@ def main():
     check_filled(tally)
     check_made(tally)
     check_words(tally, TOP)
+    check_pages(tally, TOP)
     check_cited(tally, TOP)
     for page in PAGES:
         check_page(tally, page)
