@@ -152,7 +152,7 @@ def check_examples(results, folder):
         results.expect("damaged, lanes, " + text, texts.count(text), 1)
     stream = xml.parse(os.path.join(folder, "damaged.stream.svg")).getroot()
     texts = [element.text for element in stream.iter(SVG + "text")]
-    for text in ("slot 230 is damaged: lane 0, bit 9011", "span 1 of slots 224 to 290: crc"):
+    for text in ("slot 230 is damaged: lane 0, bit 9011 (9000 as sent)", "span 1 of slots 224 to 290: crc"):
         results.expect("damaged, " + text, texts.count(text), 1)
     with open(os.path.join(folder, "printed"), "w", encoding="utf-8") as file:
         file.write(run([PROGRAM, "duplex", "two_ends.duplex"], folder).stdout)
@@ -192,7 +192,7 @@ def check_tour(results, folder):
     for name in sorted(os.listdir(target)):
         with open(os.path.join(target, name), "rb") as drawn, open(os.path.join(TOP, "docs", "tour", name), "rb") as kept:
             results.expect("tour, " + name, drawn.read() == kept.read(), True)
-    results.expect("pictures of the tour", len(os.listdir(target)), 9)
+    results.expect("pictures of the tour", len(os.listdir(target)), 11)
     check_pictures(results, target)
 
 

@@ -4,7 +4,7 @@
 
 The program runs its commands on a copy of examples/; the pictures are written to FOLDER, which is the script's own by default. Those of
 examples/damaged.plan, lanes.svg and stream.svg, and those of two ends, two_ends.svg, are drawn by tools/picture. Each other script here has
-one: status, again, control_word and metaframe from files of the commands, whole and lock from tables of their own. What is drawn of a run
+one: status, again, block, control_word and metaframe from files of the commands, whole, proved and lock from tables of their own. What is drawn of a run
 is in a file or in the printed text, or was computed from the rules and agrees with both.
 """
 
@@ -18,9 +18,11 @@ HERE = os.path.dirname(os.path.abspath(__file__))
 sys.path.insert(0, os.path.join(HERE, "..", "..", "tools"))
 
 import again
+import block
 import control_word
 import lock
 import metaframe
+import proved
 import status
 import whole
 from drawing import command
@@ -50,7 +52,7 @@ def main():
                 raise SystemExit(1)
             for kind, page in pictures:
                 shutil.copy("page.%s.svg" % kind, os.path.join(target, page + ".svg"))
-        for page in (status, again, whole, lock, control_word, metaframe):
+        for page in (status, again, whole, proved, lock, block, control_word, metaframe):
             page.draw(folder, os.path.join(target, page.__name__ + ".svg"))
         os.chdir(HERE)
 

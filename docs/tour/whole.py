@@ -5,7 +5,7 @@ Its boxes are the rows of the table of commands in REFERENCE; nothing is compute
 
 from drawing.svg import COLOURS, Picture
 
-WIDTH, HEIGHT = 960, 452
+WIDTH, HEIGHT = 960, 467
 BOX, TALL = 132, 50
 BLUE, GREY, RED, VIOLET = COLOURS["sync"], COLOURS["note"], COLOURS["lost"], "#7d3c98"
 COLUMNS = (12, 213, 414, 615, 816)
@@ -52,11 +52,12 @@ def draw_commands(picture):
         picture.arrow(x, TOP + TALL + 2, x, BELOW - 2, colour)
         picture.text(x + 8, (TOP + TALL + BELOW) / 2 + 4, name, colour, more=FIXED)
     picture.arrow(COLUMNS[4] + 36, TOP + TALL + 2, COLUMNS[3] + BOX - 30, BELOW - 2, BLUE)
+    picture.text(COLUMNS[3] + BOX + 4, (TOP + TALL + BELOW) / 2 - 6, "join", BLUE, "middle", FIXED)
     left, right = (COLUMNS[0] + BOX - 30, BELOW - 3), (COLUMNS[1] + 24, TOP + TALL + 3)
     picture.arrow(*left, *right, GREY)
     picture.arrow(*right, *left, GREY)
     for place, name in enumerate(("list", "assemble")):
-        picture.text(32, TOP + TALL + 30 + 16 * place, name, GREY, more=FIXED)
+        picture.text(174 - 36 * place, TOP + TALL + 24 + 16 * place, name, GREY, "end", FIXED)
 
 
 def draw_sums(picture):
@@ -72,8 +73,10 @@ def draw_beside(picture):
     for place, (name, text) in enumerate(BESIDE):
         picture.text(12, 352 + 19 * place, name, BLUE, more=FIXED)
         picture.text(100, 352 + 19 * place, text)
-    picture.text(12, 438, "grey: a command that only looks. list, assemble, inspect, gather and receive read any lane file. link writes its received lanes as OUT.lane.I.", GREY,
-                 more=' font-size="11"')
+    for place, text in enumerate((
+            "grey: a command that only looks. list, inspect, gather and receive read any lane file. link writes its received lanes as OUT.lane.I.",
+            "gather of damaged lanes needs a second plan, with the row out,OUT.damaged: so it does not write over the payload words that burst wrote.")):
+        picture.text(12, 438 + 15 * place, text, GREY, more=' font-size="11"')
 
 
 def draw(folder, path):

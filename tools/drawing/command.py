@@ -209,7 +209,7 @@ def draw_plan_stream(work, plan, schedule, lanes):
     # What came of a words file came of no lanes, but for one that was gathered of these.
     damaged = {slot: found for slot, found in damaged.items() if slot < stream.count and (places.is_gathered or not are_joined(spans))}
     faults = read_faults(folder, plan)
-    work.save(lambda path: draw_stream(stream, plan, spans, damaged, came, faults, path), plan.out, "stream")
+    work.save(lambda path: draw_stream(stream, plan, spans, damaged, came, faults, () if places.is_gathered else places.skew, path), plan.out, "stream")
 
 
 def must_be_sent(folder, plan, stream, places):

@@ -232,7 +232,7 @@ class Drawing:
                 picture.box(row.x(first), top + TALL / 2 - 4, max(row.x(end - 1) - row.x(first), 1.5), 8, FILLS[what])
             elif drawn is None or row.x(first) - drawn >= 0.5:
                 drawn = row.x(first)
-                picture.line(drawn, top - 4, drawn, top + TALL + 4, FILLS[what])
+                picture.line(drawn, top, drawn, top + TALL + 4, FILLS[what])
 
     def draw_groups(self):
         """The names of the groups over lane 0, and dashed lines between the Sync words of each."""

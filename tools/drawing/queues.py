@@ -129,7 +129,7 @@ class Drawing:
                 picture.line(row.left, y, row.right, y, colour, "5 4")
                 picture.text(LEFT - 6, y + (10 if level == mark and self.by_word * (bound - mark) < 12 else 4), name, colour, "end")
         picture.line(row.left, floor, row.right, floor, COLOURS["note"])
-        picture.text(LEFT - 6, floor + 15, "slot", COLOURS["note"], "end")
+        picture.text(LEFT - 6, floor + 15, "slots:", COLOURS["note"], "end")
 
     def draw_queues(self, row, floor, end):
         filled = [c for c in self.shown[end.name] if end.peak[c]]

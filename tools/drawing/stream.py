@@ -50,7 +50,8 @@ class Strip:
 
 
 class Drawing:
-    def __init__(self, stream, plan, spans, damaged, came, faults):
+    def __init__(self, stream, plan, spans, damaged, came, faults, skews=()):
+        self.skews = skews  # by lane; empty where words were gathered
         self.stream, self.spans, self.damaged, self.places, self.came, self.faults = stream, spans, sorted(damaged), damaged, came, faults
         self.lost = [packet for packet in stream.packets if any(meets(span, packet) for span in spans)]
         self.colours = channel_colours(plan.channels)
@@ -69,7 +70,7 @@ class Drawing:
             few = {1: "slot %d is damaged" % first, 2: "slots %d and %d are damaged" % (first, last)}
             text = few.get(count, "%d of slots %d to %d are damaged" % (count, first, last))
             places = [place for slot in self.damaged if first <= slot <= last for place in self.places[slot]]
-            under.place(row.x(first) + 4, "%s: %s" % (text, places_text(places)), COLOURS["lost"])
+            under.place(row.x(first) + 4, "%s: %s" % (text, places_text(places, self.skews)), COLOURS["lost"])
         for slot in self.faults_in(row)[:MOST_FAULTS]:
             under.place(row.x(slot) + 4, "slot %d breaks %s" % (slot, ", ".join(self.faults[slot])), COLOURS["flip"])
         return over, under, self.strips_of(row)
@@ -263,15 +264,18 @@ class Drawing:
         return "; ".join(parts)
 
 
-def places_text(places):
-    """The lanes of damaged places, (lane, first bit, last bit) each, and their bits where they are of one lane."""
+def places_text(places, skews):
+    """The lanes of damaged places, (lane, first bit, last bit) each, and their bits where they are of one lane; a single bit also as a
+    schedule counts it."""
     lanes = sorted({lane for lane, _, _ in places})
     if len(lanes) > MOST_NAMED:
         return "%d lanes" % len(lanes)
     if len(lanes) > 1:
         return "lanes %s" % ", ".join("%d" % lane for lane in lanes)
     first, last = min(first for _, first, _ in places), max(last for _, _, last in places)
-    return "lane %d, bit%s" % (lanes[0], " %d" % first if first == last else "s %d to %d" % (first, last))
+    skew = skews[lanes[0]] if skews else 0
+    one = " %d%s" % (first, " (%d as sent)" % (first - skew) if skew else "")
+    return "lane %d, bit%s" % (lanes[0], one if first == last else "s %d to %d" % (first, last))
 
 
 def span_text(number, span):
@@ -300,11 +304,11 @@ def spans_text(spans):
     return "spans %d to %d%s: %s" % (first, last, "".join(slots), ", ".join(sorted({span.why for _, span in spans})))
 
 
-def draw_stream(stream, plan, spans, damaged, came, faults, path):
+def draw_stream(stream, plan, spans, damaged, came, faults, skews, path):
     """Draws a stream; `damaged` has by slot its damaged places, (lane, first bit, last bit), `came` the packets of the captures by
-    channel, and `faults` by slot the rules that its word breaks. Returns how many words, packets, lost packets and spans there are, and
+    channel, `faults` by slot the rules that its word breaks, and `skews` by lane its skew, if the words were sent. Returns how many words, packets, lost packets and spans there are, and
     faults, where there are some."""
-    drawing = Drawing(stream, plan, spans, damaged, came, faults)
+    drawing = Drawing(stream, plan, spans, damaged, came, faults, skews)
     drawing.draw().save(path)
     counts = {"words": stream.count, "packets": len(stream.packets), "lost": len(drawing.lost), "spans": len(spans)}
     return {**counts, "faults": sum(map(len, faults.values()))} if faults else counts
