@@ -414,13 +414,13 @@ uint32_t interlaken_receiver_free(interlaken_receiver *receiver);
 uint32_t interlaken_receiver_feed(interlaken_receiver *receiver, uint32_t lane,
                                   const uint8_t *bytes, size_t count, size_t *taken);
 
-/* Feeds a lane, counted from 0, with its next `count` bits, 0 to 64: the lowest of `bits`, the
- * highest of them first. The bits of a lane so far are those of the bytes that it took, and then a
- * part of a byte: at most seven bits, which wait for the rest of their byte. The whole bytes that
- * `bits` completes are fed. As `feed`, it takes the longest prefix of these
- * bytes for which the ring has room. `taken` is how many of
- * the bits are taken: all, or those that complete the bytes that are taken. Feed the others again.
- * If there are whole bytes and none of them is taken, no bit is.
+/* Feeds a lane, counted from 0, with its next `count` bits, 0 to 64: the low `count` bits of
+ * `bits`, most significant first. The bits of a lane so far are those of the bytes that it took,
+ * and then a part of a byte: at most seven bits, which wait for the rest of their byte. The whole
+ * bytes that `bits` completes are fed. As `feed`, it takes the longest prefix of these bytes for
+ * which the ring has room. `taken` is how many of the bits are taken: all, or those that complete
+ * the bytes that are taken. Feed the others again. If there are whole bytes and none of them is
+ * taken, no bit is.
  * The result is OUT_OF_RANGE if `count` is above 64.
  * Results: DONE, NO_LANE, FINISHED, TOO_MANY, NO_RECEIVER, OUT_OF_RANGE; `taken` is 0 if it is not
  * DONE. */
@@ -480,7 +480,7 @@ uint32_t interlaken_receiver_is_on(interlaken_receiver *receiver, uint16_t chann
  * lanes go on until `finish`.
  *
  * A channel is ready if it is on and has bytes to send. The next burst is on the ready channel that
- * has waited longest. It waits since its last burst began, or since it was turned on if that is
+ * has waited longest. Its waiting time starts at its last burst, or when it was turned on, if
  * later. Of channels that were turned on before the same word, the one whose entry was read first
  * comes first. Before all these come the channels that had no burst and were not turned on, by
  * their numbers. */
@@ -790,13 +790,13 @@ uint32_t interlaken_inspector_free(interlaken_inspector *inspector);
 uint32_t interlaken_inspector_feed(interlaken_inspector *inspector, uint32_t lane,
                                    const uint8_t *bytes, size_t count, size_t *taken);
 
-/* Feeds a lane, counted from 0, with its next `count` bits, 0 to 64: the lowest of `bits`, the
- * highest of them first. The bits of a lane so far are those of the bytes that it took, and then a
- * part of a byte: at most seven bits, which wait for the rest of their byte. The whole bytes that
- * `bits` completes are fed. As `feed`, it takes these bytes up to a word that
- * shows events, and none while events of the lane are due. `taken` is how many of
- * the bits are taken: all, or those that complete the bytes that are taken. Feed the others again.
- * If there are whole bytes and none of them is taken, no bit is.
+/* Feeds a lane, counted from 0, with its next `count` bits, 0 to 64: the low `count` bits of
+ * `bits`, most significant first. The bits of a lane so far are those of the bytes that it took,
+ * and then a part of a byte: at most seven bits, which wait for the rest of their byte. The whole
+ * bytes that `bits` completes are fed. As `feed`, it takes these bytes up to a word that shows
+ * events, and none while events of the lane are due. `taken` is how many of the bits are taken:
+ * all, or those that complete the bytes that are taken. Feed the others again. If there are whole
+ * bytes and none of them is taken, no bit is.
  * The result is OUT_OF_RANGE if `count` is above 64.
  * Results: DONE, NO_LANE, FINISHED, TOO_MANY, OUT_OF_RANGE, NO_INSPECTOR; `taken` is 0 if it is not
  * DONE. */
@@ -871,13 +871,13 @@ uint32_t interlaken_gatherer_free(interlaken_gatherer *gatherer);
 uint32_t interlaken_gatherer_feed(interlaken_gatherer *gatherer, uint32_t lane,
                                   const uint8_t *bytes, size_t count, size_t *taken);
 
-/* Feeds a lane, counted from 0, with its next `count` bits, 0 to 64: the lowest of `bits`, the
- * highest of them first. The bits of a lane so far are those of the bytes that it took, and then a
- * part of a byte: at most seven bits, which wait for the rest of their byte. The whole bytes that
- * `bits` completes are fed. As `feed`, it takes the longest prefix of these
- * bytes for which the ring has room. `taken` is how many of
- * the bits are taken: all, or those that complete the bytes that are taken. Feed the others again.
- * If there are whole bytes and none of them is taken, no bit is.
+/* Feeds a lane, counted from 0, with its next `count` bits, 0 to 64: the low `count` bits of
+ * `bits`, most significant first. The bits of a lane so far are those of the bytes that it took,
+ * and then a part of a byte: at most seven bits, which wait for the rest of their byte. The whole
+ * bytes that `bits` completes are fed. As `feed`, it takes the longest prefix of these bytes for
+ * which the ring has room. `taken` is how many of the bits are taken: all, or those that complete
+ * the bytes that are taken. Feed the others again. If there are whole bytes and none of them is
+ * taken, no bit is.
  * The result is OUT_OF_RANGE if `count` is above 64.
  * Results: DONE, NO_LANE, FINISHED, TOO_MANY, OUT_OF_RANGE, NO_GATHERER; `taken` is 0 if it is not
  * DONE. */
