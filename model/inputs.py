@@ -1,4 +1,4 @@
-"""The files of rows that a plan names. REFERENCE, "Files that a plan names"; DEFINITIONS, "Files"."""
+"""The files of rows that a plan names. REFERENCE, "Files"; DEFINITIONS, "Files"."""
 
 import re
 from typing import Sequence

@@ -1,4 +1,4 @@
-"""Captures, read and written. DEFINITIONS, "Files": Capture, Capture as written."""
+"""Captures, read and written. REFERENCE, "Files"; DEFINITIONS, "Files": Capture."""
 
 from typing import Sequence
 

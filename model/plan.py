@@ -1,4 +1,4 @@
-"""Plans, and the settings of a duplex run. REFERENCE, "Plans"; DEFINITIONS, "Files": Plan, Settings of a duplex run."""
+"""Plans, and the settings of a duplex run. REFERENCE, "Plans", "Settings of a duplex run"; DEFINITIONS, "Files": Plan."""
 
 from typing import NamedTuple, Sequence
 

@@ -1,4 +1,4 @@
-"""Lines of text. REFERENCE, "Texts"; DEFINITIONS, "Files": Lines, Span table."""
+"""Lines of text. REFERENCE, "Output", "Files"."""
 
 from collections import Counter
 from typing import Sequence
