@@ -1,4 +1,4 @@
-"""The files of the current folder, and what stops a run. REFERENCE, "Statuses" and "Refusals"."""
+"""The files of the current folder, and what stops a run. REFERENCE, "Exit status" and "Refusals"."""
 
 from typing import Callable
 

@@ -1,6 +1,6 @@
 #!/usr/bin/env python3
 """The whole program: `python3 model/interlaken.py WORDS..`, on files of the current folder. REFERENCE, "Commands" and
-"Statuses"."""
+"Exit status"."""
 
 import os
 import re
