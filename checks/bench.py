@@ -12,7 +12,7 @@ BENCH = os.path.join(TOP, "bench")
 sys.path.append(BENCH)
 
 from cases import RUNS, needed_for
-from tally import Tally
+from lib.tally import Tally
 
 BESIDE = os.path.join(BENCH, "beside.sh")
 # One reads words and one lanes, and each needs another run before it.

@@ -2,6 +2,6 @@
 # Tries bench/beside.sh on small captures: two commands of the program beside itself, and beside programs that differ; what it says if a
 # tool is missing; that it measures every command, and no file but its own changes; and --help of each script of bench.
 set -u
-. "$(dirname "$0")/program.bash"
+. "$(dirname "$0")/lib/program.bash"
 wants python3 python3
 exec python3 -B "$top/checks/bench.py" "$program" "$top"

@@ -13,11 +13,11 @@ import tempfile
 import time
 import xml.etree.ElementTree as xml
 
-from captures import capture
-from devices import changed, sums
-from machine import copy_examples, patience
-from runs import content, write_files
-from tally import Tally
+from lib.captures import capture
+from lib.devices import changed, sums
+from lib.machine import copy_examples, patience
+from lib.runs import content, write_files
+from lib.tally import Tally
 
 PROGRAM, TOP = os.path.abspath(sys.argv[1]), os.path.abspath(sys.argv[2])
 TOOL = os.path.join(TOP, "tools", "campaign")
@@ -255,7 +255,7 @@ def check_struck(tally, folder, row, schedule):
 
 def check_held(tally, folder):
     """A plan whose channel 1 goes off in its first packet: it is held, and done all the same."""
-    sys.path.insert(0, os.path.join(TOP, "tools"))
+    sys.path.insert(0, os.path.join(TOP, "tools", "lib"))
     from reading.control_words import sealed_alone
     off = sealed_alone(0x817FFF0000000000)
     with open(os.path.join(folder, "off.flow"), "w", encoding="ascii") as file:

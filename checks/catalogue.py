@@ -8,12 +8,12 @@ import tempfile
 
 from crccheck import crc
 
-from machine import copy_examples, patience
-from runs import content
-from tally import Tally
+from lib.machine import copy_examples, patience
+from lib.runs import content
+from lib.tally import Tally
 
 PROGRAM, TOP = os.path.abspath(sys.argv[1]), os.path.abspath(sys.argv[2])
-sys.path.insert(0, os.path.join(TOP, "tools"))
+sys.path.insert(0, os.path.join(TOP, "tools", "lib"))
 from reading.checksums import CRC24, CRC32
 from reading.files import Folder
 from reading.lane_bits import bits_of, sync_words
@@ -51,7 +51,7 @@ def run(tally, folder, *words):
 
 
 def check_values(tally, crc24, crc4, crc32):
-    """The check values of the catalogue, and the two checksums of tools/reading on the same bytes and on drawn ones."""
+    """The check values of the catalogue, and the two checksums of tools/lib/reading on the same bytes and on drawn ones."""
     tally.expect("check values of the catalogue", (crc24.calc(CHECKED), crc4.calc(CHECKED), crc32.calc(CHECKED)), (CRC24_VALUE, CRC4_VALUE, CRC32_VALUE))
     tally.expect("of the same bytes here", (CRC24.of(CHECKED), CRC32.of(CHECKED)), (CRC24_VALUE, CRC32_HERE))
     straight, draw = not_reflected(crc32), random.Random(1)

@@ -8,7 +8,7 @@
 # linked as with 1.4.1; tools/library --install; the package of Python by pip. Needs gcc, and an archive of these sources: what the gate
 # or `rt lib` has built, or that of release/. CASES=1000 compares as many generated cases, SEQUENCES=100000 tries as many sequences.
 set -u
-. "$(dirname "$0")/program.bash"
+. "$(dirname "$0")/lib/program.bash"
 wants_cc
 wants_archive
 folder=$(mktemp -d)

@@ -7,9 +7,9 @@ import subprocess
 import sys
 import tempfile
 
-from captures import packets_of
-from machine import copy_examples, patience
-from tally import Tally
+from lib.captures import packets_of
+from lib.machine import copy_examples, patience
+from lib.tally import Tally
 
 PROGRAM, TOP = os.path.abspath(sys.argv[1]), os.path.abspath(sys.argv[2])
 # A command has to end by then on an idle machine; the test of cocotb takes longest.

@@ -15,11 +15,11 @@ import itertools
 import os
 import sys
 
-from machine import each
-from modeled import differences, left_by_model
+from lib.machine import each
+from lib.modeled import differences, left_by_model
 from random_cases import KINDS, LARGE, WIDE, make
-from runs import left_by, write_files
-from tally import Tally
+from lib.runs import left_by, write_files
+from lib.tally import Tally
 
 # A run of the program has to end by then.
 SECONDS = 30

@@ -9,9 +9,9 @@ import sys
 import tempfile
 
 import documents
-from machine import copy_examples, patience
-from runs import content
-from tally import Tally
+from lib.machine import copy_examples, patience
+from lib.runs import content
+from lib.tally import Tally
 
 PROGRAM, TOP = os.path.abspath(sys.argv[1]), os.path.abspath(sys.argv[2])
 PAGE = "examples/device/README.md"

@@ -3,7 +3,7 @@
 # the bug; without a bug every packet arrives and nothing is found. Needs iverilog; where verilator is there too, of version 5 or later,
 # with what it builds programs with, it makes the same dumps.
 set -u
-. "$(dirname "$0")/program.bash"
+. "$(dirname "$0")/lib/program.bash"
 wants python3 python3
 wants iverilog iverilog
 wants vvp iverilog

@@ -19,14 +19,14 @@ import sys
 import tempfile
 
 PROGRAM, TOP = os.path.abspath(sys.argv[1]), os.path.abspath(sys.argv[2])
-sys.path.append(os.path.join(TOP, "tools"))
+sys.path.append(os.path.join(TOP, "tools", "lib"))
 
-from building import edits
-from cited import check_cited
-from machine import copy_examples, has_tool, patience
-from pages import check_pages
-from tally import Tally
-from wording import check_words
+from build import edits
+from lib.cited import check_cited
+from lib.machine import copy_examples, has_tool, patience
+from lib.pages import check_pages
+from lib.tally import Tally
+from lib.wording import check_words
 
 # The pages, with the folder of the first command of each.
 PAGES = {"README.md": "", "docs/TOUR.md": "examples", "docs/MORE.md": "examples", "docs/DEVICE.md": "examples/device", "tools/README.md": "",

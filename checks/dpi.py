@@ -7,11 +7,11 @@ import subprocess
 import sys
 import tempfile
 
-from captures import packets_of
+from lib.captures import packets_of
 import documents
-from dpi_monitor import try_monitor
-from machine import copy_examples, patience
-from tally import Tally
+from lib.dpi_monitor import try_monitor
+from lib.machine import copy_examples, patience
+from lib.tally import Tally
 
 PROGRAM, TOP = os.path.abspath(sys.argv[1]), os.path.abspath(sys.argv[2])
 PAGE = "examples/dpi/README.md"

@@ -4,7 +4,7 @@
 # `receive` makes of the same lanes: the packets that come, the lane that was struck, its bits, and the packets that are lost. Needs
 # verilator of version 5 or later, and an archive of these sources: what the gate or `rt lib` has built, or that of release/.
 set -u
-. "$(dirname "$0")/program.bash"
+. "$(dirname "$0")/lib/program.bash"
 wants python3 python3
 wants verilator verilator
 wants make make

@@ -14,12 +14,12 @@ import subprocess
 import sys
 
 HERE = os.path.dirname(os.path.abspath(__file__))
-sys.path[:0] = [HERE, os.path.join(os.path.dirname(HERE), "tools")]
+sys.path[:0] = [HERE, os.path.join(os.path.dirname(HERE), "tools", "lib")]
 
-from building.kit import below, logic_of, uses_of
-from edit_files import BadEdit, edits_in, name_of, replaced
-from tally import Tally
-from tried import fault_of_row, rows_in, sum_below, sum_of_crate, sum_of_file
+from build.kit import below, logic_of, uses_of
+from lib.edit_files import BadEdit, edits_in, name_of, replaced
+from lib.tally import Tally
+from lib.tried import fault_of_row, rows_in, sum_below, sum_of_crate, sum_of_file
 
 
 def crates_with_edits(top):

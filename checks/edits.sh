@@ -8,7 +8,7 @@
 # The last two work in a copy of the repository. If the kit keeps what the gate proved there, only the edits are tried.
 set -u -o pipefail
 top=$(cd "$(dirname "${BASH_SOURCE[0]}")/.." && pwd)
-. "$top/checks/tally.bash"
+. "$top/checks/lib/tally.bash"
 . "$top/tools/sources.bash" || gives_up 'there is no tools/sources.bash'
 wants python3 python3
 what=${1:-}
@@ -40,7 +40,7 @@ case $what in
     done
     copy "$room" "$@" || gives_up 'the crates cannot be copied'
     (cd "$room" && rt ci) | tail -n 1 || gives_up 'a crate is not proved as it stands'
-    python3 -B "$top/checks/try_edits.py" "$top" "$room" --jobs "$RT_JOBS" "$@"
+    python3 -B "$top/checks/lib/try_edits.py" "$top" "$room" --jobs "$RT_JOBS" "$@"
     ;;
   turn)
     crate=$(python3 -B "$top/checks/edits.py" "$top" --turn) || gives_up 'no crate can be picked'

@@ -4,7 +4,7 @@
 # checks, as rows, try these alone.
 set -u
 top=$(cd "$(dirname "${BASH_SOURCE[0]}")/.." && pwd)
-. "$top/checks/tally.bash"
+. "$top/checks/lib/tally.bash"
 # A check has to fail by then on an idle machine.
 seconds=60
 usage='usage: interlaken COMMAND FILE, or interlaken generate NUMBER PREFIX'
@@ -25,7 +25,7 @@ make_copy() {
   mkdir -p "$folder/copy/crates" "$folder/copy/checks"
   : >"$folder/copy/crates.txt"
   cp -a "$top/docs" "$folder/copy/"
-  find "$top/checks" -mindepth 1 -maxdepth 1 -type f -exec cp -a {} "$folder/copy/checks/" \;
+  find "$top/checks" -mindepth 1 -maxdepth 1 \( -type f -o -name lib \) -exec cp -a {} "$folder/copy/checks/" \;
   chmod -R u+w "$folder/copy" # a checkout may be one that is only read
 }
 

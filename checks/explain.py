@@ -13,15 +13,15 @@ import sys
 import tempfile
 from collections import Counter
 
-from devices import changed, sums
-from machine import copy_examples
-from runs import write_files
-from tally import Tally
+from lib.devices import changed, sums
+from lib.machine import copy_examples
+from lib.runs import write_files
+from lib.tally import Tally
 
 PROGRAM, TOP = os.path.abspath(sys.argv[1]), os.path.abspath(sys.argv[2])
-sys.path.insert(0, os.path.join(TOP, "tools"))
+sys.path.insert(0, os.path.join(TOP, "tools", "lib"))
 
-from explaining.inputs import Inputs
+from explain.inputs import Inputs
 from reading.files import Folder
 
 # The files that are spoiled: which command reads each, how it is named there, and how many are tried.

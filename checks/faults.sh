@@ -2,7 +2,7 @@
 # Makes each allocation, read, write and open of the program fail in turn, command by command on a small link, by a library that
 # is loaded before the program; takes two minutes at most. Words are those of faults/faults.py, as --seconds 30 send.
 set -u
-. "$(dirname "$0")/program.bash"
+. "$(dirname "$0")/lib/program.bash"
 wants_cc
 wants python3 python3
 folder=$(mktemp -d)

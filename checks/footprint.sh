@@ -3,7 +3,7 @@
 # memory that each handle keeps, by functions of interlaken_alloc.h that count. Needs an archive as checks/clib.sh does.
 set -u
 top=$(cd "$(dirname "${BASH_SOURCE[0]}")/.." && pwd)
-. "$top/checks/tally.bash"
+. "$top/checks/lib/tally.bash"
 wants_cc
 [ -d "$top/crates/interlaken_c" ] || gives_up 'there is no library to try'
 wants_archive

@@ -8,15 +8,15 @@ import sys
 import tempfile
 
 TOP = os.path.abspath(sys.argv[1])
-sys.path.insert(0, os.path.join(TOP, "tools"))
+sys.path.insert(0, os.path.join(TOP, "tools", "lib"))
 
-from building.jobs import BYTES, at_once, groups_of, room_in
-from building.modules import costs_of, owner_of
-from edit_files import BadEdit, replaced
-from edit_rounds import Crate, functions_in, outline, rounds_of
-from tally import Tally
-from tried import COLUMNS, fault_of_row, rows_in, sum_below, sum_of_crate, write_rows
-from try_edits import Book, functions_of, refusals_in, refused_by
+from build.jobs import BYTES, at_once, groups_of, room_in
+from build.modules import costs_of, owner_of
+from lib.edit_files import BadEdit, replaced
+from lib.edit_rounds import Crate, functions_in, outline, rounds_of
+from lib.tally import Tally
+from lib.tried import COLUMNS, fault_of_row, rows_in, sum_below, sum_of_crate, write_rows
+from lib.try_edits import Book, functions_of, refusals_in, refused_by
 
 SOURCE = """//! A crate.
 

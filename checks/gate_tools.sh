@@ -3,7 +3,7 @@
 # edits/tried.csv count, how many crates are proved at once, and what tools/costs adds up; and that each tool has --help.
 set -u
 top=$(cd "$(dirname "${BASH_SOURCE[0]}")/.." && pwd)
-. "$top/checks/tally.bash"
+. "$top/checks/lib/tally.bash"
 wants python3 python3
-[ -d "$top/tools/building" ] || gives_up 'there is no tools/building'
+[ -d "$top/tools/lib/build" ] || gives_up 'there is no tools/lib/build'
 exec python3 -B "$top/checks/gate_tools.py" "$top"

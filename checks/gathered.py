@@ -19,8 +19,8 @@ import re
 import sys
 from collections import Counter
 
-from runs import left_by
-from tally import Tally
+from lib.runs import left_by
+from lib.tally import Tally
 
 # What the line of a lane counts, and the events that it counts.
 COUNTED = {"locks": ("lock",), "lost": ("lost-headers", "lost-sync", "lost-state"), "unframed": ("unframed",), "bad": ("bad",), "sync": ("sync",),

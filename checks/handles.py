@@ -14,12 +14,12 @@ import sys
 import tempfile
 from random import Random
 
-from live_bench import content, run, text_of, write
-from live_calls import flow_words
-from live_links import made_link
-from machine import each
+from lib.live_bench import content, run, text_of, write
+from lib.live_calls import flow_words
+from lib.live_links import made_link
+from lib.machine import each
 from plan import plan_of
-from tally import Tally
+from lib.tally import Tally
 import fields
 
 WORD = 9  # bytes of a word in a words file

@@ -3,7 +3,7 @@
 # lanes, damaged, in random pieces. Four threads with handles of their own find the same, and each allocation of each `new` fails. Needs
 # an archive as checks/clib.sh does. Words are those of handles.py, as --cases 5000 --jobs 4.
 set -u
-. "$(dirname "$0")/program.bash"
+. "$(dirname "$0")/lib/program.bash"
 wants_cc
 wants python3 python3
 wants_archive

@@ -15,9 +15,9 @@ import os
 import random
 import sys
 
-from captures import capture
-from runs import Run, left_by
-from tally import Tally
+from lib.captures import capture
+from lib.runs import Run, left_by
+from lib.tally import Tally
 
 WANTED = os.path.join(os.path.dirname(os.path.abspath(__file__)), "hostile.txt")
 METAFRAME = 32

@@ -12,8 +12,8 @@ import os
 import re
 import sys
 
-from tally import Tally
-from twice import count_twice
+from lib.tally import Tally
+from lib.twice import count_twice
 
 LOGIC = re.compile(r"\bRattle\.([a-z0-9_]+)\.(specs|proofs)\.([A-Za-z0-9_-]+)")
 CODE = re.compile(r"(?<![A-Za-z0-9_:.$])([a-z][a-z0-9_]*)::")

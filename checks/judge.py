@@ -14,12 +14,12 @@ import sys
 import tempfile
 from collections import Counter
 
-from captures import capture
-from devices import changed, sums, text_of
-from planted import BAD, CODE, CONTROL, Bug, Link, reversed_bits, send, to_bytes, with_changed, with_crc24_complemented, with_flow, with_late_reset, with_wrong_crc24
-from machine import patience
-from runs import content, write_files
-from tally import Tally
+from lib.captures import capture
+from lib.devices import changed, sums, text_of
+from lib.planted import BAD, CODE, CONTROL, Bug, Link, reversed_bits, send, to_bytes, with_changed, with_crc24_complemented, with_flow, with_late_reset, with_wrong_crc24
+from lib.machine import patience
+from lib.runs import content, write_files
+from lib.tally import Tally
 
 PROGRAM, TOP = os.path.abspath(sys.argv[1]), os.path.abspath(sys.argv[2])
 TOOL = os.path.join(TOP, "tools", "judge")

@@ -11,8 +11,8 @@ import subprocess
 import sys
 import tempfile
 
-from runs import PythonTool, content, left_by
-from tally import Tally
+from lib.runs import PythonTool, content, left_by
+from lib.tally import Tally
 
 PROGRAM, TOP = os.path.abspath(sys.argv[1]), os.path.abspath(sys.argv[2])
 TOOL = os.path.join(TOP, "tools", "lanes")
@@ -92,7 +92,7 @@ def is_lane(found, lane, width):
     return found is not None and found[:len(lane)] == lane and len(lane) <= len(found) <= most and not any(found[len(lane):])
 
 
-tool = PythonTool(TOOL, "dumping.command").run
+tool = PythonTool(TOOL, "lanes.command").run
 
 
 class Check:

@@ -4,16 +4,17 @@
 # that end in each way, and the gate.
 set -u
 top=$(cd "$(dirname "${BASH_SOURCE[0]}")/.." && pwd)
-. "$top/checks/tally.bash"
+. "$top/checks/lib/tally.bash"
 [ -x "$top/interlaken" ] || gives_up 'there is no launcher'
 wants python3 python3
 folder=$(mktemp -d)
 trap 'rm -rf "$folder"' EXIT
 tree=$folder/a\ tree
-mkdir -p "$tree"/{release,checks,tools,.ci} "$folder"/{bin,elsewhere} "$tree"/crates/{low,interlaken,interlaken_main,beside,interlaken_c}/src
+mkdir -p "$tree"/{release,checks,tools/lib,.ci} "$folder"/{bin,elsewhere} "$tree"/crates/{low,interlaken,interlaken_main,beside,interlaken_c}/src
 cp "$top/interlaken" "$tree"
-cp -r "$top"/tools/{sources.bash,archive.bash,build,building,commands.txt,jobs,release} "$tree/tools/"
-cp "$top"/checks/{run,release.sh,packages.txt,*.bash} "$tree/checks/"
+cp -r "$top"/tools/{sources.bash,archive.bash,build,commands.txt,jobs,release} "$tree/tools/"
+cp -r "$top/tools/lib/build" "$tree/tools/lib/"
+cp -r "$top"/checks/{run,release.sh,packages.txt,lib} "$tree/checks/"
 cp "$top/.ci/run" "$tree/.ci/"
 chmod -R u+w "$tree" # a checkout may be one that is only read
 printf '%s\n' 'low:' 'interlaken: low' 'interlaken_main: interlaken low' 'beside: low' 'interlaken_c staticlib: beside core' >"$tree/crates.txt"
@@ -267,7 +268,7 @@ echo '# other' >>"$tree/crates/interlaken_main/out/interlaken_main"
 checked 'another program, too' 'release: 3 passed, 4 failed'
 
 # checks/run and the gate. The name of the file is cut in two here, since a check that has it is one that tries the program.
-begin='. "$(dirname "$0")"/program'.bash
+begin='. "$(dirname "$0")"/lib/program'.bash
 rm "$tree/checks/release.sh"
 check() { # NAME, and its lines
   local file=$tree/checks/$1.sh

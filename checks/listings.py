@@ -13,9 +13,9 @@ import os
 import random
 import sys
 
-from modeled import differences, left_by_model
-from runs import left_by
-from tally import Tally
+from lib.modeled import differences, left_by_model
+from lib.runs import left_by
+from lib.tally import Tally
 
 import random_listings
 

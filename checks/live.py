@@ -16,12 +16,12 @@ import sys
 import tempfile
 from random import Random
 
-import live_model as model
-from live_bench import Bench, content, text_of, write
-from live_calls import NO_HANDLE, RANDOM, Feeding, Sending, all_on, flow_words, sequence, sequence_script
-from live_links import chosen_plan, generated_link, made_link
-from machine import has_tool
-from tally import Tally
+import lib.live_model as model
+from lib.live_bench import Bench, content, text_of, write
+from lib.live_calls import NO_HANDLE, RANDOM, Feeding, Sending, all_on, flow_words, sequence, sequence_script
+from lib.live_links import chosen_plan, generated_link, made_link
+from lib.machine import has_tool
+from lib.tally import Tally
 import fields
 import pcap
 import random_inputs as drawn

@@ -6,7 +6,7 @@
 # as checks/clib.sh does. CASES=1000 tries as many links and as many transmitters, SEQUENCES=1000 as many scripts of random calls.
 # SENSITIVITY=1 tries instead whether the check fails with each of some wrong libraries.
 set -u
-. "$(dirname "$0")/program.bash"
+. "$(dirname "$0")/lib/program.bash"
 wants_cc
 wants python3 python3
 wants_archive

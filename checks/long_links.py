@@ -14,11 +14,11 @@ import os
 import sys
 from random import Random
 
-from machine import each
-from modeled import differences, left_by_model
+from lib.machine import each
+from lib.modeled import differences, left_by_model
 import random_inputs as drawn
-from runs import left_by
-from tally import Tally
+from lib.runs import left_by
+from lib.tally import Tally
 
 LANES = (1, 2, 3, 3, 5, 7, 8, 11, 13)
 METAFRAMES = (32, 33, 40, 64, 96, 128, 200)

@@ -15,10 +15,10 @@ import os
 import random
 import sys
 
-from machine import each
+from lib.machine import each
 from rows import ROWS, Row
-from runs import left_by
-from tally import Tally
+from lib.runs import left_by
+from lib.tally import Tally
 
 # The commands, and the statuses with which they may end.
 ANSWERS = {"join": (0, 5), "stripe": (0, 5), "check": (0, 5), "receive": (0,), "gather": (0,), "inspect": (0,), "damage": (0,), "oobread": (0, 5), "resend": (0, 5)}

@@ -2,6 +2,6 @@
 # Runs the commands that read what another end made on 400 mutated files, and shows that each run ends by itself with an answer.
 # Words are those of mutated.py, as --count 100000 --jobs 4.
 set -u
-. "$(dirname "$0")/program.bash"
+. "$(dirname "$0")/lib/program.bash"
 wants python3 python3
 exec python3 -B "$top/checks/mutated.py" "$program" "$@"

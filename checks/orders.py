@@ -13,10 +13,10 @@ import re
 import subprocess
 import sys
 
-from machine import patience
+from lib.machine import patience
 from rows import Row
-from runs import left_by
-from tally import Tally
+from lib.runs import left_by
+from lib.tally import Tally
 
 NAMES = [
     "link_of_skewed_lanes",

@@ -2,6 +2,6 @@
 # Feeds receivers with the lanes of worked rows in 200 orders and cuts, by the program of the crate rx_orders: each order gives the
 # same events, and they are as the row says.
 set -u
-. "$(dirname "$0")/program.bash"
+. "$(dirname "$0")/lib/program.bash"
 wants python3 python3
 exec python3 -B "$top/checks/orders.py" "$program" "$top"

@@ -7,11 +7,11 @@ import subprocess
 import sys
 import tempfile
 
-from captures import lengths, packet
-from devices import changed, sums, text_of
-from machine import copy_examples, patience
-from runs import content, write_files
-from tally import Tally
+from lib.captures import lengths, packet
+from lib.devices import changed, sums, text_of
+from lib.machine import copy_examples, patience
+from lib.runs import content, write_files
+from lib.tally import Tally
 
 PROGRAM, TOP = os.path.abspath(sys.argv[1]), os.path.abspath(sys.argv[2])
 TOOL = os.path.join(TOP, "tools", "packets")

@@ -1,6 +1,6 @@
 #!/usr/bin/env bash
 # Compares captures and words files by tools/packets in which packets and words were changed, taken out and put in.
 set -u
-. "$(dirname "$0")/program.bash"
+. "$(dirname "$0")/lib/program.bash"
 wants python3 python3
 exec python3 -B "$top/checks/packets.py" "$program" "$top"

@@ -10,13 +10,13 @@ import xml.etree.ElementTree as xml
 from functools import partial
 
 PROGRAM, TOP = os.path.abspath(sys.argv[1]), os.path.abspath(sys.argv[2])
-sys.path.insert(0, os.path.join(TOP, "tools"))
+sys.path.insert(0, os.path.join(TOP, "tools", "lib"))
 
-from drawing.svg import length_of
-from devices import BREAKS, SPOILED_SLOTS, Device, changed, spoiled, sums
-from machine import copy_examples
-from runs import content, write_files
-from tally import Tally
+from picture.svg import length_of
+from lib.devices import BREAKS, SPOILED_SLOTS, Device, changed, spoiled, sums
+from lib.machine import copy_examples
+from lib.runs import content, write_files
+from lib.tally import Tally
 
 TOOL = os.path.join(TOP, "tools", "picture")
 SVG = "{http://www.w3.org/2000/svg}"

@@ -2,7 +2,7 @@
 # Draws the examples, three generated cases, a link of 64 lanes and the tour by tools/picture, and compares the lanes, packets, spans
 # and peaks of the pictures with what the program printed; and gives it files that are missing, odd or of another run.
 set -u
-. "$(dirname "$0")/program.bash"
+. "$(dirname "$0")/lib/program.bash"
 wants python3 python3
 if ! python3 -c 'import csv, xml.etree.ElementTree' 2>/dev/null; then
   echo "pictures: skipped, no library of python3 for XML (Debian package libpython3-stdlib)"

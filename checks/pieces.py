@@ -21,9 +21,9 @@ a failing call has to end with status 0 and leave the files that are looked at:
 import os
 import sys
 
-from captures import capture
-from runs import left_by
-from tally import Tally
+from lib.captures import capture
+from lib.runs import left_by
+from lib.tally import Tally
 
 PIECE = 65536
 SENT = {"p.plan": b"lanes,8\nmetaframe,2048\nchannel,0,a.pcap\nchannel,1,b.pcap\nout,o\n", "a.pcap": capture(["60", "1514"]), "b.pcap": capture(["60", "590"])}

@@ -10,15 +10,15 @@ import tempfile
 import time
 from collections import namedtuple
 
-from captures import capture
-from lane_maker import CONTROL, DATA, Sender, make_lanes, with_crc24
-from runs import PythonTool, content, left_by
-from tally import Tally
+from lib.captures import capture
+from lib.lane_maker import CONTROL, DATA, Sender, make_lanes, with_crc24
+from lib.runs import PythonTool, content, left_by
+from lib.tally import Tally
 
 PROGRAM, TOP = os.path.abspath(sys.argv[1]), os.path.abspath(sys.argv[2])
-PROBE = PythonTool(os.path.join(TOP, "tools", "probe"), "probing.command").run
-LANES = PythonTool(os.path.join(TOP, "tools", "lanes"), "dumping.command").run
-JUDGE = PythonTool(os.path.join(TOP, "tools", "judge"), "judging.command").run
+PROBE = PythonTool(os.path.join(TOP, "tools", "probe"), "probe.command").run
+LANES = PythonTool(os.path.join(TOP, "tools", "lanes"), "lanes.command").run
+JUDGE = PythonTool(os.path.join(TOP, "tools", "judge"), "judge.command").run
 CODE, IDLE = 67, 0x81FFFF0000188177
 
 # A link: its lanes, metaframe and Skip words, and further rows of its plan.

@@ -6,7 +6,7 @@
 # does the archive.
 set -u
 top=$(cd "$(dirname "${BASH_SOURCE[0]}")/.." && pwd)
-. "$top/checks/tally.bash"
+. "$top/checks/lib/tally.bash"
 . "$top/tools/sources.bash" || gives_up 'there is no tools/sources.bash'
 cd "$top" || exit 1
 built=${INTERLAKEN_BUILT:-}

@@ -20,9 +20,9 @@ import hashlib
 import os
 import sys
 
-from captures import capture
-from runs import SECONDS, Run, content, files_in, left_by
-from tally import Tally
+from lib.captures import capture
+from lib.runs import SECONDS, Run, content, files_in, left_by
+from lib.tally import Tally
 
 ROWS = os.path.join(os.path.dirname(os.path.abspath(__file__)), "rows")
 

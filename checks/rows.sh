@@ -2,6 +2,6 @@
 # Runs the program on each row of rows/: a command, the files before, the status, the text, and the files after. Names of rows run
 # these alone.
 set -u
-. "$(dirname "$0")/program.bash"
+. "$(dirname "$0")/lib/program.bash"
 wants python3 python3
 exec python3 -B "$top/checks/rows.py" "$program" "$@"

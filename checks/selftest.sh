@@ -2,7 +2,7 @@
 # The worked examples of the model in model/, by its own test.
 set -u
 top=$(cd "$(dirname "${BASH_SOURCE[0]}")/.." && pwd)
-. "$top/checks/tally.bash"
+. "$top/checks/lib/tally.bash"
 wants python3 python3
 told=$(python3 -B "$top/model/selftest.py" 2>&1)
 status=$?

@@ -16,14 +16,14 @@ import sys
 import tempfile
 from collections import Counter
 
-from captures import capture
-from devices import BREAKS, CUT, GROUP, LANES, METAFRAME, PACKETS, PERIOD, SPOILED_SLOTS, Device, changed, spoiled, sums
-from machine import copy_examples
-from runs import content, write_files
-from tally import Tally
+from lib.captures import capture
+from lib.devices import BREAKS, CUT, GROUP, LANES, METAFRAME, PACKETS, PERIOD, SPOILED_SLOTS, Device, changed, spoiled, sums
+from lib.machine import copy_examples
+from lib.runs import content, write_files
+from lib.tally import Tally
 
 PROGRAM, TOP = os.path.abspath(sys.argv[1]), os.path.abspath(sys.argv[2])
-sys.path.insert(0, os.path.join(TOP, "tools"))
+sys.path.insert(0, os.path.join(TOP, "tools", "lib"))
 
 from reading.files import Folder, Refused
 from reading.lane_bits import bits_of

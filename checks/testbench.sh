@@ -4,7 +4,7 @@
 # other makes are those of `send`, and `receive` locks on them. Needs iverilog; where verilator is there too, of version 5 or later,
 # it lints both benches.
 set -u
-. "$(dirname "$0")/program.bash"
+. "$(dirname "$0")/lib/program.bash"
 wants iverilog iverilog
 wants vvp iverilog
 bench=$top/examples/testbench

@@ -11,10 +11,10 @@ import tempfile
 from bisect import bisect_right
 from collections import Counter, namedtuple
 
-from devices import BREAKS, CUT, LANES, METAFRAME, PACKETS, SKIPS, SPOILED_SLOTS, Device, changed, spoiled, sums
-from machine import copy_examples, patience
-from runs import content, write_files
-from tally import Tally
+from lib.devices import BREAKS, CUT, LANES, METAFRAME, PACKETS, SKIPS, SPOILED_SLOTS, Device, changed, spoiled, sums
+from lib.machine import copy_examples, patience
+from lib.runs import content, write_files
+from lib.tally import Tally
 
 PROGRAM, TOP = os.path.abspath(sys.argv[1]), os.path.abspath(sys.argv[2])
 TOOL = os.path.join(TOP, "tools", "waves")

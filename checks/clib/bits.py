@@ -13,7 +13,7 @@ import sys
 sys.path.insert(0, sys.argv[1])
 sys.path.insert(0, os.path.join(os.path.dirname(os.path.abspath(__file__)), ".."))
 import interlaken
-from captures import packets_of
+from lib.captures import packets_of
 
 LIBRARY = sys.argv[2]
 METAFRAME = 67 * 32 // 8  # bytes of a metaframe of the plan

@@ -26,9 +26,9 @@ import tempfile
 import time
 
 sys.path.insert(0, os.path.join(os.path.dirname(os.path.abspath(__file__)), ".."))
-from captures import capture
-from runs import left_by
-from tally import Tally
+from lib.captures import capture
+from lib.runs import left_by
+from lib.tally import Tally
 
 # The case with the most calls comes last: it has all the time that the others left.
 CASES = {

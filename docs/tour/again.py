@@ -4,7 +4,7 @@ The paths are computed from the events file by the rules of both ends. The scrip
 printed and the words that it wrote are not those that come of it.
 """
 
-from drawing.svg import COLOURS, Picture, length_of
+from picture.svg import COLOURS, Picture, length_of
 from reading.files import must_agree
 
 PLAN = "again.plan"

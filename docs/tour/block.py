@@ -4,7 +4,7 @@ of its own words is damaged.
 The script ends with an error if the words are not those that the tour names.
 """
 
-from drawing.svg import COLOURS, Picture
+from picture.svg import COLOURS, Picture
 from reading.files import must_agree
 
 PLAN = "damaged.plan"

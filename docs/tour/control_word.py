@@ -3,7 +3,7 @@
 The script ends with an error if the fields of the drawn word are not those that the tour names.
 """
 
-from drawing.svg import COLOURS, Picture, length_of
+from picture.svg import COLOURS, Picture, length_of
 from reading.control_words import is_control, is_reset
 from reading.files import must_agree
 

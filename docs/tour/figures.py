@@ -15,7 +15,7 @@ import tempfile
 
 sys.dont_write_bytecode = True
 HERE = os.path.dirname(os.path.abspath(__file__))
-sys.path.insert(0, os.path.join(HERE, "..", "..", "tools"))
+sys.path.insert(0, os.path.join(HERE, "..", "..", "tools", "lib"))
 
 import again
 import block
@@ -25,7 +25,7 @@ import metaframe
 import proved
 import status
 import whole
-from drawing import command
+from picture import command
 from reading.files import Folder
 
 # Each command of the tour, the file that it takes, and the pictures that are drawn after it: their kinds and names.

@@ -3,7 +3,7 @@
 The numbers are those by which the tools read a lane.
 """
 
-from drawing.svg import COLOURS, Picture
+from picture.svg import COLOURS, Picture
 from reading.lane_words import HEADERS, ILLEGAL, SEARCHED
 from reading.metaframes import WRONG_STATES, WRONG_SYNCS
 

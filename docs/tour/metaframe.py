@@ -3,7 +3,7 @@
 The script ends with an error if the lane does not have the Sync word and the code where they are drawn.
 """
 
-from drawing.svg import COLOURS, Picture
+from picture.svg import COLOURS, Picture
 from reading.files import must_agree
 from reading.lane_bits import bits_of, sync_words
 from reading.plans import CODE, Plan

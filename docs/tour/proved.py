@@ -3,7 +3,7 @@
 Its boxes are the sections of PROVED; nothing is computed.
 """
 
-from drawing.svg import COLOURS, Picture
+from picture.svg import COLOURS, Picture
 
 WIDTH, HEIGHT = 960, 356
 GREEN, GREEN_FILL, GREY, GREY_FILL = "#1e8449", "#e9f7ef", COLOURS["note"], "#f4f6f7"

@@ -4,7 +4,7 @@ The lines are drawn from the file that `oobwrite` left. What the labels say is c
 error where the samples, the flow file that `oobread` left or the counts that were printed say something else.
 """
 
-from drawing.svg import COLOURS, Picture
+from picture.svg import COLOURS, Picture
 from reading.files import must_agree
 
 PLAN = "status.plan"

@@ -3,7 +3,7 @@
 Its boxes are the rows of the table of commands in REFERENCE; nothing is computed.
 """
 
-from drawing.svg import COLOURS, Picture
+from picture.svg import COLOURS, Picture
 
 WIDTH, HEIGHT = 960, 467
 BOX, TALL = 132, 50

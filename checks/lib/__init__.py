@@ -1,0 +1,1 @@
+"""What the checks share: no file of this folder is a check."""
