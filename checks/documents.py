@@ -1,15 +1,16 @@
 """What checks/documents.sh does, with the program and the repository as its words.
 
 A block between two lines of three backquotes has commands after '$ ', and below each the lines that it prints, both streams in
-one. The commands of a page run one after another in one copy of examples/, beside which the program and the tools stand. Where
-no line stands below a command, the page says in words what it prints. A command has to end in time, and with status 0 unless
-the next one is `echo $?`, below which the page has the status. Where a tool of a block is missing the block is not tried.
+one. The commands of a page run one after another in one copy of examples/, beside the program and the tools; the pages run side by
+side. If no line is below a command, the page says in words what it prints. A command has to end in time, and with status 0 unless
+the next one is `echo $?`, below which the page has the status. If a tool of a block is missing, the block is not tried.
 
 No page of the repository has a place that is still to be filled, as a measured number: a name between two `@`, in capital letters.
 The lists that tools print in place of pages are whole; the words of pages are those of documents.words
 (wording.py), their size is within pages.csv (pages.py), and the names that they cite exist (cited.py).
 """
 
+import concurrent.futures
 import glob
 import os
 import re
@@ -120,22 +121,49 @@ def check_block(tally, shell, page, number, lines):
         tally.count("%s, line %d: %s" % (page, place, command), fault_of(text, wanted, 0 if is_told else shell.status))
 
 
-def check_page(tally, page):
-    found = list(blocks(page))
+class Notes:
+    """The results of one page, kept until the pages before it were reported."""
+
+    def __init__(self):
+        self.failed, self.calls = 0, []
+
+    def count(self, what, wrong=""):
+        self.failed += bool(wrong)
+        self.calls.append(lambda tally: tally.count(what, wrong))
+
+    def not_tried(self, tool, package, what):
+        self.calls.append(lambda tally: tally.not_tried(tool, package, what))
+
+    def report(self, tally):
+        for call in self.calls:
+            call(tally)
+
+
+def tried_page(page):
+    """Runs the commands of a page, up to the block in which FAILURES have failed; what they printed beside the page."""
+    notes, found = Notes(), list(blocks(page))
     if not found:
-        tally.count(page, "it has no command")
-        return
+        notes.count(page, "it has no command")
+        return notes
     with tempfile.TemporaryDirectory(prefix="documents.") as top:
-        shell, failed = Shell(make_folder(top, page)), tally.failed
+        shell = Shell(make_folder(top, page))
         for number, lines in found:
-            if tally.failed - failed >= FAILURES:
-                print("%s, line %d and below: left out after these failures" % (page, number))
-                break
             missing = missing_tool(lines)
+            if notes.failed >= FAILURES:
+                notes.count("%s, line %d and below" % (page, number), "left out after these failures")
+                break
             if missing:
-                tally.not_tried(*missing, "%s, line %d and below" % (page, number))
+                notes.not_tried(*missing, "%s, line %d and below" % (page, number))
             else:
-                check_block(tally, shell, page, number, lines)
+                check_block(notes, shell, page, number, lines)
+    return notes
+
+
+def check_commands(tally):
+    """The commands of all pages. They run in processes of their own, so threads are enough to have the pages side by side."""
+    with concurrent.futures.ThreadPoolExecutor(max_workers=os.cpu_count()) as pool:
+        for notes in pool.map(tried_page, PAGES):
+            notes.report(tally)
 
 
 def check_filled(tally):
@@ -161,6 +189,11 @@ def check_made(tally):
     tally.count("checks/run --list", "it says nothing of " + ", ".join(lacking) if lacking else "")
     listed = subprocess.run([os.path.join(TOP, "tools", "laws"), "--names", "lane_damage"], stdout=subprocess.PIPE, encoding="utf-8").stdout
     tally.count("tools/laws", "" if re.search(r"^joins_to_the_damaged_lane: \w", listed, re.M) else "it does not name a law of lane_damage")
+    listed = subprocess.run([os.path.join(TOP, "tools", "laws"), "--sizes"], stdout=subprocess.PIPE, encoding="utf-8").stdout
+    counted = {line.split()[0]: line.split()[1:] for line in listed.splitlines()}
+    lacking = sorted(set(os.listdir(os.path.join(TOP, "crates"))) - counted.keys())
+    tally.count("tools/laws --sizes", "it says nothing of " + ", ".join(lacking) if lacking else "")
+    tally.count("tools/laws --sizes, all", "" if all(int(count) for count in counted.get("all", ["0"])) else "it counts no lines")
 
 
 def main():
@@ -170,8 +203,7 @@ def main():
     check_words(tally, TOP)
     check_pages(tally, TOP)
     check_cited(tally, TOP)
-    for page in PAGES:
-        check_page(tally, page)
+    check_commands(tally)
     return tally.end()
 
 

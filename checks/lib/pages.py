@@ -1,17 +1,14 @@
 """What checks/documents.sh asks of the size and the sentences of the pages, by checks/pages.csv, which has a row for each page:
 
-    page      its path
+    page      its path, or that of a header, of which only the size is looked at
     reader    the one reader for whom it is
     most      the most words that it may have: tokens with a letter or a digit, commands and their output among them
-    aim       how many it should have; no check
-    forms     the most sentences in the forms below
-    repeats   the most runs of REPEAT words that also are on a page above it in the list, outside commands, output and tables
 
-A page above one of these numbers fails: who adds takes words out, or argues for a new number in the commit. A page below fails nothing,
-and the number goes down with it by hand. A page without a row, or a row without a page, fails.
+A page above its number fails, and so do all together above ALL: take words out, or argue for a new number in the commit. A page without
+a row, or a row without a page, fails. So does a run of REPEAT words that two pages have outside commands, output and tables.
 
-The forms are those of a text that is thought in another language: a noun with 'alone' behind it, where English has 'only' before it, and
-a sentence that begins with What, That, Whether or Of, and so has a clause in place of a subject.
+Three forms of sentences fail, since English has plainer ones: 'alone' behind a noun ('only' before it), 'is no X' ('is not an X'), and a
+sentence that begins with What, That, Whether or Of, and so has a clause for its subject.
 """
 
 import csv
@@ -22,9 +19,11 @@ import re
 from lib.wording import CODE, COMMENT, FENCE, LINK, blank, prose_of, sentences_of
 
 REPEAT = 12
+# The most words of all pages and headers together.
+ALL = 47000
 ALONE = re.compile(r"\b(?!(?:leaves?|left|let|it|he|they|these|those|one)\b)[\w)-]+ alone\b")
+IS_NO = re.compile(r"\b(?<!here )(?:is|are|was|were) no (?!longer\b|more\b|less\b|fewer\b)\w+")
 BEGINS = {"What", "That", "Whether", "Of"}
-NUMBERS = ("most", "forms", "repeats")
 
 
 def words_in(text):
@@ -34,8 +33,9 @@ def words_in(text):
 def forms_in(text):
     """The places of a page with these forms: the number of the line, and its words."""
     prose = "\n".join("" if line.startswith("#") else line for line in prose_of(text).split("\n"))
-    for found in ALONE.finditer(prose):
-        yield prose.count("\n", 0, found.start()) + 1, found[0]
+    for form in (ALONE, IS_NO):
+        for found in form.finditer(prose):
+            yield prose.count("\n", 0, found.start()) + 1, found[0]
     for number, words in sentences_of(prose):
         if len(words) > 3 and words[0].strip("*") in BEGINS and not words[-1].endswith("?"):
             yield number, " ".join(words[:5]) + " .."
@@ -63,33 +63,41 @@ def repeats_in(text, known):
             last = place
 
 
-def told(what, found, most):
-    shown = "".join("\n  line %d: %s" % it for it in found[:5])
-    return "%d %s, at most %d%s" % (len(found), what, most, shown)
+def told(what, found):
+    return [what + "".join("\n  line %d: %s" % it for it in found)] if found else []
 
 
-def fault_of(row, text, known):
-    most = {key: int(row[key]) for key in NUMBERS}
-    words, forms, repeats = len(words_in(text)), list(forms_in(text)), list(repeats_in(text, known))
-    faults = ["%d words, at most %d" % (words, most["most"])] if words > most["most"] else []
-    faults += [told("sentences of a form of pages.csv", forms, most["forms"])] if len(forms) > most["forms"] else []
-    faults += [told("runs of %d words that are on a page above" % REPEAT, repeats, most["repeats"])] if len(repeats) > most["repeats"] else []
-    return "; ".join(faults)
+def faults_of(row, text, known):
+    """What is wrong with a page, beside the runs of words that are known from the pages above it."""
+    words = len(words_in(text))
+    if words > int(row["most"]):
+        yield "%d words, at most %s" % (words, row["most"])
+    if row["page"].endswith(".md"):
+        yield from told("forms of sentences", list(forms_in(text)))
+        yield from told("runs of %d words that another page has" % REPEAT, list(repeats_in(text, known)))
+
+
+def texts_in(top):
+    """The pages and headers by their paths."""
+    paths = glob.glob(os.path.join(top, "**", "*.md"), recursive=True) + glob.glob(os.path.join(top, "include", "*.h"))
+    texts = {}
+    for path in paths:
+        with open(path, encoding="utf-8") as file:
+            texts[os.path.relpath(path, top)] = file.read()
+    return texts
 
 
 def check_pages(tally, top):
     with open(os.path.join(top, "checks", "pages.csv"), encoding="utf-8", newline="") as file:
         rows = list(csv.DictReader(file))
-    pages = {os.path.relpath(page, top) for page in glob.glob(os.path.join(top, "**", "*.md"), recursive=True)}
-    known = {}
+    texts, known = texts_in(top), {}
     for row in rows:
-        if row["page"] not in pages:
-            tally.count("size of " + row["page"], "there is no such page")
-            continue
-        with open(os.path.join(top, row["page"]), encoding="utf-8") as file:
-            text = file.read()
-        tally.count("size of " + row["page"], fault_of(row, text, known))
-        for run, _ in runs_of(text):
-            known.setdefault(run, row["page"])
-    lacking = sorted(pages - {row["page"] for row in rows})
+        text = texts.get(row["page"])
+        tally.count("size and sentences of " + row["page"], "there is no such page" if text is None else "; ".join(faults_of(row, text, known)))
+        if text is not None and row["page"].endswith(".md"):
+            for run, _ in runs_of(text):
+                known.setdefault(run, row["page"])
+    lacking = sorted(texts.keys() - {row["page"] for row in rows})
     tally.count("checks/pages.csv", "it has no row of " + ", ".join(lacking) if lacking else "")
+    words = sum(len(words_in(text)) for text in texts.values())
+    tally.count("all pages and headers", "%d words, at most %d" % (words, ALL) if words > ALL else "")
