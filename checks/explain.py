@@ -335,6 +335,27 @@ def check_guarded(tally, folder):
                 write_files(folder.folder, {name: folder.content(data) if isinstance(data, str) else data})
 
 
+def check_same_file(tally, folder):
+    """That no command is run whose output is a file that it reads, by a symbolic link, a hard link or another spelling of the name."""
+    files = {"s.plan": LINK.replace("out,m", "out,s").encode(), "s.lane.0": b"lane", "s.lane.1": b"lane", "s.words": b"", "s.words.txt": b"text"}
+    cases = [
+        ("receive s.plan", os.symlink, "s.lane.0", "s.1.pcap", "s.1.pcap: it is the file s.lane.0, which `receive` reads: " + INSTEAD),
+        ("gather s.plan", os.link, "s.lane.1", "s.words", "s.words: it is the file s.lane.1, which `gather` reads: " + INSTEAD),
+        ("join s.plan", os.link, "s.words", "s.spans.csv", "s.spans.csv: it is the file s.words, which `join` reads: " + INSTEAD),
+        ("list ./s.words", os.symlink, "s.words", "s.words.txt", "./s.words.txt: it is the file ./s.words, which `list` reads: " + INSTEAD),
+    ]
+    for command, link, name, other, told in cases:
+        write_files(folder.folder, files)
+        if os.path.lexists(folder.path(other)):
+            os.remove(folder.path(other))
+        link(name if link is os.symlink else folder.path(name), folder.path(other))
+        before = sums(folder.folder)
+        done = subprocess.run([TOOL, "--program", PROGRAM] + command.split(" "), cwd=folder.folder, capture_output=True, encoding="utf-8")
+        tally.expect("explain %s with %s as %s" % (command, name, other), (done.returncode, done.stdout, done.stderr), (2, "", "explain: %s\n" % told))
+        tally.expect("explain %s with %s as %s, changed" % (command, name, other), changed(before, sums(folder.folder)), [])
+        os.remove(folder.path(other))
+
+
 def check_ends(tally, folder):
     """How each tool tells its words, and ends where nobody reads its output, or where a file is missing."""
     for tool, words in (("explain", []), ("slots", []), ("picture", []), ("waves", []), ("campaign", ["1", "1"]), ("seconds", [])):
@@ -368,6 +389,7 @@ def main():
         check_causes(tally, causes)
         check_mistakes(tally, folder)
         check_guarded(tally, folder)
+        check_same_file(tally, folder)
         check_ends(tally, folder)
     return tally.end()
 

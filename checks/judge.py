@@ -383,6 +383,10 @@ def refused_of(sent):
     yield {}, ["page.plan", "--speed", "3"], "unrecognized arguments"
     yield {}, ["page.plan", "--html", "no/such/folder.html"], "no/such/"
     yield {}, ["page.plan", "--program", "./absent"], "there is no program"
+    yield {"same.judged.csv": plan_rows("same")}, ["same.judged.csv"], "same.judged.csv: it is the file same.judged.csv, which judge reads"
+    yield {}, ["page.plan", "--html", "./page.lane.0", "--overwrite"], "./page.lane.0: it is the file page.lane.0, which judge reads"
+    os.link(os.path.join(sent.folder, "page.lane.1"), os.path.join(sent.folder, "linked.html"))
+    yield {}, ["page.plan", "--html", "linked.html", "--overwrite"], "linked.html: it is the file page.lane.1, which judge reads"
 
 
 def check_refused(tally, sent):

@@ -17,6 +17,7 @@ from reading.ending import Options
 from reading.files import Refused, shown_name
 from reading.intervals import listed
 from reading.kinds import read_plan
+from reading.outputs import inputs_of, inputs_struck
 from reading.tables import EVENTS, RULES
 from reading.writing import Outputs
 
@@ -111,6 +112,9 @@ def main(words):
     folder = Apart(options.program and os.path.abspath(options.program), os.getcwd())
     plan = read_plan(folder, options.plan)
     table = plan.out + ".judged.csv"
+    struck = next(inputs_struck(folder, [table] + [options.html] * bool(options.html), inputs_of("judge", options.plan, plan)), None)
+    if struck:
+        raise Refused("%s: it is the file %s, which judge reads" % tuple(map(shown_name, struck)))
     if options.html and os.path.lexists(folder.path(options.html)) and not options.overwrite and not is_own_page(folder, options.html):
         raise Refused("%s: it is there, and judge did not make it; --overwrite replaces it" % shown_name(options.html))
     judged = Judgement(folder, plan)

@@ -9,13 +9,11 @@ import subprocess
 import tempfile
 
 from reading.files import Folder, Refused, own_program
-from reading.outputs import WORDS, lane_names, outputs_of
+from reading.outputs import MADE, outputs_of
 from reading.plans import Plan
 
 # The rows of a plan, and of the settings of two ends, that name a file, by the field that does.
 NAMED = {"channel": 2, "back": 2, "flow": 1, "local": 1, "schedule": 1, "oob": 1, "events": 1}
-# The outputs that commands read.
-READ = {"receive": lane_names, "gather": lane_names, "inspect": lane_names, "join": lambda plan: [plan.out + WORDS], "check": lambda plan: [plan.out + WORDS]}
 # What a plan's outputs are called there, and the status of a launcher that cannot build the program.
 OUT, NOT_BUILT = "out", 70
 
@@ -121,7 +119,7 @@ class Apart(Folder):
         """What a command of a plan prints, and the files that it writes, by the names that they would have here."""
         room, links = self.new_room()
         write_rows(os.path.join(room, "run.plan"), links.rows(self.rows(plan.name), OUT))
-        for name in READ.get(command, lambda plan: [])(plan):
+        for name in MADE.get(command, lambda plan: [])(plan):
             os.symlink(os.path.abspath(self.path(name)), os.path.join(room, OUT + name[len(plan.out):]))
         text = self.printed(room, command, links, plan.name, plan.out)
         return text, self.written(room, outputs_of(command, plan.name, plan), plan.out)

@@ -27,17 +27,35 @@ OF_PLAN = {
     "gather": lambda plan: [plan.out + WORDS, plan.out + PLACES], "damage": lambda plan: lane_names(plan, plan.out + ".damaged"),
     "inspect": lambda plan: [plan.out + EVENTS], "check": lambda plan: [plan.out + FAULTS],
     "oobwrite": lambda plan: [plan.out + ".oob"], "oobread": lambda plan: [plan.out + ".oob.flow"]}
-# And of a file that is no plan.
+# And of a file that is not a plan.
 OF_FILE = {"burst": (WORDS,), "join": (".0.pcap", SPANS), "list": (".txt",), "assemble": (".bin",)}
+
+# By command the outputs of other commands that it reads of a plan, and the rows of the plan that name files which it reads.
+MADE = {"receive": lane_names, "gather": lane_names, "inspect": lane_names, "damage": lane_names}
+MADE.update(dict.fromkeys(("join", "check", "stripe"), lambda plan: [plan.out + WORDS]))
+SENT = ("flow", "local")
+NAMED = {"burst": SENT, "send": SENT, "link": (*SENT, "schedule"), "resend": (*SENT, "events"), "damage": ("schedule",), "check": ("flow",),
+         "oobwrite": ("local",), "oobread": ("oob",), "judge": SENT}
 
 
 def outputs_of(command, name, plan, settings=None):
     """The files that a command writes of a file of this name, which may be a plan or settings of two ends."""
     if settings is not None:
-        return ["%s.%s.%d.pcap" % (settings.out, end, channel) for end in "ab" for channel in plan.channels]
+        return ["%s.%s.%d.pcap" % (settings.out, end, channel) for end in "ab" for channel in (plan.channels if plan else ())]
     if plan is not None:
         return OF_PLAN[command](plan) if command in OF_PLAN else []
     return [name + end for end in OF_FILE.get(command, ())]
+
+
+def inputs_of(command, name, plan, settings=None):
+    """The files that a command, or judge, reads of a file of this name."""
+    if plan is None:
+        return [name]
+    captures = list(plan.captures.values()) if settings or command in ("burst", "send", "link", "resend", "judge") else []
+    captures += list(settings.back.values()) if settings else []
+    named = [getattr(plan, key) for key in NAMED.get(command, ())]
+    made = MADE.get("receive" if command == "judge" else command, lambda plan: [])(plan)
+    return [file for file in [name, settings and settings.plan, *captures, *named, *made] if file]
 
 
 def names_captures(plan):
@@ -50,15 +68,16 @@ def is_of_device(folder, plan):
     return not names_captures(plan) and any(folder.has(name) for name in lane_names(plan))
 
 
-def captures_struck(folder, outputs, captures):
-    """The outputs that are captures by another name or by the same, each with that capture."""
+def inputs_struck(folder, outputs, inputs):
+    """The outputs that are inputs by another name or by the same, each with that input."""
     for output in outputs:
-        for capture in captures:
-            if is_same_file(folder.path(output), folder.path(capture)):
-                yield output, capture
+        for name in inputs:
+            if is_same_file(folder.path(output), folder.path(name)):
+                yield output, name
 
 
 def is_same_file(path, other):
+    """Whether two names are those of one file, by its device and inode; or of one that is not there yet."""
     try:
         if os.path.exists(path) and os.path.exists(other):
             return os.path.samefile(path, other)
@@ -73,7 +92,7 @@ def writes_over(folder, plan, command):
     written = outputs_of(command, plan.name, plan)
     if command in MAKERS:
         return next((name for name in written if os.path.lexists(folder.path(name))), None)
-    return next((output for output, _ in captures_struck(folder, written, filter(None, plan.captures.values()))), None)
+    return next((output for output, _ in inputs_struck(folder, written, filter(None, plan.captures.values()))), None)
 
 
 def way_to(folder, plan, *commands):
