@@ -1,9 +1,9 @@
 #!/usr/bin/env bash
-# What calls of the C library cost beside what the header says: the stack of each `new` and of all other calls, painted before, and the
-# memory that each handle keeps, by functions of interlaken_alloc.h that count. Needs an archive as checks/clib.sh does.
+# Compares the stack and the memory that calls of the C library use with what the header says: the stack of each `new` and of all other
+# calls, painted before, and the memory that each handle keeps, by functions of interlaken_alloc.h that count. And runs each command of the
+# program in the stack that README says. Needs an archive as checks/clib.sh does.
 set -u
-top=$(cd "$(dirname "${BASH_SOURCE[0]}")/.." && pwd)
-. "$top/checks/lib/tally.bash"
+. "$(dirname "$0")/lib/program.bash"
 wants_cc
 [ -d "$top/crates/interlaken_c" ] || gives_up 'there is no library to try'
 wants_archive
@@ -59,4 +59,27 @@ holds 'rows of memory in the header' "$rows" 5
 fits calls "$of_others" 1.plan
 fits calls "$of_others" 2.plan
 fits calls "$of_others" "$top/examples/wide.plan"
+
+# The program. The environment is on the stack, too, so it is empty here; and the place of the stack is drawn, so each command runs often.
+stack=$(sed -nE 's/.* ([0-9]+) KB of stack.*/\1/p' "$top/README.md")
+[ -n "$stack" ] || gives_up 'README says no KB of stack'
+cp "$top"/examples/*.* .
+printf 'lanes,64\nmetaframe,2048\nchannel,1,one.pcap\nchannel,2,two.pcap\nout,many\n' >many.plan
+
+# Passes if a command ends with status 0 each time in this stack.
+runs_in_stack() { # WORDS..
+  local statuses='' number
+  for number in 1 2 3 4 5; do
+    (ulimit -s "$stack" && exec env -i "$program" "$@" >/dev/null 2>&1)
+    statuses+=" $?"
+  done
+  holds "$* in $stack KB of stack" "$statuses" ' 0 0 0 0 0'
+}
+for words in 'link damaged.plan' 'link many.plan' 'send two.plan' 'burst two.plan' 'check two.plan' 'stripe two.plan' 'receive two.plan' 'gather two.plan' \
+  'inspect two.plan' 'join two.plan' 'send damaged.plan' 'damage damaged.plan' 'burst one.pcap' 'list one.pcap.words' 'assemble one.pcap.words.txt' \
+  'join one.pcap.words' 'duplex two_ends.duplex' 'oobwrite status.plan' 'oobread status.plan' 'resend again.plan' 'generate 7 drawn'; do
+  # The words of a command have no blanks.
+  # shellcheck disable=SC2086
+  runs_in_stack $words
+done
 ends
