@@ -66,14 +66,14 @@ stack=$(sed -nE 's/.* ([0-9]+) KB of stack.*/\1/p' "$top/README.md")
 cp "$top"/examples/*.* .
 printf 'lanes,64\nmetaframe,2048\nchannel,1,one.pcap\nchannel,2,two.pcap\nout,many\n' >many.plan
 
-# Passes if a command ends with status 0 each time in this stack.
+# Passes if a command ends with status 0 each time in this stack, and with a text.
 runs_in_stack() { # WORDS..
-  local statuses='' number
+  local ends='' number text
   for number in 1 2 3 4 5; do
-    (ulimit -s "$stack" && exec env -i "$program" "$@" >/dev/null 2>&1)
-    statuses+=" $?"
+    text=$(ulimit -s "$stack" && exec env -i "$program" "$@" 2>&1)
+    ends+=" $?${text:+ text}"
   done
-  holds "$* in $stack KB of stack" "$statuses" ' 0 0 0 0 0'
+  holds "$* in $stack KB of stack" "$ends" ' 0 text 0 text 0 text 0 text 0 text'
 }
 for words in 'link damaged.plan' 'link many.plan' 'send two.plan' 'burst two.plan' 'check two.plan' 'stripe two.plan' 'receive two.plan' 'gather two.plan' \
   'inspect two.plan' 'join two.plan' 'send damaged.plan' 'damage damaged.plan' 'burst one.pcap' 'list one.pcap.words' 'assemble one.pcap.words.txt' \
