@@ -1,6 +1,6 @@
 """Whether the files that show the house say what its crates use: crates.txt has a line for each crate, which names the crates, of
 the repository and of the kit, whose items the crate names, and no other; proofs/Lib.antt of a crate shows ('pub mod') the lemmas
-that other crates cite, and no other; docs/CRATES.md has an entry for each crate, and docs/crates.svg a place for each but the programs
+that other crates cite, and no other; docs/CRATES.md has an entry for each crate, and docs/tour/crates.svg a place for each but the programs
 of tests, from which no crate uses one of a higher box. And whether each definition stands once, but for those that checks/twice.csv
 gives a reason for.
 
@@ -87,23 +87,17 @@ def faults_of_proofs(top, crate, cited):
 
 
 def heights_in(path):
-    """The crates in the boxes of the picture, each with the height of its box. `x_` is short for `x_commands`."""
-    heights = {}
+    """The crates in the titles of the boxes of the picture, each with the height of its box."""
     with open(path, encoding="utf-8") as file:
-        for line in file:
-            box, names = re.search(r'<rect x="\d+" y="(\d+)"', line), re.search(r'font-family="monospace">([^<]*)<', line)
-            if box:
-                height = int(box[1])
-            for name in re.findall(r"[a-z0-9_]+", re.sub(r"\([^)]*\)", "", names[1])) if names else []:
-                heights[name + "commands" if name.endswith("_") else name] = height
-    return heights
+        boxes = re.findall(r'<rect class="crates" x="[\d.]+" y="([\d.]+)"[^>]*><title>([^<]*)</title>', file.read())
+    return {name: float(height) for height, names in boxes for name in names.split()}
 
 
 def faults_of_height(crate, line, heights):
     """What is wrong with the place of a crate in the picture: it uses a crate of a higher box, or it has no place."""
     if crate not in heights:
-        return [] if is_test(crate) else ["docs/crates.svg has no place for it"]
-    return ["docs/crates.svg has %s above it" % other for other in line if heights.get(other, heights[crate]) < heights[crate]]
+        return [] if is_test(crate) else ["docs/tour/crates.svg has no place for it"]
+    return ["docs/tour/crates.svg has %s above it" % other for other in line if heights.get(other, heights[crate]) < heights[crate]]
 
 
 def is_test(crate):
@@ -115,7 +109,7 @@ def main(top):
     tally, edges = Tally("house"), edges_of(top)
     with open(os.path.join(top, "docs", "CRATES.md"), encoding="utf-8") as file:
         page = file.read()
-    heights = heights_in(os.path.join(top, "docs", "crates.svg"))
+    heights = heights_in(os.path.join(top, "docs", "tour", "crates.svg"))
     names = {*edges, *sum(edges.values(), [])}
     used = {crate: used_by(top, crate, names) for crate in edges}
     cited = set().union(*(lemmas for _, lemmas in used.values()))

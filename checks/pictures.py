@@ -192,7 +192,7 @@ def check_tour(results, folder):
     for name in sorted(os.listdir(target)):
         with open(os.path.join(target, name), "rb") as drawn, open(os.path.join(TOP, "docs", "tour", name), "rb") as kept:
             results.expect("tour, " + name, drawn.read() == kept.read(), True)
-    results.expect("pictures of the tour", len(os.listdir(target)), 11)
+    results.expect("pictures of the tour", len(os.listdir(target)), 14)
     check_pictures(results, target)
 
 

@@ -4,7 +4,7 @@
 
 The program runs its commands on a copy of examples/; the pictures are written to FOLDER, which is the script's own by default. Those of
 examples/damaged.plan, lanes.svg and stream.svg, and those of two ends, two_ends.svg, are drawn by tools/picture. Each other script here has
-one: status, again, block, control_word and metaframe from files of the commands, whole, proved and lock from tables of their own. What is drawn of a run
+one: status, again, block, control_word and metaframe from files of the commands; whole, proved, crates, device, handles and lock from tables of their own. What is drawn of a run
 is in a file or in the printed text, or was computed from the rules and agrees with both.
 """
 
@@ -20,6 +20,9 @@ sys.path.insert(0, os.path.join(HERE, "..", "..", "tools", "lib"))
 import again
 import block
 import control_word
+import crates
+import device
+import handles
 import lock
 import metaframe
 import proved
@@ -52,7 +55,7 @@ def main():
                 raise SystemExit(1)
             for kind, page in pictures:
                 shutil.copy("page.%s.svg" % kind, os.path.join(target, page + ".svg"))
-        for page in (status, again, whole, proved, lock, block, control_word, metaframe):
+        for page in (status, again, whole, proved, crates, device, handles, lock, block, control_word, metaframe):
             page.draw(folder, os.path.join(target, page.__name__ + ".svg"))
         os.chdir(HERE)
 

@@ -13,7 +13,7 @@ BOXES = [
     (330, 44, 300, 132, True, "run: all commands", ["every call returns, without a panic", "each status has its cause; each refusal its text", "link: exactly the packets that no span meets", "no burst on a channel that is off"]),
     (330, 208, 300, 76, True, "the layers below", ["checksums, bursts, framing, scrambler, codes,", "locks, deskew, packets: as they are defined"]),
     (24, 44, 250, 60, True, "files and output in memory", ["they return what was written (F, T)"]),
-    (24, 116, 250, 60, False, "files of the computer", ["150 lines before the system calls"]),
+    (24, 116, 250, 60, False, "files of the computer", ["the same run over system calls"]),
     (686, 44, 250, 76, True, "C library", ["any pieces, any order: same events;", "misuse changes nothing"]),
     (686, 132, 250, 60, False, "the C caller", ["valid pointers; memory, threads, stack"]),
     (686, 208, 250, 76, False, "tools, Python model, examples", ["judge, probe, lanes, .. ; SystemVerilog;", "the launcher"]),
@@ -38,7 +38,7 @@ def draw(folder, path):
     picture.text(236, 22, "An arrow goes to what is built on it.")
     picture.line(12, 304, WIDTH - 12, 304, COLOURS["grid"])
     picture.text(12, 324, "Trusted", more=BOLD)
-    picture.text(84, 324, "prover and compilers, the kit's crates, the C library of the system, operating system and computer")
+    picture.text(84, 324, "the definitions; prover and compilers, the kit's crates, the system's C library, operating system and computer")
     picture.text(12, 344, "Not claimed", more=BOLD)
     picture.text(104, 344, "that memory suffices, speed, that another device follows this profile")
     picture.save(path)
