@@ -262,7 +262,7 @@ def asked_for():
     parser.add_argument("earlier", metavar="EARLIER", help="a program, or a commit whose release is taken")
     parser.add_argument("megabytes", metavar="MEGABYTES", type=positive, nargs="?", default=100, help="size of the capture; default 100")
     parser.add_argument("size", metavar="SIZE", type=positive, nargs="*", help="lengths of packets in bytes; default 1514 and 64")
-    parser.add_argument("--commands", metavar="NAME,..", type=commands_in, default=every, help="these commands alone")
+    parser.add_argument("--commands", metavar="NAME,..", type=commands_in, default=every, help="only these commands")
     parser.add_argument("--instructions", dest="what", action="store_const", const="instructions", help="no seconds")
     parser.add_argument("--seconds", dest="what", action="store_const", const="seconds", help="no instructions")
     parser.add_argument("--turns", metavar="N", type=positive, default=5, help="runs of each program for the seconds; default 5")

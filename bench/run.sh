@@ -1,6 +1,6 @@
 #!/usr/bin/env bash
 # Processor seconds and peak memory of each command, with md5sum over the same capture in the same run.
-# Arguments: the megabytes of the capture, 100 where none are given, and then the sizes of its packets, 1514 and 64.
+# Arguments: the megabytes of the capture, 100 if none are given, and then the sizes of its packets, 1514 and 64.
 # No part of the gate: the numbers depend on the machine.
 set -eu
 case ${1:-} in -h | --help)

@@ -9,7 +9,7 @@
 #include <stdlib.h>
 #include <string.h>
 
-/* So many bytes of packets wait to be sent, where there are some. */
+/* So many bytes of packets wait to be sent, if there are some. */
 #define WAITING 65536
 
 static uint8_t *load(const char *name, size_t *count) {

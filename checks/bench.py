@@ -80,7 +80,7 @@ def every_command(tally):
 
 
 def itself(tally, folder, size, what, *options):
-    """The program beside itself: rows of the two commands alone, without a fault. It returns the rows."""
+    """The program beside itself: rows of only the two commands, without a fault. It returns the rows."""
     status, text, error = beside([*options, "--commands", ",".join(COMMANDS), PROGRAM, "1", str(size)], folder)
     tally.expect(what + " of the program beside itself", (status, error), (0, ""))
     found = rows(text)

@@ -1,7 +1,7 @@
 #!/usr/bin/env bash
 # Tries the C library: the header's calls beside those of the archive, the C example and the Python module on lanes that the program
 # made, in drawn pieces and orders, beside what `receive` prints and writes; drawn sequences of calls with wrong ones among them, as C
-# and as C++, with the sanitizers where the compiler has them; and each allocation failing. The numbers of the crates, the Python
+# and as C++, with the sanitizers if the compiler has them; and each allocation failing. The numbers of the crates, the Python
 # module and the package for SystemVerilog, and their texts, beside the header's; what else the header says: null with a count of 0, when an
 # event comes, threads. Random damage beside a slow reading of its definition and beside `damage`. A transmitter with packets and control
 # words at random times, whose lanes a receiver decodes. The programs of examples/c beside the commands. Symbol versions, with a program
@@ -66,14 +66,14 @@ same_as_check() { # WHAT PLAN
   holds "faults of $1" "$(python3 -B "$top/checks/clib/checked.py" "$top/examples/python" library/lib/libinterlaken.so "$2" 2>&1)" "$(cat "$out.faults.csv")"
 }
 
-# Passes where the example and `receive` print the same of these lanes, and write the same.
+# Passes if the example and `receive` print the same of these lanes, and write the same.
 same_as_receive() { # WHAT PLAN PREFIX SEED..
   local what=$1 plan=$2 prefix=$3 seed file written wanted
   shift 3
   wanted=$("$program" receive "$plan" 2>&1)
   mkdir -p wanted && rm -f wanted/* && mv "$prefix".*.pcap "$prefix".spans.csv wanted
   for seed; do
-    # No seed is no word.
+    # No seed is not a word.
     # shellcheck disable=SC2086
     holds "$what, seed ${seed:-none}: lines" "$(./receive "$plan" "$prefix" got $seed 2>&1)" "$wanted"
     written=same

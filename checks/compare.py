@@ -2,7 +2,7 @@
 
     python3 compare.py PROGRAM [--kinds KIND,..] [--cases N] [--plans drawn|wide|narrow|both] [--seed S] [--jobs J] [--keep FOLDER]
 
-A case is a folder of input files and a list of words, which model/random_cases.py draws; both run in a copy of it. It agrees where
+A case is a folder of input files and a list of words, which model/random_cases.py draws; both run in a copy of it. It agrees if
 the status, the text and every file are the same, and nothing came on standard error. Of each kind there are N cases, 100 by default,
 with the seeds from S on, which is 0; of `generate` and `channels`, whose cases are large, a tenth of that. With --plans wide, or
 narrow, only seeds whose plan is that count, and with both there are N of each; some kinds have no wide plans, and N narrow ones

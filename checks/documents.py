@@ -35,7 +35,7 @@ PAGES = {"README.md": "", "docs/TOUR.md": "examples", "docs/MORE.md": "examples"
 # What the pages call that a machine may lack: the tools and their Debian packages, by the command that needs them.
 TOOLS = {
     "iverilog": [("iverilog", "iverilog")], "vvp": [("vvp", "iverilog")], "../tools/campaign": [("parallel", "parallel")],
-    # It calls the others where it builds a program.
+    # It calls the others if it builds a program.
     "verilator": [("verilator", "verilator"), ("make", "make"), ("c++", "g++")],
 }
 UNFILLED = re.compile("@[A-Z_]+@")
@@ -85,7 +85,7 @@ class Shell:
         self.folder, self.seconds, self.status = folder, seconds, 0
 
     def run(self, command):
-        """What the command prints; None where it does not end in time."""
+        """What the command prints; None if it does not end in time."""
         script = "(exit %d)\n%s\nprintf '\\n%%d %%s' $? \"$PWD\"" % (self.status, command)
         how = {"stdin": subprocess.DEVNULL, "stdout": subprocess.PIPE, "stderr": subprocess.STDOUT, "encoding": "utf-8", "errors": "replace"}
         shell = subprocess.Popen(["bash", "-c", script], cwd=self.folder, start_new_session=True, **how)

@@ -123,7 +123,7 @@ def make_gathered(folder):
 
 
 def try_layer(tally, folder):
-    """The C layer alone, in drawn pieces and orders."""
+    """Only the C layer, in drawn pieces and orders."""
     wanted = make_lanes(folder)
     events, counts = make_events(folder)
     gathered = make_gathered(folder)
@@ -184,7 +184,7 @@ def try_drive(tally, folder):
 
 
 def try_bare(tally, folder):
-    """tb_live with a device of which it has valid and the lanes alone."""
+    """tb_live with a device of which it only has valid and the lanes."""
     path = folder + "/dpi/tb_live.sv"
     with open(path, encoding="utf-8") as file:
         text = file.read()

@@ -1,7 +1,7 @@
 #!/usr/bin/env bash
 # Whether the checks of this folder can fail. Each that tries the program is run with programs in its place that do not work, and each
-# other one in a copy of the repository that has no crates and no edits: a check passes here where it fails there, in time. Names of
-# checks, as rows, try these alone.
+# other one in a copy of the repository that has no crates and no edits: a check passes here if it fails there, in time. Names of
+# checks, as rows, try only these.
 set -u
 top=$(cd "$(dirname "${BASH_SOURCE[0]}")/.." && pwd)
 . "$top/checks/lib/tally.bash"
@@ -35,7 +35,7 @@ is_skipped() { # CHECK STATUS LAST-LINE
   [ "$2" -eq 77 ] && [ "$tool" != "$3" ] && ! command -v "${tool%% *}" >/dev/null 2>&1
 }
 
-# Runs a check that has to fail. Returns 1 where it cannot be tried.
+# Runs a check that has to fail. Returns 1 if it cannot be tried.
 try() { # SCRIPT WHAT-IS-WRONG
   local check status last
   check=$(basename "$1" .sh)

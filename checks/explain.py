@@ -357,7 +357,7 @@ def check_same_file(tally, folder):
 
 
 def check_ends(tally, folder):
-    """How each tool tells its words, and ends where nobody reads its output, or where a file is missing."""
+    """How each tool tells its words, and ends if nobody reads its output, or where a file is missing."""
     for tool, words in (("explain", []), ("slots", []), ("picture", []), ("waves", []), ("campaign", ["1", "1"]), ("seconds", [])):
         path = os.path.join(TOP, "tools", tool)
         done = subprocess.run([path, "--help"], cwd=folder.folder, capture_output=True, encoding="utf-8")

@@ -2,7 +2,7 @@
 
     python3 gathered.py PROGRAM [--cases N] [--first NUMBER]
 
-For each of N numbers, 60 where it is not said, `generate` makes lanes, with damage or not, and then
+For each of N numbers, 60 if it is not said, `generate` makes lanes, with damage or not, and then
 
     join     of the words that `gather` wrote makes the captures that `receive` makes of the lanes
     check    of these words has a row inside each middle span of `receive`: at a word after the word before it, up to the one after it

@@ -64,7 +64,7 @@ class Case:
         return told.splitlines()
 
     def flow_rows(self):
-        """Random rows of flow control, each with the checksum of itself alone."""
+        """Random rows of flow control, each with the checksum of only itself."""
         plan, rows = plan_of(content(self.folder, "p.plan")), []
         for slot in sorted(self.r.randrange(len(content(self.folder, "o.words")) // WORD + 1) for _ in range(self.r.choice([0, 1, 3, 9]))):
             rows += ["%d,%016x" % (slot, fields.sealed([], word)) for word in flow_words(self.r, plan)]

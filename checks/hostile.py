@@ -23,7 +23,7 @@ WANTED = os.path.join(os.path.dirname(os.path.abspath(__file__)), "hostile.txt")
 METAFRAME = 32
 # The most bytes of a plan, of a file of rows, and of samples, the most events, and the most slots of two ends.
 PLAN, ROWS, SAMPLES, EVENTS, SLOTS = 1048576, 16777216, 4194304, 4194304, 16777215
-# A model is asked for this many slots in place of the most, since by then both ends send idles alone.
+# A model is asked for this many slots in place of the most, since by then both ends only send idles.
 SETTLED = 20000
 # A run of a model has to end by then.
 MODEL_SECONDS = 3600
@@ -302,7 +302,7 @@ def table(made):
 
 
 def maker(run, tally):
-    """Gives files that a command leaves in a run that nothing damages; where it does not the check ends."""
+    """Gives files that a command leaves in a run that nothing damages; if it does not the check ends."""
     def made(words, before, *names):
         ended = run(words, before)
         if ended.status != 0 or any(name not in ended.files for name in names):
@@ -318,7 +318,7 @@ def shortened(kind, lines):
 
 
 def told(name, words, before, ended):
-    """What stands in hostile.txt of a case that ended so; where it left another file changed, or complained, a line more."""
+    """What stands in hostile.txt of a case that ended so; if it left another file changed, or complained, a line more."""
     status, text, error, files = ended
     lines = ["== %s -- %s" % (name, " ".join(words)), "status %s" % status] + shortened("text", text.decode(errors="replace").splitlines())
     created = sorted(set(files) - set(before))

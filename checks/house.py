@@ -76,7 +76,7 @@ def faults_of_line(top, crate, named, used):
 
 
 def faults_of_proofs(top, crate, cited):
-    """What is wrong with the list of a crate's proofs, where it has one."""
+    """What is wrong with the list of a crate's proofs, if it has one."""
     path = os.path.join(top, "crates", crate, "proofs", "Lib.antt")
     if not os.path.exists(path):
         return []

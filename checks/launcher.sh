@@ -68,7 +68,7 @@ launch() { # [with|without] WORDS..
   errors=$(cat "$folder/errors")
 }
 
-# A launch, in one line: the program's name, or nothing where none was run.
+# A launch, in one line: the program's name, or nothing if none was run.
 ran() { # WHAT WANTED [with|without] WORDS..
   local what=$1 wanted=$2
   shift 2

@@ -3,7 +3,7 @@
     python3 listings.py PROGRAM [--files N] [--texts N] [--seed S]
 
 Of N random files, 200 by default, half are words files and half lanes, damaged ones among them. The program has to list each as the
-model does, or to refuse it as the model does; where it lists one, its `assemble` of the text has to give the same bytes, and its
+model does, or to refuse it as the model does; if it lists one, its `assemble` of the text has to give the same bytes, and its
 `list` of these the same text. Of N mutated texts, 2,000 by default, `assemble` has to answer as the model: status, text and files.
 The same seed gives the same files and texts.
 """

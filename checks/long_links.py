@@ -2,11 +2,11 @@
 
     python3 long_links.py PROGRAM [--cases N] [--first NUMBER] [--bytes N] [--jobs J]
 
-For each of N numbers, 8 where it is not said, a plan of up to 13 lanes is drawn, with packets of some thousand bytes in all (--bytes:
-the most that a case has, 6000 where it is not said), so that a lane has many times the 64 words that a lock takes and the bytes that
+For each of N numbers, 8 if it is not said, a plan of up to 13 lanes is drawn, with packets of some thousand bytes in all (--bytes:
+the most that a case has, 6000 if it is not said), so that a lane has many times the 64 words that a lock takes and the bytes that
 the receiver takes at once. Both run `link` of it with drawn skews, inverted bits and dark stretches; then one or two of its lanes are
 replaced by odd ones (noise, zeros, another lane, a lane that is cut, shifted, doubled or spliced), and both run `receive`, `gather`
-and `inspect`. A case agrees where the status, the text and every file are the same.
+and `inspect`. A case agrees if the status, the text and every file are the same.
 """
 
 import argparse

@@ -4,7 +4,7 @@
 
 The files that are mutated are the words files of `join`, `stripe` and `check`, the lanes of `receive`, `gather`, `inspect` and `damage`, the samples of `oobread` and the events of `resend`,
 of the rows of rows/ that end well and have at most 20,000 bytes together. Each command has an equal part of the N runs, 400 by
-default. A run is right where it ends within 20 seconds with status 0, or 5 where the file can be one that is refused (every file is
+default. A run is right if it ends within 20 seconds with status 0, or 5 if the file can be one that is refused (every file is
 a lane), and nothing came on standard error. With --model, of the first --sample runs, or all, MODEL, which is called as the program
 is, gives the same status, text and files. The same seed gives the same runs.
 """
@@ -30,7 +30,7 @@ MODEL_SECONDS = 600
 
 
 def bases(program, tally):
-    """For each command the words and the files before of its rows that end well. The check ends where the program fails one."""
+    """For each command the words and the files before of its rows that end well. The check ends if the program fails one."""
     found = {command: [] for command in COMMANDS}
     for row in map(Row, sorted(os.listdir(ROWS))):
         if row.words[:1] not in [[command] for command in COMMANDS] or row.status != 0 or os.path.exists(row.at("captures")):

@@ -3,7 +3,7 @@
     python3 orders.py PROGRAM TOP
 
 The lanes are those that PROGRAM leaves of a row of `link`; the text of the row has the packets, the drops, the spans, and each lane's
-report. They are fed by the program of the crate rx_orders, which the gate leaves built; where it is absent, or older than its
+report. They are fed by the program of the crate rx_orders, which the gate leaves built; if it is absent, or older than its
 sources, the check is skipped, since to build it all below it is proved.
 """
 
@@ -42,7 +42,7 @@ def told_by(row):
 
 
 def lanes_of(row, program, tally):
-    """The lanes that the program leaves of a row, in order; None where the row fails."""
+    """The lanes that the program leaves of a row, in order; None if the row fails."""
     ended = left_by(program, row.words, row.before)
     if (ended.status, ended.text) != (row.status, row.text):
         tally.count(row.name, "status %s, and text %r" % (ended.status, ended.text[:400]))

@@ -46,7 +46,7 @@ SPOILED = [
     ("damaged.plan", lambda data: data + b"lane,1\n", "damaged.plan", "damaged.plan:8: unknown key 'lane': `lanes`?"),
     ("two_ends.a.2.pcap", lambda data: data[:24], "two_ends.duplex", "two_ends.a.2.pcap: computed "),
 ]
-# Plans of one `out`: what they send is another each time, of as many slots in the third, and in other bursts alone in the fourth.
+# Plans of one `out`: what they send is another each time, of as many slots in the third, and only in other bursts in the fourth.
 STALE_FILES = {"first.plan": "lanes,2\nmetaframe,32\nwarmup,4\nchannel,1,one.pcap\nchannel,2,two.pcap\nschedule,damaged.schedule\nout,stale\n",
                "longer.plan": "lanes,2\nmetaframe,32\nwarmup,4\nchannel,1,one.pcap\nchannel,2,three.pcap\nschedule,damaged.schedule\nout,stale\n",
                "turned.plan": "lanes,2\nmetaframe,32\nwarmup,4\nchannel,1,two.pcap\nchannel,2,one.pcap\nschedule,damaged.schedule\nout,stale\n",
@@ -239,7 +239,7 @@ def check_stale(results, folder):
 
 
 def check_changed(results, folder):
-    """A schedule that was changed after the run is refused, where it would have damaged what came undamaged, or moved what did not."""
+    """A schedule that was changed after the run is refused, if it would have damaged what came undamaged, or moved what did not."""
     plan = STALE_FILES["first.plan"].replace("damaged.schedule", "changed.schedule").replace("stale", "changed")
     for before, after, command, words, told in CHANGED:
         write_files(folder, {"changed.plan": plan.encode(), "changed.schedule": before.encode()})

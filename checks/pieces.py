@@ -6,15 +6,15 @@ LIBRARY is faults/failing.c, built. A write that fails adds nothing, so what sta
 a failing call has to end with status 0 and leave the files that are looked at:
 
     burst   of a hundred packets of 1,514 bytes: two pieces of 65,536 bytes, a rest, and the text in one write
-    send    of eight lanes of 171,520 bytes: pieces of 65,536 bytes alone, then the rests in the order of creation, then the text
+    send    of eight lanes of 171,520 bytes: only pieces of 65,536 bytes, then the rests in the order of creation, then the text
     stripe  of the words of this stream: the same
     damage  of these lanes, without a schedule: the same
-    gather  of a lane of 4,000 groups: pieces of the words and of the table alone, then the rests in the order of creation, then the text
+    gather  of a lane of 4,000 groups: only pieces of the words and of the table, then the rests in the order of creation, then the text
     receive of a lane with a hundred packets: at the last read whose failing ends the run, the capture has a piece already
     gather  of that of 4,000 groups: there the words and the table have a piece already
     inspect of such a lane with a bad word in each: there the table has a piece already
     generate of a case: each of its files is written to its end before the next, pieces and then a rest
-    duplex  of a hundred packets both ways: pieces of both captures alone, then the rests in the order of creation, then the text
+    duplex  of a hundred packets both ways: only pieces of both captures, then the rests in the order of creation, then the text
     check, inspect, oobwrite, oobread, resend of one large output each: pieces of it, a rest, and the text in one write
 """
 
@@ -41,7 +41,7 @@ class Checks:
         self.program, self.library, self.tally = program, library, Tally("pieces")
 
     def files(self, words, before, names=()):
-        """The files after a run that nothing disturbs; the check ends where it fails, or one of these names is not among them."""
+        """The files after a run that nothing disturbs; the check ends if it fails, or one of these names is not among them."""
         right = left_by(self.program, words, before)
         lacking = [name for name in names if name not in right.files]
         if right.status != 0 or right.error or lacking:

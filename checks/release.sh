@@ -2,7 +2,7 @@
 # Whether release/ is that of this tree: its program is whole, runs, and is byte for byte what the gate has built, and so is its archive
 # of the C library, but for running; and its sums of sources are those of the sources. Another kit than that of the release may build
 # other bytes of the same sources, so what it has built is not compared. INTERLAKEN_BUILT names the program that the gate has built,
-# which then has to be there; without it, one that was built in this checkout counts where it is not older than its sources, and so
+# which then has to be there; without it, one that was built in this checkout counts if it is not older than its sources, and so
 # does the archive.
 set -u
 top=$(cd "$(dirname "${BASH_SOURCE[0]}")/.." && pwd)

@@ -1,7 +1,7 @@
 """What checks/slots.sh does, with the program and the repository as its words.
 
 Of each link: every slot of the stream stands where `tools/slots` says by its formula (the sent lane has there a control word exactly
-where the words file has one); the ends of each span are control words that arrived as they were sent; the lost packets are those that
+if the words file has one); the ends of each span are control words that arrived as they were sent; the lost packets are those that
 `link` printed, at the places of their words, and meet the span that is named and none before; the damaged bits differ from the sent
 ones, and lie in the spans that are named.
 """
@@ -286,7 +286,7 @@ class Dump:
         self.expect(what, (status, text, error.count("\n"), [part for part in told if part not in error], "`interlaken link" in error or "`interlaken burst" in error or "`interlaken send" in error), (2, "", 1, [], False))
 
     def check_program(self):
-        """Tables that the program makes apart, of the lanes alone."""
+        """Tables that the program makes apart, only of the lanes."""
         wanted = {words: self.table(*words) for words in ((), ("--packets",), ("--faults",), ("--events",))}
         for name in os.listdir(self.folder):
             if name.startswith(self.name + ".") and ".lane." not in name and not name.endswith(".plan"):

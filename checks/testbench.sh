@@ -1,6 +1,6 @@
 #!/usr/bin/env bash
 # Compares the SystemVerilog benches of examples/testbench with the program. For lanes as sent and damaged ones, what the one bench
-# prints of a lane is what `receive` prints of it, and, where it is stated here, what the rules give. The lanes of idles that the
+# prints of a lane is what `receive` prints of it, and, if it is stated here, what the rules give. The lanes of idles that the
 # other makes are those of `send`, and `receive` locks on them. Needs iverilog; where verilator is there too, of version 5 or later,
 # it lints both benches.
 set -u
@@ -12,7 +12,7 @@ folder=$(mktemp -d)
 trap 'rm -rf "$folder"' EXIT
 cp "$top"/examples/{one,two}.pcap "$folder" && cd "$folder" || exit 1
 
-# Passes where the program and a bench, or what is stated, have one text, which is not empty.
+# Passes if the program and a bench, or what is stated, have one text, which is not empty.
 agrees() { # WHAT FOUND WANTED
   holds "$1" "$2" "${3:-some text}"
 }
@@ -94,7 +94,7 @@ damaged 'three wrong states in a row' 'lane 0 locks=2 first=6432 lost=1 unframed
 damaged 'no state after the declaring Sync' 'lane 0 locks=2 first=6432 lost=1 unframed=0 bad=0 sync=0 state=0 diag=0' \
   "flip,0,$(bit_of 3 1 3)"
 damaged 'a bit in every twelfth word' '' $(seq -f 'flip,0,%.0f' 6500 797 30000)
-# A word that was meant as zeros leaves the CRC32 as it was, and the Diagnostic word is wrong for the bad word alone.
+# A word that was meant as zeros leaves the CRC32 as it was, and the Diagnostic word is only wrong for the bad word.
 {
   printf '\xa1\xb2\xc3\xd4\0\2\0\4\0\0\0\0\0\0\0\0\0\4\0\0\0\0\0\1' # the header of a capture
   printf '\0\0\0\0\0\0\0\0\0\0\0\100\0\0\0\100'                    # and of a packet of 64 bytes
@@ -132,7 +132,7 @@ for lane in 0 1; do
 done
 
 # What receive reports of a made lane; and of one in which nothing is sent inverted, which it does not look at and the bench does. The
-# bench knows the word plain alone.
+# bench only knows the word plain.
 got=$(printf '%s\n' "$clean" 'got channel=1 packets=0 bytes=0' 'spans 2' \
   'dropped bad=0 crc=0 protocol=0 lost=0 end=0 toolong=0 unlisted=0 sender=0')
 cp "$bench/idle.plan" .

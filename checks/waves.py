@@ -40,7 +40,7 @@ def run(words, folder):
 
 
 def printed(tally, folder, command, name):
-    """What the program prints of a plan; nothing more can be tried where it fails."""
+    """What the program prints of a plan; nothing more can be tried if it fails."""
     done = run([PROGRAM, command, name + ".plan"], folder)
     if done.returncode != 0 or not done.stdout:
         tally.give_up("%s %s" % (command, name), "status %d: %s" % (done.returncode, done.stdout + done.stderr))
@@ -83,7 +83,7 @@ class Waves:
 
 
 def plain(value):
-    """A value as a text or a number, whatever its width; None where it is unknown."""
+    """A value as a text or a number, whatever its width; None if it is unknown."""
     if value[0] == "s":
         return value[1:]
     if value[0] == "r":

@@ -78,7 +78,7 @@ class Missing(NamedTuple):
 
 
 def missing(sent: Sent, listed: Sequence[ListedPacket], packets: Sequence[Packet], spans: Sequence[Span]) -> list[Missing]:
-    """The listed packets that have their end word, where no packet came on their channel from the place of the SOP word
+    """The listed packets that have their end word, if no packet came on their channel from the place of the SOP word
     to that of the end word."""
     came = {(packet.channel, packet.first, packet.last) for packet in packets}
     found = []

@@ -62,7 +62,7 @@ def packets_of_plan(plan: Plan, captures: Captures) -> list[tuple[int, bytes]]:
 
 
 def rows_of_file(name: str | None, read) -> list:
-    """What a reader makes of a file of rows, where the plan names one."""
+    """What a reader makes of a file of rows, if the plan names one."""
     return [] if name is None else read_input(name, files.ROWS_LIMIT, read)
 
 
@@ -80,7 +80,7 @@ def source_of_plan(plan: Plan) -> Source:
 
 
 def source_of_capture(name: str) -> Source:
-    """A capture alone is the source of channel 0, with a calendar of this one entry."""
+    """A capture without a plan is the source of channel 0, with a calendar of this one entry."""
     packets = Captures(LONGEST_PACKET).packets(name)
     return Source(DEFAULT_SHAPE, [0], [0], [(0, packet) for packet in packets])
 
@@ -103,7 +103,7 @@ def stream_lines(source: Source, stream: Stream, listed: Sequence[ListedPacket])
 
 
 def held_lines(stream: Stream) -> list[str]:
-    """Where the stream is held, the line with the least listed channel that has bytes left."""
+    """If the stream is held, the line with the least listed channel that has bytes left."""
     return [texts.held_line(min(stream.left))] if stream.is_held else []
 
 
@@ -114,7 +114,7 @@ def stream_answer(source: Source, stream: Stream, made: Sequence[tuple[str, byte
 
 
 def burst(name: str) -> Answer:
-    """The words of the payload stream of a plan, or of a capture alone."""
+    """The words of the payload stream of a plan, or of a capture without one."""
     plan = read_plan(name, plans.plan_of) if is_plan(name) else None
     source = source_of_capture(name) if plan is None else source_of_plan(plan)
     stream = payload_stream(source)
@@ -142,7 +142,7 @@ def lanes_of_plan(plan: Plan, limit: int) -> list[bytes]:
     return [read_input(lane_name(plan.out, lane), limit, bytes) for lane in range(plan.link.lanes)]
 
 
-# An idle that resets the calendar, with all flow bits 1 and the CRC24 of itself alone.
+# An idle that resets the calendar, with all flow bits 1 and the CRC24 of only itself.
 FILLER = Word(CONTROL, 0x81FFFF0000188177)
 
 
@@ -199,7 +199,7 @@ def outcome_lines(outcome: Outcome, settings: Settings) -> list[str]:
 
 
 def join(name: str) -> Answer:
-    """What the words of a words file come to, by a plan, or on channel 0 alone."""
+    """What the words of a words file come to, by a plan, or only on channel 0."""
     if is_plan(name):
         plan = read_plan(name, plans.plan_of)
         out, settings, link_type, words_name = plan.out, plan.settings, plan.link_type, plan.out + ".words"

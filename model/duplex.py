@@ -32,7 +32,7 @@ class Side:
 
     def hear(self, slot: int, word: Word) -> list[FlowRow]:
         """Takes the word that the other end sent `delay` slots ago. A flow row is a control word, with bits 23:0
-        replaced by the CRC24 of the word alone; the other end's first control word is left out."""
+        replaced by the CRC24 of only the word; the other end's first control word is left out."""
         self.got.append(word)
         if word.kind == DATA:
             self.queue[self.current] += 1
@@ -43,12 +43,12 @@ class Side:
         return [] if is_first else [FlowRow(slot, fields.sealed([], word.number))]
 
     def drain(self, slot: int) -> None:
-        """Then each queue loses a word where the slot is a multiple of `drain`, unless it is empty."""
+        """Then each queue loses a word if the slot is a multiple of `drain`, unless it is empty."""
         if slot % self.settings.drain == 0:
             self.queue = {channel: max(count - 1, 0) for channel, count in self.queue.items()}
 
     def local_rows(self, slot: int) -> list[LocalRow]:
-        """A local row for each channel: on exactly where the queue is below `mark`."""
+        """A local row for each channel: on exactly if the queue is below `mark`."""
         return [LocalRow(slot, channel, count < self.settings.mark) for channel, count in self.queue.items()]
 
 

@@ -94,7 +94,7 @@ def epoch_from(group: tuple[Sync, ...], lanes: Sequence[Sequence[Lock]], link: L
 
 
 def break_place(epoch: Epoch, link: Link) -> Place:
-    """The break of an epoch of lanes stands at the place of the first word that is not there: where a group is whole, and a Sync after
+    """The break of an epoch of lanes stands at the place of the first word that is not there: if a group is whole, and a Sync after
     it is not there, that is index 0 of the group a metaframe on."""
     group, index = epoch.groups[-1][0], len(epoch.words) - link.group * (len(epoch.groups) - 1)
     return Place(group, index) if index < link.group else Place(group + link.period, 0)

@@ -27,7 +27,7 @@ def lane_events(bits: str, found: Sequence[Lock], link: Link) -> list[Event]:
 
 
 def lock_events(bits: str, lock: Lock, link: Link) -> Iterator[Event]:
-    """The events of one word lock; the losing word has its cause where a lock was declared, and else `unframed`."""
+    """The events of one word lock; the losing word has its cause if a lock was declared, and else `unframed`."""
     unbalanced = None if lock.declared is None else unbalanced_word(bits, lock)
     for number in range(len(lock.words)):
         tests = {**events_of_word(lock, number, link), "balance": number == unbalanced, "lock": number == 0}

@@ -66,7 +66,7 @@ def is_control_word(number: int) -> bool:
 
 
 def channel_number(number: int, wide: bool) -> int:
-    """Where numbers are narrow it is the channel, bits 39:32; where they are wide it is that and 256 times bits
+    """If numbers are narrow it is the channel, bits 39:32; if they are wide it is that and 256 times bits
     31:24."""
     return channel_field(number) + (256 * multiple_use(number) if wide else 0)
 

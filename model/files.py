@@ -44,7 +44,7 @@ def store_fault(name: str) -> Stop:
 
 
 def content(name: str, limit: int) -> bytes:
-    """A file read whole; it is refused where it is absent, or above its limit."""
+    """A file read whole; it is refused if it is absent, or above its limit."""
     try:
         with open(name, "rb") as file:
             data = file.read(limit + 1)

@@ -19,12 +19,12 @@ class LocalRow(NamedTuple):
 
 
 def is_valid(number: int) -> bool:
-    """A word of a flow row is valid where it is a control word and its CRC24 is that of the word alone."""
+    """A word of a flow row is valid if it is a control word and its CRC24 is the CRC24 of only the word."""
     return fields.is_control_word(number) and fields.is_right([], number)
 
 
 class Incoming:
-    """The calendar state that flow rows give, in order: each channel is on but where the last entry for it is 0."""
+    """The calendar state that flow rows give, in order: each channel is on but if the last entry for it is 0."""
 
     def __init__(self, entries: Sequence[int]):
         self.entries = entries
@@ -51,7 +51,7 @@ class Incoming:
         return range(16 * self.valid, min(16 * self.valid + 16, len(self.entries)))
 
     def numbered(self, number: int) -> int | None:
-        """Valid words are numbered from the last reset word at or before them, as 0, where no invalid word stands
+        """Valid words are numbered from the last reset word at or before them, as 0, if no invalid word stands
         between."""
         if not is_valid(number):
             return None

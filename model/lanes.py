@@ -46,7 +46,7 @@ def metaframe_crc(payloads: Sequence[int]) -> int:
 
 
 def is_right_diagnostic(metaframe: Sequence[Word]) -> bool:
-    """A received Diagnostic word is right where it is Control, has 011001 in bits 63:58, no word of its metaframe is
+    """A received Diagnostic word is right if it is Control, has 011001 in bits 63:58, no word of its metaframe is
     Bad, and its bits 31:0 are the CRC32 of the metaframe."""
     kind, number = metaframe[-1]
     has_its_form = kind == CONTROL and fields.bits(number, 63, 58) == DIAGNOSTIC_TYPE
@@ -99,7 +99,7 @@ def excess(payload: int) -> int:
 
 
 def goes_inverted(payload: int, disparity: int) -> bool:
-    """Where the disparity is not below 0 and the excess is above 0, or where both are below 0."""
+    """If the disparity is not below 0 and the excess is above 0, or if both are below 0."""
     return excess(payload) > 0 if disparity >= 0 else excess(payload) < 0
 
 
@@ -169,8 +169,8 @@ class Damage(NamedTuple):
 
 
 def received(sent: str, damage: Damage) -> str:
-    """A received lane has as many ones in front as its skew says, and then the sent bits: a sent bit is 0 where it is
-    dark, else inverted where an odd number of flips names it."""
+    """A received lane has as many ones in front as its skew says, and then the sent bits: a sent bit is 0 if it is
+    dark, else inverted if an odd number of flips names it."""
     lane = list(sent)
     for bit in damage.flips:
         if bit < len(lane):

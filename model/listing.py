@@ -20,7 +20,7 @@ def end_text(end: int) -> str:
 
 
 def word_line(word: Word) -> str:
-    """The line of a word: `data X` and `bad X`; of a word sent as control its fields, where it is a control word, and
+    """The line of a word: `data X` and `bad X`; of a word sent as control its fields, if it is a control word, and
     else `control X`."""
     number = word.number
     if word.kind != CONTROL or not fields.is_control_word(number):

@@ -107,7 +107,7 @@ class Watch:
         self.cause = Cause.HEADERS if self.wrong_headers == WRONG_HEADERS else cause
 
     def take_unlocked(self, number: int, word: Word) -> Cause | None:
-        """The lock is declared at the fourth of four Syncs that stand a metaframe apart. Where none is within six
+        """The lock is declared at the fourth of four Syncs that stand a metaframe apart. If none is within six
         metaframes, the search is given up."""
         if word == (CONTROL, SYNC):
             self.syncs.add(number)
@@ -132,8 +132,8 @@ class Watch:
         return None
 
     def take_state(self, is_first: bool, word: Word) -> Cause | None:
-        """The key is that of the state word after the declaring Sync, and runs by itself. A lock is lost where that is
-        no Scrambler State word, or at the third wrong one in a row; one is wrong where it does not carry the state of
+        """The key is that of the state word after the declaring Sync, and runs by itself. A lock is lost if that is
+        no Scrambler State word, or at the third wrong one in a row; one is wrong if it does not carry the state of
         the key."""
         if is_first:
             self.state = word.number & lanes.ONES_58

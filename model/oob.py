@@ -24,7 +24,7 @@ def block_checksum(block: Sequence[int]) -> list[int]:
 
 
 def frame(states: Sequence[bool]) -> bytes:
-    """The samples of a frame: a bit is two samples, clock 0 and then 1; sync is 1 on the first bit alone."""
+    """The samples of a frame: a bit is two samples, clock 0 and then 1; sync is only 1 on the first bit."""
     bits = [bit for block in blocks(states) for bit in [*block, *block_checksum(block)]]
     samples = []
     for place, bit in enumerate(bits):
@@ -54,7 +54,7 @@ def samples_of(data: bytes) -> bytes:
 
 
 def taken(samples: bytes) -> Iterator[tuple[int, int]]:
-    """A bit is taken where the clock was 0 and is 1: the numbers of these samples, and the samples. Before the first
+    """A bit is taken if the clock was 0 and is 1: the numbers of these samples, and the samples. Before the first
     sample the clock was 0."""
     clock = 0
     for slot, sample in enumerate(samples):

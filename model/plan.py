@@ -102,13 +102,13 @@ class Plan:
     def __init__(self, rows: Sequence[Row]):
         self.rows = rows
         self.once = {**PLAN_DEFAULTS, **{row.key: row.values[0] for row in rows if row.key not in ("channel", "entry")}}
-        # The channels in the order of their rows, each with the capture of its packets where it has one.
+        # The channels in the order of their rows, each with the capture of its packets if it has one.
         self.listed = {row.values[0]: (row.values[1:] or [None])[0] for row in rows if row.key == "channel"}
         self.channels = sorted(self.listed)
         self.entries = [row.values[0] for row in rows if row.key == "entry"] or self.channels
 
     def file(self, key: str) -> str | None:
-        """The name of a file, where the plan names one."""
+        """The name of a file, if the plan names one."""
         return self.once.get(key)
 
     @property

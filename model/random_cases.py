@@ -498,7 +498,7 @@ def repeated_metaframe(r: Random, link: Link) -> list[int]:
 # ---- what no receiver can see
 
 def mimic_case(r: Random) -> Case:
-    """`link` with a schedule that makes other words of those that were sent: words that pass, framing where none is,
+    """`link` with a schedule that makes other words of those that were sent: words that pass, framing if none is,
     lanes a metaframe apart."""
     d = Drawn(r)
     stream = payload_stream(d.source()).words
@@ -519,7 +519,7 @@ def flips_between(lane: int, at: int, sent: str, wanted: str) -> list[list]:
 
 
 def forged_words(r: Random, stream: Sequence[Word], link: Link) -> list[list]:
-    """Words in place of others, as mutated words of the same number: the payload of a lane's bits changes where that of
+    """Words in place of others, as mutated words of the same number: the payload of a lane's bits changes if that of
     the word does."""
     rows = []
     wanted = list(stream)
@@ -534,7 +534,7 @@ def forged_words(r: Random, stream: Sequence[Word], link: Link) -> list[list]:
 
 
 def forged_data(r: Random, words: list[Word], at: int) -> None:
-    """A data word is another, and the control word after it has the CRC24 of that; or is as it was, where the data
+    """A data word is another, and the control word after it has the CRC24 of that; or is as it was, if the data
     differ by a multiple of the polynomial."""
     at = next((place for place in range(at, len(words)) if words[place].kind == DATA), None)
     if at is not None:
@@ -544,7 +544,7 @@ def forged_data(r: Random, words: list[Word], at: int) -> None:
 
 
 def forged_lock(r: Random, stream: Sequence[Word], link: Link) -> list[list]:
-    """Syncs a metaframe apart at another position than the sender's, with state words after them or not, where the
+    """Syncs a metaframe apart at another position than the sender's, with state words after them or not, if the
     sender's own are damaged or not."""
     lane = r.randrange(link.lanes)
     bits = lanes.lane_bits(stream, link, lane)
@@ -598,7 +598,7 @@ FORGERIES = (forged_words, forged_words, forged_words, forged_lock, forged_lock,
 
 
 def forged_case(r: Random) -> Case:
-    """The lanes of a stream that some damage makes others of which pass: other words, locks where none were, and Diagnostic words that
+    """The lanes of a stream that some damage makes others of which pass: other words, locks if none were, and Diagnostic words that
     are right and tell that something is not well."""
     d = Drawn(r)
     words, link = payload_stream(d.source()).words, d.plan.link

@@ -98,7 +98,7 @@ def spoiled(r: Random, rows: Sequence[Sequence[object]]) -> bytes:
 
 
 def damaged_text(r: Random, data: bytes) -> bytes:
-    """A text with bytes that are no text, or with quotes at odd places."""
+    """A text with bytes that are not text, or with quotes at odd places."""
     at = r.randrange(len(data) + 1)
     return data[:at] + r.choice([b"\xff", b"\xc3", b"\xed\xa0\x80", b'"', b'""', b",", b"\n", b"\r", b"\0"]) + data[at:]
 
@@ -308,7 +308,7 @@ def dark(r: Random, lane: int, link: Link, bits: int) -> list[list]:
 
 
 def locked_bit(r: Random, link: Link, bits: int) -> int:
-    """A bit at which a lane is locked, where nothing happened before."""
+    """A bit at which a lane is locked, if nothing happened before."""
     return r.randrange(min(4 * link.period, bits - 1), bits)
 
 

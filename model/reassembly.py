@@ -21,7 +21,7 @@ class Settings(NamedTuple):
 
 class Burst(NamedTuple):
     """A verified burst word with the data words between it and the next word of its run; the end format of that word,
-    0000 where the run ends."""
+    0000 if the run ends."""
     sop: bool
     first: Place
     data: list[int]
@@ -78,7 +78,7 @@ def bytes_of(piece: Sequence[Burst]) -> bytes:
 
 
 def drop_of(piece: Sequence[Burst], is_first: bool, is_last: bool, settings: Settings, ends_for: str) -> str | None:
-    """Why a piece of a listed channel gives no packet, or nothing where it gives one or is not told of. It is the first
+    """Why a piece of a listed channel gives no packet, or nothing if it gives one or is not told of. It is the first
     of its channel in the run, or the last."""
     end = piece[-1].end
     if not piece[0].sop:

@@ -39,7 +39,7 @@ class Resending:
         self.back: deque[int] = deque()
 
     def send(self) -> None:
-        """It does nothing where no piece is left, the window is used up or the way is full."""
+        """It does nothing if no piece is left, the window is used up or the way is full."""
         if self.next < self.pieces and self.next < self.acknowledged + self.window and len(self.way) < ROOM:
             self.way.append(self.next)
             self.next += 1
@@ -77,7 +77,7 @@ class Resending:
             self.back.popleft()
 
     def repeat(self) -> None:
-        """What would arrive next arrives once more, right after; nothing where the way is empty or full."""
+        """What would arrive next arrives once more, right after; nothing if the way is empty or full."""
         if self.way and len(self.way) < ROOM:
             self.way.appendleft(self.way[0])
 

@@ -19,14 +19,14 @@ class Rules(NamedTuple):
 
 
 class Fault(NamedTuple):
-    """A row: the number of the word, the rule, and the channel of the burst word concerned, where the rule has one."""
+    """A row: the number of the word, the rule, and the channel of the burst word concerned, if the rule has one."""
     word: int
     rule: str
     channel: int | None
 
 
 class Burst(NamedTuple):
-    """A burst word, the Data words right after it, and, where a Control word closes it, the number of that."""
+    """A burst word, the Data words right after it, and, if a Control word closes it, the number of that."""
     number: int
     data: Sequence[int]
     closing: int | None
@@ -61,7 +61,7 @@ def ends(number: int) -> bool:
 
 
 def after_last(words: Sequence[Word], kind: int) -> Sequence[Word]:
-    """The words after the last one of a kind; all where there is none."""
+    """The words after the last one of a kind; all if there is none."""
     found = [at for at, word in enumerate(words) if word.kind == kind]
     return words[found[-1] + 1:] if found else words
 
@@ -124,7 +124,7 @@ class Place:
         return found
 
 
-# ---- each rule: None where it is not broken, and else the channel of its row
+# ---- each rule: None if it is not broken, and else the channel of its row
 
 Broken = tuple[int | None]
 
@@ -153,7 +153,7 @@ def crc(p: Place) -> Broken | None:
 
 
 def data(p: Place) -> Broken | None:
-    """The word before is a Control word that is no burst word, or there is none."""
+    """The word before is a Control word that is not a burst word, or there is none."""
     return row(p.word.kind == DATA and (not p.before or p.before[-1].kind == CONTROL and not is_burst_word(p.before[-1])))
 
 
@@ -191,7 +191,7 @@ def fill(p: Place) -> Broken | None:
 
 
 def part(p: Place) -> Broken | None:
-    """With no end format it closes a burst with Data whose number of Data words is no multiple of 4."""
+    """With no end format it closes a burst with Data whose number of Data words is not a multiple of 4."""
     burst = p.closed_with_data()
     return None if burst is None else row(not burst.has_ended and len(burst.data) % 4 != 0, p.channel(burst.number))
 
@@ -255,7 +255,7 @@ def multi(p: Place) -> Broken | None:
 
 
 def calendar(p: Place) -> Broken | None:
-    """Reset Calendar is not as is due: after a word with it, exactly where all entries were carried, and before the first such word
+    """Reset Calendar is not as is due: after a word with it, exactly if all entries were carried, and before the first such word
     no later than that; or a flow bit past the last entry is 0."""
     if not is_accepted(p.word):
         return None

@@ -603,7 +603,7 @@ class Laws(unittest.TestCase):
                     self.assertLessEqual(end.peaks[channel], bound)
 
     def test_status_is_read_back(self):
-        """By the rows of samples each channel is on exactly where it was on in the last frame."""
+        """By the rows of samples each channel is on exactly if it was on in the last frame."""
         for seed in range(30):
             d = random_inputs.Drawn(Random(seed))
             rows = random_inputs.local_rows(d.r, d.plan.channels, 700)

@@ -18,7 +18,7 @@ class Stretch(NamedTuple):
 
 
 class Span(NamedTuple):
-    """The places of the last verified word before it and of the first after it, where there are such, and why it is
+    """The places of the last verified word before it and of the first after it, if there are such, and why it is
     there."""
     after: Place | None
     before: Place | None
@@ -42,7 +42,7 @@ def fault_of(words: Sequence[Word], begin: int, end: int) -> str | None:
 
 
 def breaks_protocol(begin: int, has_data: bool, end: int) -> bool:
-    """b is no control word by its number, or data are in it and a is not an accepted burst word, or b has an end format
+    """b is not a control word by its number, or data are in it and a is not an accepted burst word, or b has an end format
     and no data are in it."""
     if not fields.is_control_word(end):
         return True
@@ -69,8 +69,8 @@ class Run(NamedTuple):
 
 
 def clean_runs(epochs: Sequence[Epoch], parts: Sequence[Stretch]) -> list[Run]:
-    """A control word is verified where it ends a passing stretch. Between two that follow one another there is a span
-    exactly where the stretch of the second does not begin right after the first."""
+    """A control word is verified if it ends a passing stretch. Between two that follow one another there is a span
+    exactly if the stretch of the second does not begin right after the first."""
     runs: list[Run] = []
     for number, epoch in enumerate(epochs):
         # The run that goes on, if one does.
@@ -86,7 +86,7 @@ def clean_runs(epochs: Sequence[Epoch], parts: Sequence[Stretch]) -> list[Run]:
 
 
 def fault_spans(epochs: Sequence[Epoch], runs: Sequence[Run]) -> list[Span]:
-    """One span stands before the first verified word and one after the last, and one between each two runs; where no
+    """One span stands before the first verified word and one after the last, and one between each two runs; if no
     word is verified there is one with no ends. A span with a first end is for the first fault after that end; one
     without is for the start."""
     ends = [(place_of(epochs, run, 0), place_of(epochs, run, -1), run.ends_for) for run in runs]

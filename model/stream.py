@@ -27,7 +27,7 @@ class Chunk(NamedTuple):
 
 
 def piece_size(remaining: int, shape: Shape) -> int:
-    """The bytes of the next chunk: all where at most BurstMax remain, BurstMax - BurstMin where they are below BurstMax
+    """The bytes of the next chunk: all where at most BurstMax remain, BurstMax - BurstMin if they are below BurstMax
     + BurstMin, and BurstMax else."""
     if remaining <= shape.burst_max:
         return remaining
@@ -86,7 +86,7 @@ class OpenStream:
         return list(self.chunks)
 
     def ready(self) -> list[int]:
-        """A channel is ready where it is listed, is on, and has bytes left."""
+        """A channel is ready if it is listed, is on, and has bytes left."""
         return [channel for channel in self.chunks if self.incoming.is_on(channel)]
 
     def in_burst(self) -> bool:
@@ -126,7 +126,7 @@ class OpenStream:
         return number
 
     def control(self, burst: bool, sop: bool, channel: int, next_end: int) -> int:
-        """Every control word carries its calendar entries, its CRC24, and the end of the chunk before it, where that
+        """Every control word carries its calendar entries, its CRC24, and the end of the chunk before it, if that
         was a last one."""
         reset, flow = self.outgoing.flow_of(self.control_words)
         number = fields.control_number(burst, sop, self.end, reset, flow, channel % 256, channel // 256)
@@ -144,7 +144,7 @@ class Stream(NamedTuple):
 
     @property
     def is_held(self) -> bool:
-        """The stream is held where some listed channel has bytes left at the finish slot."""
+        """The stream is held if some listed channel has bytes left at the finish slot."""
         return bool(self.left)
 
 

@@ -8,8 +8,8 @@ is_released() { # FOLDER
     read -r sum 2>/dev/null <"$1/release/library_sources.sha256" && [ "$sum" = "$(sum_of_sources "$1" "$library")" ]
 }
 
-# Prints the path of an archive of these sources: what was built in this checkout, where it is not older than a file that it is built
-# of, or else that of the release. A status that is not 0 where there is neither.
+# Prints the path of an archive of these sources: what was built in this checkout, if it is not older than a file that it is built
+# of, or else that of the release. A status that is not 0 if there is neither.
 find_archive() { # FOLDER
   local built=$1/crates/$library/out/lib$library.a
   if [ -f "$built" ] && ! is_older "$built" "$1" "$library"; then

@@ -41,7 +41,7 @@ find_parts() { # FOLDER [CRATE]
 }
 
 # SHA-256 of all that the program, or another crate, is built of: the crates' lines, what HANDLES allows, and each file by its SHA-256
-# and its name. Nothing, and a status that is not 0, where a file cannot be read.
+# and its name. Nothing, and a status that is not 0, if a file cannot be read.
 sum_of_sources() { # FOLDER [CRATE]
   local lines parts sum
   find_parts "$@"

@@ -96,7 +96,7 @@ struct known {
 
 static struct known absent;
 static struct bytes plan, sender_plan, lanes[2];
-static const uint8_t *long_piece; /* LONG_PIECE bytes, or NULL where no address space is left for so many */
+static const uint8_t *long_piece; /* LONG_PIECE bytes, or NULL if no address space is left for so many */
 
 static uint32_t lane_result(const struct known *k, uint32_t lane) {
   if (!k->has) return INTERLAKEN_NO_RECEIVER;
@@ -184,7 +184,7 @@ static void try_report(struct known *k) {
   want("report", result == (uint32_t)(!k->has ? INTERLAKEN_NO_RECEIVER : lane < 2 ? INTERLAKEN_DONE : INTERLAKEN_NO_LANE));
 }
 
-/* A lane is in a declared lock where it has more locks than lost ones. */
+/* A lane is in a declared lock if it has more locks than lost ones. */
 static void try_state(struct known *k) {
   interlaken_report report;
   uint32_t lane = some_lane(), found = 99, result = interlaken_receiver_lane_state(&k->receiver, lane, &found);
@@ -226,7 +226,7 @@ static void sequence(void) {
   want("nothing leaks", live == 0);
 }
 
-/* Where an allocation fails the call has no memory, or does without it. */
+/* If an allocation fails the call has no memory, or does without it. */
 static void each_allocation(void) {
   long fails, refused = 0, taken = 1;
   for (fails = 0; fails < taken; fails++) {
@@ -458,7 +458,7 @@ static void judge_bad(struct judged *k) {
   k->data = 0, k->burst = k->empty = k->opened = 0, k->after_bad = 1;
 }
 
-/* It is no control word that a receiver accepts. */
+/* It is not a control word that a receiver accepts. */
 static void judge_zero(struct judged *k) {
   if (k->empty) add_fault(k, INTERLAKEN_RULE_EMPTY, k->words - 1, 1);
   add_fault(k, INTERLAKEN_RULE_CONTROL, k->words, 0);
@@ -854,7 +854,7 @@ static void decode(struct sender *k, struct decoded *d) {
   interlaken_receiver_free(&receiver);
 }
 
-/* The packets that a receiver of its lanes gives are those that it took, of each channel in their order: all where the channel is on at the
+/* The packets that a receiver of its lanes gives are those that it took, of each channel in their order: all if the channel is on at the
  * end. What `sent` said is so by the words that were made then. */
 static void try_delivery(struct sender *k) {
   static struct decoded decoded;

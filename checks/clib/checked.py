@@ -32,7 +32,7 @@ def rises(faults, number):
 
 
 def heard_at(word):
-    """The word of a flow row as it is given. The checksum of a verified word is not looked at: a row with a wrong one is no control word."""
+    """The word of a flow row as it is given. The checksum of a verified word is not looked at: a row with a wrong one is not a control word."""
     return word if crc24(word >> 24 << 24) == word & 0xFFFFFF else 0
 
 

@@ -43,7 +43,7 @@ try_versions() {
 # and one with a call more of a version whose calls are listed, give no library.
 try_further_calls() {
   local header=further/include/interlaken.h
-  # tools/library takes the archive of a release on such a machine alone, and otherwise has one built.
+  # tools/library only takes the archive of a release on such a machine, and otherwise has one built.
   if [ "$(uname -sm)" != 'Linux x86_64' ]; then
     echo "$name: not tried, this is not Linux on x86-64: a library with a call more"
     return
@@ -118,7 +118,7 @@ names_below() { # HEADING FILE
     grep -o '`[^`]*`' | tr -d '`'
 }
 
-# What the header says besides results; the threads once more where cc has their sanitizer.
+# What the header says besides results; the threads once more if cc has their sanitizer.
 try_promises() {
   local version
   version=$(sed -n 's/^#define INTERLAKEN_VERSION_[A-Z]* //p' "$include/interlaken.h" | tr '\n' .)
@@ -183,7 +183,7 @@ same_as_tables() { # WHAT PLAN PIECE
   "$program" receive "$plan" >received.txt && "$program" inspect "$plan" >/dev/null && "$program" gather "$plan" >/dev/null &&
     "$program" check "$plan" >/dev/null || gives_up "the tables of $plan are not made"
   INTERLAKEN_PROGRAM=$program "$top/tools/slots" "$plan" --faults >slots.csv 2>&1
-  # No flow is no word.
+  # No flow is not a word.
   # shellcheck disable=SC2086
   ./monitor "$plan" "$out" "$3" lanes,rules,packets,drops,spans $flow >told.txt 2>&1
   holds "$what: rules" "$(grep '^rule ' told.txt | LC_ALL=C sort)" "$(awk -F, 'NR == 1 && $0 != "word,rule,channel,lane,metaframe,bit"

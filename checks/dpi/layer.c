@@ -132,7 +132,7 @@ static unsigned piece(const struct file *file, unsigned count, unsigned long lon
   return left;
 }
 
-/* Takes all events that there are; 1 where the end is among them. */
+/* Takes all events that there are; 1 if the end is among them. */
 static int take(void *receiver) {
   for (;;) {
     unsigned kind, channel, length, why, known[2], index[2];
@@ -261,7 +261,7 @@ static void try_wrong_packets(void *transmitter, unsigned count) {
   want("take_bits of none", interlaken_dpi_take_bits(transmitter, 0, 0, &bits), DONE);
 }
 
-/* The bits of a lane to the receiver, so many bytes at most, in pieces of any bits; 1 where some came. */
+/* The bits of a lane to the receiver, so many bytes at most, in pieces of any bits; 1 if some came. */
 static int pass(void *transmitter, void *receiver, unsigned lane, unsigned most) {
   unsigned long long bits;
   unsigned char byte;

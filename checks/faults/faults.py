@@ -7,13 +7,13 @@ local file, what `burst` and `send` make of it, and a schedule; samples and even
 undisturbed run has to have status 0 and print a text, and the library has to count calls of each kind in it, writes of a file and of
 the text among them. A run in which one call failed has to end by itself
 
-    with status 6 where memory was refused, 1 where an open or a read failed, 1 or 7 where a write failed; then each file that
+    with status 6 where memory was refused, 1 if an open or a read failed, 1 or 7 if a write failed; then each file that
     is not as it was holds a prefix of what the undisturbed run leaves there, no file is gone, and the text is the line of the
-    fault or nothing (after status 7 a prefix of the undisturbed text); where an input cannot be opened or read, no file has changed,
+    fault or nothing (after status 7 a prefix of the undisturbed text); if an input cannot be opened or read, no file has changed,
     except for lanes, which receive, gather and inspect read during the work;
     or, where memory was refused, as the undisturbed run does: status, text and files; but not after each refusal of a case;
 
-and with nothing on standard error. The time is bounded: where a case has more calls than its share of the time allows, some of
+and with nothing on standard error. The time is bounded: if a case has more calls than its share of the time allows, some of
 them, spread over all, are tried, LEAST of them in any case, and a line says how many.
 """
 
@@ -108,7 +108,7 @@ class Case:
         return left_by(self.program, self.words, self.before, SECONDS, {"LD_PRELOAD": self.library, **more})
 
     def undisturbed(self):
-        """The run without the library; None, and a failure, where it is not one in which something can fail."""
+        """The run without the library; None, and a failure, if it is not one in which something can fail."""
         right = left_by(self.program, self.words, self.before, SECONDS)
         if right.status == 0 and right.text and not right.error:
             return right
@@ -116,7 +116,7 @@ class Case:
         return None
 
     def calls(self, right):
-        """Each call of the run, as the library counts them: its kind and its number. None where it does not see enough of them."""
+        """Each call of the run, as the library counts them: its kind and its number. None if it does not see enough of them."""
         with tempfile.NamedTemporaryFile() as file:
             file.write(bytes(8 * len(KINDS)))
             file.flush()

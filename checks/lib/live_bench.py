@@ -20,7 +20,7 @@ def write(folder, name, data):
 
 
 def content(folder, name):
-    """The bytes of a file; none where there is no such file."""
+    """The bytes of a file; none if there is no such file."""
     if not os.path.exists(os.path.join(folder, name)):
         return b""
     with open(os.path.join(folder, name), "rb") as file:

@@ -24,7 +24,7 @@ class Feeding:
         return min((fed for fed, over in zip(self.fed, self.over) if not over), default=self.link.most + 1)
 
     def feed(self, lane, count):
-        """How many of so many bytes are taken, where the receiver has told all it can."""
+        """How many of so many bytes are taken, if the receiver has told all it can."""
         taken = min(count, len(self.link.data[lane]) - self.fed[lane], model.RING - self.fed[lane] + self.used[lane])
         self.fed[lane] += taken
         return taken
@@ -172,7 +172,7 @@ class Receiving(Numbered):
         self.put("rfin %d %d" % (self.handle, lane), "%d" % result)
 
     def is_due(self):
-        """Whether the next event is known; None where that is not foretold here, when some lanes are at their ends."""
+        """Whether the next event is known; None if that is not foretold here, when some lanes are at their ends."""
         over, link = self.feeding.over, self.link
         if all(over):
             return self.next < len(link.events)

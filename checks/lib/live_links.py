@@ -116,7 +116,7 @@ def cut_lanes(r, plan, folder):
 
 
 def receiver_rows(r, rows, channels):
-    """The plan of the receiver, which may lack a channel that is sent, or know shorter packets alone."""
+    """The plan of the receiver, which may lack a channel that is sent, or only know shorter packets."""
     absent, longest = r.choice(channels) if len(channels) > 1 and r.randrange(3) == 0 else None, r.choice([64, 100, None, None, None])
     rows = [row for row in rows if row[0] != "local" and not (row[0] in ("channel", "entry") and row[1] == absent)]
     return [("max_packet", longest) if row[0] == "max_packet" and longest else row for row in rows]

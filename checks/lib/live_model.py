@@ -96,7 +96,7 @@ class Told:
 
     def __init__(self, settings):
         self.settings, self.events = settings, []
-        # The last verified word, and why a span is open after it; none where a clean run goes on.
+        # The last verified word, and why a span is open after it; none if a clean run goes on.
         self.after, self.why = None, "start"
         # Of each channel that had a burst in this run its open fragment, or None after one that has ended.
         self.open = {}
@@ -163,7 +163,7 @@ class Told:
 
 
 def events_of(found, plan, is_over):
-    """The events of the locks of each lane. Where the lanes go on, an epoch whose bits are over is not yet at its end."""
+    """The events of the locks of each lane. If the lanes go on, an epoch whose bits are over is not yet at its end."""
     epochs = epochs_of_lanes(found, plan.link)
     told, parts = Told(plan.settings), spans.stretches(epochs)
     for number, epoch in enumerate(epochs):
@@ -275,7 +275,7 @@ class Sender:
         return DONE
 
     def flow(self, word):
-        """The checksum is not looked at: the word counts as one with that of itself alone."""
+        """The checksum is not looked at: the word counts as one with the checksum of only itself."""
         if self.stream.closed is not None:
             return FINISHED
         row = FlowRow(len(self.stream.words), fields.sealed([], word))

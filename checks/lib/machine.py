@@ -70,7 +70,7 @@ def patience(seconds):
 
 
 def pool_of(jobs):
-    """Processes that share the work; none where one is enough, or the machine has no shared memory, as in a bare container."""
+    """Processes that share the work; none if one is enough, or the machine has no shared memory, as in a bare container."""
     try:
         return multiprocessing.Pool(jobs) if jobs > 1 else None
     except OSError:
@@ -78,7 +78,7 @@ def pool_of(jobs):
 
 
 def each(work, cases, jobs=1, at_once=1):
-    """What the work gives of each case, in their order, by so many processes where the machine has them."""
+    """What the work gives of each case, in their order, by so many processes if the machine has them."""
     pool = pool_of(jobs)
     if pool is None:
         yield from map(work, cases)

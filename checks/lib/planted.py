@@ -139,7 +139,7 @@ class LaneOut:
         return crc32(data)
 
     def put(self, tag, payload, is_illegal=False):
-        """A word as its 67 bits, inverted where the disparity asks for it."""
+        """A word as its 67 bits, inverted if the disparity asks for it."""
         if self.bug.payload_reversed:
             payload = reversed_bits(payload, 64)
         excess = 2 * payload.bit_count() - 64 - 1

@@ -2,7 +2,7 @@
 name=$(basename "$0" .sh)
 passed=0 failed=0
 
-# Passes where the two texts are equal. A check that has failed 20 times, and passed nothing, ends, as with tally.py.
+# Passes if the two texts are equal. A check that has failed 20 times, and passed nothing, ends, as with tally.py.
 holds() { # WHAT FOUND WANTED
   if [ "$2" = "$3" ]; then
     passed=$((passed + 1))
@@ -16,7 +16,7 @@ holds() { # WHAT FOUND WANTED
   fi
 }
 
-# Ends the check where the rest cannot be tried since something is wrong.
+# Ends the check if the rest cannot be tried since something is wrong.
 gives_up() { # WHY
   failed=$((failed + 1))
   echo "$name: $1"
@@ -39,7 +39,7 @@ ends() {
   exit
 }
 
-# Ends the script where a tool is not there.
+# Ends the script if a tool is not there.
 wants() { # TOOL PACKAGE
   ! command -v "$1" >/dev/null 2>&1 || return 0
   skips "$1" "$2"
@@ -51,7 +51,7 @@ skips() { # TOOL PACKAGE
   exit 77
 }
 
-# Ends the script where cc is not there, or has no headers of the C library: gcc only recommends the package that has them.
+# Ends the script if cc is not there, or has no headers of the C library: gcc only recommends the package that has them.
 wants_cc() {
   wants cc gcc
   echo '#include <dlfcn.h>' | cc -E -o /dev/null - 2>/dev/null || skips dlfcn.h libc6-dev

@@ -1,11 +1,11 @@
 """How a check counts what it tried, and how it ends.
 
     tally = Tally("rows")
-    tally.count("a row", "status 4 and not 0")    what was tried, and what is wrong with it: nothing where it passed
-    tally.expect("a status", found, wanted)       passes where the two are equal
+    tally.count("a row", "status 4 and not 0")    what was tried, and what is wrong with it: nothing if it passed
+    tally.expect("a status", found, wanted)       passes if the two are equal
     sys.exit(tally.end())                         prints the last line, and gives the exit status
 
-The last line of a check is `NAME: P passed, F failed`, and its exit status is 1 where something failed or nothing passed. Where a
+The last line of a check is `NAME: P passed, F failed`, and its exit status is 1 where something failed or nothing passed. If a
 tool is missing the last line is `NAME: skipped, no TOOL (Debian package PACKAGE)`, and the exit status 77.
 """
 
@@ -34,7 +34,7 @@ class Tally:
         self.end()
 
     def count(self, what, wrong=""):
-        """One thing was tried. Where it failed, `wrong` says why, and that is printed."""
+        """One thing was tried. If it failed, `wrong` says why, and that is printed."""
         if not wrong:
             self.passed += 1
             return
@@ -58,7 +58,7 @@ class Tally:
         sys.exit(77)
 
     def not_tried(self, tool, package, what):
-        """A part cannot be tried on this machine; `package` is the Debian package of the tool, or none where there is none."""
+        """A part cannot be tried on this machine; `package` is the Debian package of the tool, or none if there is none."""
         source = " (Debian package %s)" % package if package else ""
         print("%s: not tried, no %s%s: %s" % (self.name, tool, source, what), flush=True)
 

@@ -1,5 +1,5 @@
 """What checks/documents.sh finds in the words of the pages by lists: words that the glossary replaces, terms with a second name,
-sentences that are too long, names of pages that are no links, and links that lead nowhere.
+sentences that are too long, names of pages that are not links, and links that lead nowhere.
 
 The lists are in documents.words, with a line for each entry and empty lines and lines of '#' between them:
 

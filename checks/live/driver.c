@@ -144,7 +144,7 @@ static void say_bytes(struct script *s, const uint8_t *bytes, size_t count) {
   s->said[s->used] = 0;
 }
 
-/* Says so where a call wrote past what it gave. */
+/* Says so if a call wrote past what it gave. */
 static void say_rest(struct script *s, const uint8_t *bytes, size_t given, size_t count) {
   size_t n;
   for (n = given; n < count && !is_raw; n++)
@@ -522,7 +522,7 @@ static int make_refused(struct script *s, const struct entry *e, char **w, long 
   return 0;
 }
 
-/* Each allocation of a call fails, and then none where it was not done before. */
+/* Each allocation of a call fails, and then none if it was not done before. */
 static void make_each(struct script *s, const struct entry *e, char **w, int modes) {
   long fail, refused = 0;
   int mode, again = 1;

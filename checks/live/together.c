@@ -1,4 +1,4 @@
-/* Threads with an inspector, a gatherer and a checker each, over the same lanes at once: each finds what one thread alone finds. And each
+/* Threads with an inspector, a gatherer and a checker each, over the same lanes at once: each finds what one single thread finds. And each
  * allocation of each `new` fails once, after which the handle has nothing, and a second call of `new` opens it.
  *
  *     together PLAN PREFIX LANES */

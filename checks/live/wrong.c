@@ -130,7 +130,7 @@ uint32_t __wrap_interlaken_transmitter_packet(interlaken_transmitter *t, uint16_
   return result;
 }
 
-/* What `flow` gives, without anything that it does: a packet without bytes is refused first where the transmitter is finished. */
+/* What `flow` gives, without anything that it does: a packet without bytes is refused first if the transmitter is finished. */
 static uint32_t flow_result(interlaken_transmitter *t) {
   uint8_t byte = 0;
   uint32_t result = __real_interlaken_transmitter_packet(t, 0, &byte, 0);

@@ -1,6 +1,6 @@
 """Draws the events of a link that sends again: the sender on the left, the receiver on the right, and what travels between them.
 
-The paths are computed from the events file by the rules of both ends. The script ends with an error where the line that `resend`
+The paths are computed from the events file by the rules of both ends. The script ends with an error if the line that `resend`
 printed and the words that it wrote are not those that come of it.
 """
 
@@ -34,7 +34,7 @@ class Path:
         return (SENDER, RECEIVER) if self.is_piece else (RECEIVER, SENDER)
 
     def start(self, columns, last):
-        """Where it sets out: at its side, or, where it is a copy, on the way of the other."""
+        """Where it sets out: at its side, or, if it is a copy, on the way of the other."""
         y = height(self.begins)
         if self.copied is None:
             return columns[self.sides()[0]], y
@@ -42,7 +42,7 @@ class Path:
         return from_x + (to_x - from_x) * (y - from_y) / (to_y - from_y), y
 
     def aim(self, columns, last):
-        """Where it arrives, or would have where it is lost; what is still on its way arrives after the last moment."""
+        """Where it arrives, or would have if it is lost; what is still on its way arrives after the last moment."""
         return columns[self.sides()[1]], height(last + 1 if self.ends is None else self.ends)
 
 
@@ -70,7 +70,7 @@ class Link:
         return path.number
 
     def event(self, name, moment):
-        """Does an event; false where it does nothing."""
+        """Does an event; false if it does nothing."""
         way = self.answers_on_way if name.endswith("back") else self.pieces_on_way
         kind = name[:-4] if name.endswith("back") else name
         if name in ("send", "rewind"):

@@ -1,7 +1,7 @@
 """Draws the samples of a status: the three lines by sample number, with the frames, their entries and checksum bits, and their rows.
 
 The lines are drawn from the file that `oobwrite` left. What the labels say is computed from the rules, and the script ends with an
-error where the samples, the flow file that `oobread` left or the counts that were printed say something else.
+error if the samples, the flow file that `oobread` left or the counts that were printed say something else.
 """
 
 from picture.svg import COLOURS, Picture

@@ -29,7 +29,7 @@ static struct lane lanes[LANES];
 static interlaken_plan numbers; /* of the plan */
 static uint64_t drops[DROPS], span_count;
 static const char *out_prefix;
-static uint64_t drawn; /* the state of the drawn numbers; 0 where none are drawn */
+static uint64_t drawn; /* the state of the drawn numbers; 0 if none are drawn */
 
 static FILE *create_spans(const char *out) {
   char name[4096];
@@ -87,7 +87,7 @@ static void take_span(FILE *out, const interlaken_event *event) {
   span_count++;
 }
 
-/* Takes all events that there are; 1 where the end is among them. Kinds of later versions are passed over. */
+/* Takes all events that there are; 1 if the end is among them. Kinds of later versions are passed over. */
 static int take_events(interlaken_receiver *receiver, FILE *spans) {
   interlaken_event event;
   for (;;) {
@@ -108,7 +108,7 @@ static uint32_t below(uint32_t bound) {
   return (uint32_t)(drawn >> 20) % bound;
 }
 
-/* Feeds a piece of a lane, or finishes it where all its bytes were taken. */
+/* Feeds a piece of a lane, or finishes it if all its bytes were taken. */
 static void feed_lane(interlaken_receiver *receiver, uint32_t number) {
   struct lane *lane = &lanes[number];
   size_t left = lane->file.count - lane->fed, taken;

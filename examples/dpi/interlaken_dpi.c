@@ -1,5 +1,5 @@
 /* Both ends of an Interlaken link, damage between them, and checks of lanes and words, for a bench in SystemVerilog: the functions that
- * interlaken_dpi.sv imports, over the C library of interlaken.h. It is C99 and C++. Of a simulator it needs svdpi.h alone, which each
+ * interlaken_dpi.sv imports, over the C library of interlaken.h. It is C99 and C++. Of a simulator it only needs svdpi.h, which each
  * has. The calls are said in interlaken_dpi.sv.
  *
  * A handle is the address of a `live`, a `drive`, a `hurt`, a `look`, a `judge` or a `crop`, which stays until the simulation ends: a call
@@ -25,7 +25,7 @@ struct live {
   struct lane lanes[LANES];
   interlaken_plan numbers; /* of the plan */
   uint8_t *packet; /* the one that came last */
-  uint32_t length; /* of it; 0 where the last event was none */
+  uint32_t length; /* of it; 0 if the last event was none */
   struct live *other;
 };
 
@@ -160,7 +160,7 @@ int interlaken_dpi_gatherer_report(void *gatherer, unsigned int lane, unsigned l
 }
 #endif
 
-/* The bytes of an array in their order, where the simulator keeps them so; otherwise NULL. */
+/* The bytes of an array in their order, if the simulator keeps them so; otherwise NULL. */
 static uint8_t *whole(const svOpenArrayHandle array) {
   return svSizeOfArray(array) == svSize(array, 1) ? (uint8_t *)svGetArrayPtr(array) : NULL;
 }
@@ -245,7 +245,7 @@ int interlaken_dpi_close(void *receiver) {
   return (int)interlaken_receiver_free(&live->receiver);
 }
 
-/* The lane of this number, where the handle has a receiver with such a lane that is not finished. */
+/* The lane of this number, if the handle has a receiver with such a lane that is not finished. */
 static int find_lane(struct live *live, unsigned int number, struct lane **lane) {
   if (live == NULL || live->packet == NULL) return INTERLAKEN_NO_RECEIVER;
   if (number >= live->numbers.lanes) return INTERLAKEN_NO_LANE;
@@ -253,7 +253,7 @@ static int find_lane(struct live *live, unsigned int number, struct lane **lane)
   return (*lane)->finished ? INTERLAKEN_FINISHED : INTERLAKEN_DONE;
 }
 
-/* Has the receiver take the bits: NO_ROOM where it does not take all. */
+/* Has the receiver take the bits: NO_ROOM if it does not take all. */
 static int push(struct live *live, unsigned int number, struct lane *lane) {
   uint32_t taken = 0, result;
   if (lane->count == 0) return INTERLAKEN_DONE;

@@ -230,7 +230,7 @@ class Misuse(Exception):
 
 
 class BadPlan(Exception):
-    """The plan is refused: the cause, the row from 1 (0 where a key is missing), and the missing key."""
+    """The plan is refused: the cause, the row from 1 (0 if a key is missing), and the missing key."""
 
     def __init__(self, cause: Cause, row: int, key: Key):
         super().__init__("row %d: %s" % (row, cause.name) if row else "%s: %s" % (cause.name, key.name))
@@ -265,7 +265,7 @@ class Dropped:
 
 @dataclass(frozen=True)
 class Span:
-    """A fault span, with the verified words before it and after it, where there are such."""
+    """A fault span, with the verified words before it and after it, if there are such."""
 
     after: Optional[Place]
     before: Optional[Place]
@@ -305,7 +305,7 @@ class Report:
 
 @dataclass(frozen=True)
 class RuleFault:
-    """A word, counted from 0, that breaks a rule, and the channel, where the rule is on one."""
+    """A word, counted from 0, that breaks a rule, and the channel, if the rule is on one."""
 
     word: int
     rule: Rule
@@ -315,7 +315,7 @@ class RuleFault:
 @dataclass(frozen=True)
 class Counts:
     """What a transmitter was given on a channel, and what it sent of it. A burst is sent once its burst word was made: then all its bytes
-    count, and its packet where it is the last burst of one."""
+    count, and its packet if it is the last burst of one."""
 
     packets_given: int
     packets_sent: int
@@ -347,7 +347,7 @@ class GatheredWord:
 
 @dataclass(frozen=True)
 class GatheredBreak:
-    """An epoch ends: the place, the cause, and the number in `OUT.words` of the bad word that stands for it where an epoch follows."""
+    """An epoch ends: the place, the cause, and the number in `OUT.words` of the bad word that stands for it if an epoch follows."""
 
     at: Place
     why: Fault
@@ -763,7 +763,7 @@ class Receiver(_OfPlan):
         raise ValueError("bits of lane %d wait" % lane)
 
     def next(self) -> Optional[Event]:
-        """The next event; None where there is none so far, and after the end. Events of kinds that are not known here are passed over. An
+        """The next event; None if there is none so far, and after the end. Events of kinds that are not known here are passed over. An
         event comes once each lane that is not finished has been fed up to the byte that shows it."""
         event = _Event()
         self._call("next", event)
@@ -875,7 +875,7 @@ class Transmitter(_OfPlan):
         self._call("close")
 
     def take_bits(self, lane: int, count: int) -> Optional[int]:
-        """The next `count` bits of a lane as a number, the first highest. None where there are not so many, as after the end: then none was
+        """The next `count` bits of a lane as a number, the first highest. None if there are not so many, as after the end: then none was
         taken. What was made of them waits for the next call."""
         wanted = _within(count, 63, "count")
         self._take_bits(lane, 0)
@@ -968,7 +968,7 @@ class Checker(_OfPlan):
         self._call("finish")
 
     def next(self) -> Optional[RuleFault]:
-        """The next fault that is due; None where none is."""
+        """The next fault that is due; None if none is."""
         fault = _RuleFault()
         self._call("next", fault)
         return RuleFault(fault.word, Rule(fault.rule), fault.channel if fault.has_channel else None) if fault.rule else None
@@ -990,11 +990,11 @@ class Damage(_Opened):
         self._opened()
 
     def flip(self, lane: int, bit: int) -> None:
-        """Inverts a bit of a lane once more. Where it was in a piece before it raises Misuse, of PASSED, and nothing happens."""
+        """Inverts a bit of a lane once more. If it was in a piece before it raises Misuse, of PASSED, and nothing happens."""
         self._call("flip", _lane(lane), _bit(bit))
 
     def dark(self, lane: int, first: int, bits: int) -> None:
-        """Makes this many bits of a lane 0, from one on. Those that have passed stay as they came out; where all have it raises Misuse, of
+        """Makes this many bits of a lane 0, from one on. Those that have passed stay as they came out; if all have it raises Misuse, of
         PASSED."""
         self._call("dark", _lane(lane), _bit(first), _bit(bits))
 

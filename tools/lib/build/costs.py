@@ -20,7 +20,7 @@ def graph_of(path):
 
 
 def costs_in(path):
-    """The rows of a file of costs by their crates; none where the file is absent."""
+    """The rows of a file of costs by their crates; none if the file is absent."""
     if not os.path.exists(path):
         return {}
     with open(path, newline="") as file:

@@ -24,7 +24,7 @@ class Guess:
         self.expected += self.seconds[name]
 
     def left(self, done=(), running=()):
-        """The seconds that are left, where some crates are done and others run since so many seconds: the rest is played through,
+        """The seconds that are left, if some crates are done and others run since so many seconds: the rest is played through,
         `jobs` crates at once, and first those with the longest chain above them."""
         pace = self.taken / self.expected
         now, done = 0, set(done)

@@ -62,8 +62,8 @@ def report(costs, most):
 
 def main(top):
     words = argparse.ArgumentParser(prog="costs", description="What the proof of a crate spends its time on.")
-    words.add_argument("--over", default=top, metavar="CHECKOUT", help="a checkout in which `rt ci` proved the crates below")
-    words.add_argument("--most", type=int, default=25, metavar="N", help="no more rows than N")
+    words.add_argument("--over", default=top, metavar="CHECKOUT", help="a checkout in which `rt ci` proved the crates below; by default this one")
+    words.add_argument("--most", type=int, default=25, metavar="N", help="at most N rows")
     words.add_argument("crate")
     given = words.parse_args()
     folder = kit_folder()

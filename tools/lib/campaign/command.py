@@ -49,21 +49,21 @@ def options_of(words):
     parser = Options(prog="campaign", description=told)
     parser.add_argument("first", metavar="FIRST", type=whole(0, MOST_NUMBER))
     parser.add_argument("last", metavar="LAST", type=whole(0, MOST_NUMBER))
-    parser.add_argument("folder", metavar="FOLDER", help="gets the tables; the same call goes on where it was cut off, and does again what was not done")
-    parser.add_argument("--plan", metavar="PLAN", help="`link` of this plan with schedules that are drawn by the number, in place of `generate`")
+    parser.add_argument("folder", metavar="FOLDER", help="the folder of the tables; the same call continues a campaign that was interrupted, and repeats runs that are not done")
+    parser.add_argument("--plan", metavar="PLAN", help="runs `link` of this plan with schedules drawn by the number, instead of `generate`")
     parser.add_argument("--each", metavar="COMMAND", help="runs COMMAND by the shell between `damage` and `receive` of each number, with --plan: it takes the lanes of "
                         "INTERLAKEN_LANES_IN and may leave others at INTERLAKEN_LANES_OUT; `judge` counts what these have that they should not")
-    parser.add_argument("--flips-per-million", metavar="N", type=rate, default="0", help="inverted bits of a million, with --plan")
-    parser.add_argument("--dark", metavar="N", type=whole(0, MOST_DARK), default=0, help="dark stretches of each lane, with --plan")
+    parser.add_argument("--flips-per-million", metavar="N", type=rate, default="0", help="inverted bits per million, with --plan")
+    parser.add_argument("--dark", metavar="N", type=whole(0, MOST_DARK), default=0, help="dark stretches per lane, with --plan")
     parser.add_argument("--skew", metavar="BITS", type=whole(0, MOST_SKEW), default=0, help="the greatest skew of a lane, with --plan")
-    parser.add_argument("--coverage", action="store_true", help="counts the words of the stream too: bursts, ends of packets, channels that go off")
+    parser.add_argument("--coverage", action="store_true", help="also counts words of the stream: bursts, ends of packets, channels that go off")
     parser.add_argument("--junit", metavar="FILE", help="writes a JUnit report with a test case for each number")
-    parser.add_argument("--overwrite", action="store_true", help="writes over files that are there and that no campaign made")
+    parser.add_argument("--overwrite", action="store_true", help="replaces files that no campaign made")
     parser.add_argument("--keep", action="store_true", help="keeps the files of each run in FOLDER/NUMBER")
     parser.add_argument("--timeout", metavar="SECONDS", type=whole(1, 1000000), help="how long a run may take")
-    parser.add_argument("--program", help="the program; INTERLAKEN_PROGRAM, or the repository's own, where it is not named")
-    parser.add_argument("--jobs", metavar="N", type=jobs, help="parallel's: how many jobs at once")
-    parser.add_argument("--sshlogin", metavar="LOGINS", help="parallel's: the machines, as 8/server,4/other")
+    parser.add_argument("--program", help="the program; by default INTERLAKEN_PROGRAM, or this repository's own")
+    parser.add_argument("--jobs", metavar="N", type=jobs, help="an option of parallel: how many jobs run at once")
+    parser.add_argument("--sshlogin", metavar="LOGINS", help="an option of parallel: the machines, as 8/server,4/other")
     options = parser.parse_args(words)
     has_rates = options.dark or options.skew or Decimal(options.flips_per_million)
     if options.last < options.first:
@@ -111,7 +111,7 @@ def campaign_of(options):
 
 
 def must_be_new(options):
-    """An error where a file or a folder is there that the campaign would write, and that is not of a call of it that was cut off."""
+    """An error if a file or a folder is there that the campaign would write, and that is not of a call of it that was cut off."""
     names, base = [], os.path.join(options.folder, "%d-%d" % (options.first, options.last))
     if not has_begun(options.folder, options.first, options.last):
         names += [base + ".csv", base + ".coverage.csv"]

@@ -74,7 +74,7 @@ def is_done(record):
 
 
 def parsed(line):
-    """The value of a line, or None where it is not whole."""
+    """The value of a line, or None if it is not whole."""
     try:
         value = json.loads(line)
     except ValueError:

@@ -15,7 +15,7 @@ NAMED = 20
 
 
 def why_failed(number, record):
-    """What is wrong with a number: its kind and a text; or None where nothing is."""
+    """What is wrong with a number: its kind and a text; or None if nothing is."""
     if record is None:
         return "no result", "no result: its job did not end"
     if record["status"] is None:

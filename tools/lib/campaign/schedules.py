@@ -28,7 +28,7 @@ def source(number, kind, lane):
 
 
 def below(most, draws):
-    """A number below `most`. Of Python's draws `random()` alone is promised to be the same in all its versions."""
+    """A number below `most`. Only `random()` is promised to draw the same in all versions of Python."""
     return int(draws.random() * most)
 
 

@@ -14,7 +14,7 @@ from reading.plans import EVENTS_KIND, PLAN_KIND, SCHEDULE_KIND, SETTINGS_KIND
 from reading.rows import KeyMissing, RowRefused
 
 PACKED = {b"\x1f\x8b": "gunzip", b"\x28\xb5": "unzstd", b"\xfd7": "unxz", b"BZ": "bunzip2"}
-# What the program's words for a cause mean, where the inputs do not show it any more.
+# What the program's words for a cause mean, if the inputs do not show it any more.
 MEANINGS = {"text": "a field is not UTF-8", "key": "an unknown key", "fields": "another number of fields",
             "number": "a number, a word or a state that is not spelled as one", "range": "a number, a name or a number of rows out of range",
             "repeat": "a second row of what stands once", "clash": "the row contradicts another"}
@@ -130,7 +130,7 @@ def name_hints(folder, inputs, name):
 # ---- what only the program's text says
 
 def lines_by_text(folder, command, file, text):
-    """What a refusal means by the program's text alone, where the inputs that are there now do not have it."""
+    """What a refusal means, only by the program's text, if the inputs that are there now do not have it."""
     found = re.match(r"(plan|input) refused: (?:(.*): )?(.*)$", text, re.DOTALL)
     if not found:
         return []

@@ -63,7 +63,7 @@ def pass_on(text):
 
 
 def refusal_lines(folder, words, text):
-    """The refusal in full, where the inputs have the one that the program printed."""
+    """The refusal in full, if the inputs have the one that the program printed."""
     if len(words) != 2:
         return ["explain: a file that `generate` wrote does not read back as it was written: somebody else changed it meanwhile"]
     is_pipe = os.path.exists(folder.path(words[1])) and not folder.has(words[1])

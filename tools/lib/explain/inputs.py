@@ -10,7 +10,7 @@ CAPTURES_LIMIT, LANE_LIMIT, DAMAGED_LIMIT, SAMPLES_LIMIT, LISTING_LIMIT = 1 << 2
 
 class Inputs:
     """The inputs of a command, read up to the first that is refused: `refused`, or None. What was read before it is there. The data
-    files (captures, words, lanes, samples) are read on request alone."""
+    files (captures, words, lanes, samples) are only read on request."""
 
     def __init__(self, folder, command, name, has_data):
         self.folder, self.command, self.name, self.has_data = folder, command, name, has_data

@@ -109,7 +109,7 @@ def beyond_lanes(schedule, lanes):
 
 def vain_strikes(inputs, slots, text):
     """Rows of a schedule that strike words and cost no packet: their spans meet none, or no packet is missing and they have no slots.
-    Where the run counted accidents nothing is known."""
+    If the run counted accidents nothing is known."""
     plan, schedule, name = inputs.plan, inputs.schedule, inputs.plan.out + ".spans.csv"
     if not schedule.rows or not re.search("^accidents locks=0 groups=0 stretches=0$", text, re.MULTILINE):
         return []
@@ -155,7 +155,7 @@ def held(inputs, text):
 
 
 def locks(inputs, text):
-    """Lanes that declared no lock, and locks that lie too far apart for a group, where the command forms some."""
+    """Lanes that declared no lock, and locks that lie too far apart for a group, if the command forms some."""
     reports = re.findall(r"^lane (\d+) locks=(\d+) first=(\S+)", text, re.MULTILINE)
     if not reports or not inputs.plan:
         return []

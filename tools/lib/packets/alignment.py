@@ -75,7 +75,7 @@ def longest_rising(pairs):
 
 
 def shortest(one, other, begin, first):
-    """The equal runs of the script with the fewest items left out and added; where these are too many, of those of equal numbers."""
+    """The equal runs of the script with the fewest items left out and added; if these are too many, of those of equal numbers."""
     trace = furthest_by_changes(one, other)
     if trace is None:
         return [(begin + n, first + n, 1) for n, (item, its) in enumerate(zip(one, other)) if item == its]

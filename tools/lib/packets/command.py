@@ -17,9 +17,9 @@ MOST_STRETCHES = 20
 def options_of(words):
     told = "Compares two captures, or two words files: what differs, what is missing in the second and what is extra, in order."
     parser = Options(prog="packets", description=told)
-    parser.add_argument("--plan", metavar="PLAN", help="compares each capture that a plan names with OUT.C.pcap, what came on its channel")
-    parser.add_argument("--stamps", action="store_true", help="compares the time stamps of packets too")
-    parser.add_argument("files", metavar="FILE", nargs="*", help="the file that is right, and the one that is judged")
+    parser.add_argument("--plan", metavar="PLAN", help="compares each capture that a plan names with OUT.C.pcap, the packets received on its channel")
+    parser.add_argument("--stamps", action="store_true", help="also compares time stamps")
+    parser.add_argument("files", metavar="FILE", nargs="*", help="the right file, and the file to compare with it")
     options = parser.parse_args(words)
     if len(options.files) != (0 if options.plan else 2):
         parser.error("--plan PLAN alone, or two files" if options.plan else "two files, or --plan PLAN")

@@ -12,7 +12,7 @@ Records = namedtuple("Records", "name kind items")
 
 
 def read_records(folder, name):
-    """The records of a file: of a capture where it begins with a capture's mark, else of a words file where its name or its first byte
+    """The records of a file: of a capture if it begins with a capture's mark, else of a words file where its name or its first byte
     says so. What is neither is refused as a capture."""
     head = folder.content(name)[:4]
     is_capture = head in MAGICS or head == NG_MAGIC

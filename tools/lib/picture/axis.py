@@ -59,7 +59,7 @@ class Row:
         return [(x, to_x - x) for x, to_x in merged([(self.x(part[0]), self.end(part[1])) for part in clipped if part], 0.3)]
 
     def end(self, value):
-        """Where an interval ends that ends before `value`: in the piece before, where a piece begins with `value`."""
+        """Where an interval ends that ends before `value`: in the piece before, if a piece begins with `value`."""
         piece = self.piece(value - 1)
         return piece.x + piece.width * (value - piece.first) / (piece.last - piece.first)
 
@@ -93,7 +93,7 @@ def rows_of(parts, left, right, scale, fold_width):
 
 
 def best_scale(parts, width, fold_width, least, most_rows):
-    """The pixels for each value: those of one row where they are at least `least`, else `least`, or less where there were too many rows."""
+    """The pixels for each value: those of one row if they are at least `least`, else `least`, or less if there were too many rows."""
     shown = sum(last - first for first, last, is_folded in parts if not is_folded)
     folds = sum(is_folded for _, _, is_folded in parts)
     one_row = (width - fold_width * folds) / max(shown, 1)

@@ -22,12 +22,12 @@ from reading.words import Stream, are_joined, begin_of, span_rows, spans_at
 def options_of(words):
     parser = Options(prog="picture", description="Draws the lanes and the stream of a plan, or the queues of a run of two ends, as SVG files.")
     parser.add_argument("plan", help="a plan, or the settings of a run of two ends")
-    parser.add_argument("--program", help="the program, which makes in a temporary folder the files that are missing, and the lanes as they were sent to compare with")
-    parser.add_argument("--only", choices=("lanes", "stream"), help="one picture of a plan, from the files that it alone needs")
+    parser.add_argument("--program", help="the program; it makes missing files, and the lanes as sent, in a temporary folder")
+    parser.add_argument("--only", choices=("lanes", "stream"), help="draws one picture of a plan, from only the files that it needs")
     parser.add_argument("--sent", metavar="PREFIX", help="PREFIX.lane.I are the lanes as `send` made them")
-    parser.add_argument("--text", metavar="FILE", help="what `link`, `receive` or `duplex` printed, to draw locks and to compare with")
-    parser.add_argument("--to", metavar="PREFIX", help="the prefix of the pictures' names; that of the plan's outputs where there is none")
-    parser.add_argument("--overwrite", action="store_true", help="writes over pictures that are there")
+    parser.add_argument("--text", metavar="FILE", help="the output of `link`, `receive` or `duplex`; its locks are drawn, and its counts compared")
+    parser.add_argument("--to", metavar="PREFIX", help="the prefix of the pictures' names; by default the plan's `out`")
+    parser.add_argument("--overwrite", action="store_true", help="replaces existing pictures")
     return parser.parse_args(words)
 
 
@@ -57,7 +57,7 @@ class Work:
         return "%s.%s.svg" % (self.options.to or out, kind)
 
     def must_be_new(self, out, *kinds):
-        """An error where a picture would be written over a file, before anything is drawn."""
+        """An error if a picture would be written over a file, before anything is drawn."""
         for name in (self.name_of(out, kind) for kind in kinds):
             must_be_new(self.folder.path(name), name, self.options.overwrite)
 
@@ -115,7 +115,7 @@ def make_lanes(work, plan, lanes):
 
 
 def sent_prefix(work, plan, folder):
-    """The prefix of the lanes as sent: the one that is named, or that of lanes which the program makes in a temporary folder; None where
+    """The prefix of the lanes as sent: the one that is named, or that of lanes which the program makes in a temporary folder; None if
     nothing tells what was sent."""
     if work.options.sent or not work.options.program or not names_captures(plan):
         return work.options.sent
@@ -145,7 +145,7 @@ def damage_by_schedule(schedule, places):
 
 
 def lanes_of(work, plan, schedule):
-    """The lanes, and whether they are as they were sent. Where nothing tells which bits were sent, they have to be as the schedule
+    """The lanes, and whether they are as they were sent. If nothing tells which bits were sent, they have to be as the schedule
     makes them."""
     with tempfile.TemporaryDirectory() as temporary:
         sent = sent_prefix(work, plan, temporary)
@@ -172,7 +172,7 @@ def draw_plan(work):
 
 
 def take_events(folder, plan, lanes):
-    """The events of a table of the lanes, where there is one, but for the locks that are declared."""
+    """The events of a table of the lanes, if there is one, but for the locks that are declared."""
     for lane, events in zip(lanes, read_events(folder, plan, lanes) or []):
         told = {bit: [kind for kind in kinds if kind != "lock"] for bit, kinds in events.items()}
         lane.events = {bit: kinds for bit, kinds in told.items() if kinds}
@@ -190,7 +190,7 @@ def places_of(folder, plan, schedule, lanes, rows):
 
 
 def draw_plan_stream(work, plan, schedule, lanes):
-    """The picture of the stream, whose words have to be those of the lanes, where these are there, and of what came."""
+    """The picture of the stream, whose words have to be those of the lanes, if these are there, and of what came."""
     folder, name, spans_name = work.folder, plan.out + WORDS, plan.out + SPANS
     stream, rows = Stream(folder, name, plan), span_rows(folder, spans_name)
     places = places_of(folder, plan, schedule, lanes, rows)

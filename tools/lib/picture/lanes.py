@@ -123,7 +123,7 @@ def event_text(first, last, count, kinds):
 
 
 def counts_text(lane):
-    """What the program counted besides the first lock, where it is not 0."""
+    """What the program counted besides the first lock, if it is not 0."""
     usual = {"locks": "0" if lane.lock is None else "1"}
     odd = [key for key in COUNTS if lane.report.get(key, usual.get(key, "0")) != usual.get(key, "0")]
     return ", ".join("%s=%s" % (key, lane.report[key]) for key in odd)
@@ -283,7 +283,7 @@ class Drawing:
 
 
 def draw_lanes(lanes, plan, as_sent, path):
-    """Draws the lanes of a plan; returns how many lanes, groups and damaged places the picture has, and events, where there are some."""
+    """Draws the lanes of a plan; returns how many lanes, groups and damaged places the picture has, and events, if there are some."""
     drawing = Drawing(lanes, plan, as_sent)
     drawing.draw().save(path)
     counts = {"lanes": len(lanes), "groups": len(drawing.groups), "damaged": sum(len(lane.damaged()) for lane in lanes)}

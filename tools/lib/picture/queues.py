@@ -30,7 +30,7 @@ def busy(link, ends):
 
 
 def parts_of(link, ends, shown):
-    """The axis: folded where nothing changes, and in a long run but for the first burst, the peaks, and where a channel is off first and longest."""
+    """The axis: folded if nothing changes, and in a long run but for the first burst, the peaks, and where a channel is off first and longest."""
     first = max(0, link.first_burst - 20) if link.first_burst < link.slots else 0
     keep = busy(link, ends)
     if sum(max(0, min(b, link.slots) - max(a, first)) for a, b in keep) > FEW:

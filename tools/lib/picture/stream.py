@@ -9,7 +9,7 @@ ROOM = WIDTH - LEFT - 30
 IDLES, DATA = 24, 96  # shorter runs are not left out
 FEW = 900  # slots of a stream that is drawn whole but for such runs
 MOST_ROWS, LEAST_SCALE = 30, 3
-MOST_STRIPS = 6  # channels of a row that have strips of their own where none of their packets is lost
+MOST_STRIPS = 6  # channels of a row that have strips of their own if none of their packets is lost
 STRIP, EDGE = 36, 5
 MOST_FAULTS = 6  # words of a row that break a rule and have texts of their own
 MOST_LINES = 3  # of texts of spans over a row
@@ -27,7 +27,7 @@ def marks_of(stream, spans, damaged, lost, faults=()):
 
 
 def parts_of(stream, spans, damaged, lost, faults):
-    """The axis, folded where the stream is quiet: long runs of idles and of data, and where it is long all that has no mark."""
+    """The axis, folded if the stream is quiet: long runs of idles and of data, and where it is long all that has no mark."""
     quiet = [(a, b) for a, b in stream.runs("i", IDLES)] + [(a, b) for a, b in stream.runs("d", DATA)]
     shown, at = [], 0
     for first, last in sorted(quiet):
@@ -84,7 +84,7 @@ class Drawing:
         return row.clip(-1 if span.after is None else span.after, self.stream.count if span.before is None else span.before)
 
     def span_labels(self, row):
-        """The texts of a row's spans, each its own where there is room, and else those of near ones together."""
+        """The texts of a row's spans, each its own if there is room, and else those of near ones together."""
         here = [(number, span) for number, span in enumerate(self.spans) if self.shown_part(row, span)]
         apart = 0
         while True:
@@ -130,7 +130,7 @@ class Drawing:
         return strips
 
     def notes_of(self):
-        """What came of each channel, where it is not all that was sent, or not what the spans say."""
+        """What came of each channel, if it is not all that was sent, or not what the spans say."""
         notes = []
         for channel in sorted({packet.channel for packet in self.stream.packets} | set(self.came)):
             sent = [packet for packet in self.stream.packets if packet.channel == channel and packet.last is not None]
@@ -236,7 +236,7 @@ class Drawing:
                 self.picture.text(piece.x + piece.width / 2, top + 15, "%d" % len(packets), "white", "middle")
 
     def draw_packet(self, row, packet, first, last, top):
-        """A packet; where it begins or ends in a folded part, only the edge of that is drawn."""
+        """A packet; if it begins or ends in a folded part, only the edge of that is drawn."""
         lost, begin, end = packet in self.is_lost, row.piece(first), row.piece(last - 1)
         x = begin.x + begin.width - EDGE if begin.folded and first > row.first and first > begin.first else row.x(first)
         to_x = end.x + EDGE if end.folded and last < row.last and last < end.last else row.end(last)
@@ -307,7 +307,7 @@ def spans_text(spans):
 def draw_stream(stream, plan, spans, damaged, came, faults, skews, path):
     """Draws a stream; `damaged` has by slot its damaged places, (lane, first bit, last bit), `came` the packets of the captures by
     channel, `faults` by slot the rules that its word breaks, and `skews` by lane its skew, if the words were sent. Returns how many words, packets, lost packets and spans there are, and
-    faults, where there are some."""
+    faults, if there are some."""
     drawing = Drawing(stream, plan, spans, damaged, came, faults, skews)
     drawing.draw().save(path)
     counts = {"words": stream.count, "packets": len(stream.packets), "lost": len(drawing.lost), "spans": len(spans)}

@@ -38,7 +38,7 @@ class Picture:
         self.lines.append(head + ("><title>%s</title></rect>" % plain(title) if title else "/>"))
 
     def frame(self, x, y, width, height, colour, title="", kind=""):
-        """A box of which the edge alone has a colour, as of what is absent."""
+        """A box of which only the edge has a colour, as of what is absent."""
         head = '<rect%s x="%.1f" y="%.1f" width="%.1f" height="%.1f" fill="white" fill-opacity="0.7" stroke="%s" stroke-width="1.8"' % (
             ' class="%s"' % kind if kind else "", x, y, width, height, colour)
         self.lines.append(head + ("><title>%s</title></rect>" % plain(title) if title else "/>"))
@@ -90,7 +90,7 @@ class Labels:
         self.lines, self.texts = [], []
 
     def place(self, x, text, colour=COLOURS["ink"], anchor="start"):
-        """Places a text that begins or ends at `x`; where it would leave the picture it is moved."""
+        """Places a text that begins or ends at `x`; if it would leave the picture it is moved."""
         width = length_of(text)
         begin = x - width if anchor == "end" else x - width / 2 if anchor == "middle" else x
         begin = max(self.left, min(begin, self.right - width))

@@ -1,6 +1,6 @@
 """The run of two ends, computed by the rules of `duplex`, a slot at a time: the queues, the bursts that fill them, and when channels are off.
 
-The program tells packets, bytes and peaks alone. What is computed here is compared with them, and with the captures that it wrote.
+The program only tells packets, bytes and peaks. What is computed here is compared with them, and with the captures that it wrote.
 """
 
 from collections import deque, namedtuple
@@ -10,7 +10,7 @@ from reading.plans import Plan, Settings
 
 TURN_ENTRIES = 16
 
-# A data word has its channel alone. A control word has the channel of the burst that it begins, or None; the channel whose packet
+# A data word only has its channel. A control word has the channel of the burst that it begins, or None; the channel whose packet
 # it ends, or None; and the calendar entries from the one numbered `first` on, as on or off.
 Data = namedtuple("Data", "channel")
 Control = namedtuple("Control", "begins ends first states")
@@ -53,7 +53,7 @@ class End:
         self.burst, self.burst_words, self.ending = None, 0, None
         self.queue, self.peak, self.peak_at, self.got = ({c: 0 for c in link.channels} for _ in range(4))
         self.course = {c: [(0, 0)] for c in link.channels}
-        # Slots before `begin` have idles alone, by which all entries are told as on.
+        # Slots before `begin` only have idles, by which all entries are told as on.
         self.told, self.follows = begin > 0, begin > 0
         self.filled, self.data = set(), {c: Data(c) for c in link.channels}
 

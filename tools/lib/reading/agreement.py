@@ -32,7 +32,7 @@ def changed_schedule(plan):
 # ---- the words, the spans, the captures and the text
 
 def must_be_of_run(stream, name, plan, spans, came, text, is_gathered=False):
-    """An error where the words of a stream are not those of the printed text, or not those that the spans and the captures are of. Of
+    """An error if the words of a stream are not those of the printed text, or not those that the spans and the captures are of. Of
     gathered words the text does not tell."""
     if is_gathered:
         must_have_spans(plan, spans, text)
@@ -49,7 +49,7 @@ def must_be_of_run(stream, name, plan, spans, came, text, is_gathered=False):
 
 
 def must_be_of_text(stream, name, plan, spans, text):
-    """An error where the stream has not the slots and packets that were sent by the printed text."""
+    """An error if the stream has not the slots and packets that were sent by the printed text."""
     sent = {packet.channel: 0 for packet in stream.packets}
     places = set()
     for packet in stream.packets:
@@ -66,13 +66,13 @@ def must_be_of_text(stream, name, plan, spans, text):
 
 
 def must_have_spans(plan, spans, text):
-    """An error where a table has another number of spans than was printed."""
+    """An error if a table has another number of spans than was printed."""
     printed = re.search(r"^spans (\d+)$", text, re.MULTILINE)
     must_be(plan.out + ".spans.csv", "spans", len(spans), printed and int(printed.group(1)), plan)
 
 
 def must_be_of_link(plan, spans, text):
-    """An error where the text of a run is of other lanes, slots or spans than those of the plan and the table."""
+    """An error if the text of a run is of other lanes, slots or spans than those of the plan and the table."""
     lanes = len(re.findall(r"^lane ", text, re.MULTILINE))
     must_be(plan.name, "lanes", plan.lanes, lanes or None, plan)
     if (slots_of(text) or 0) % plan.group:
@@ -83,13 +83,13 @@ def must_be_of_link(plan, spans, text):
 
 
 def must_be(name, what, found, printed, plan):
-    """An error where a number is not that of the text, which may have none."""
+    """An error if a number is not that of the text, which may have none."""
     if printed not in (None, found):
         raise Refused("%s: %d %s, and the run printed %d: %s" % (name, found, what, printed, anew(plan)))
 
 
 def must_name_sent_groups(plan, spans, begin):
-    """An error where no group of a table of spans is one that was sent with the first bit of lane 0 at `begin`, or one has no such word."""
+    """An error if no group of a table of spans is one that was sent with the first bit of lane 0 at `begin`, or one has no such word."""
     name = plan.out + ".spans.csv"
     places = [place for span in spans for place in span.places if place and place[0]]
     for group, index in places:
@@ -102,7 +102,7 @@ def must_name_sent_groups(plan, spans, begin):
 # ---- the lanes and the words
 
 def must_be_in_lanes(stream, name, plan, lanes, spans):
-    """An error where a word outside of the spans is control or data, and its code in the lanes is not. Where a span is named by a
+    """An error if a word outside of the spans is control or data, and its code in the lanes is not. If a span is named by a
     group that was not sent, or a lane has other bits than its skew in front, nothing is known of the places."""
     if not all(span.exact for span in spans):
         return
@@ -141,7 +141,7 @@ def must_carry(folder, plan, stream, name, places):
 
 
 def wrong_slot(plan, stream, frame, lane, bits):
-    """The first slot of a metaframe of a lane, given by its bits, that is another word in a stream; None where the CRC32 is wrong."""
+    """The first slot of a metaframe of a lane, given by its bits, that is another word in a stream; None if the CRC32 is wrong."""
     if len(bits) < plan.period:
         return None
     frames = Metaframes(plan)
@@ -162,7 +162,7 @@ def must_fill_lanes(count, name, plan, sizes, skews):
 
 def must_be_whole(plan, sizes, skews, count):
     """An error where lanes of these bytes, with these skews in front, are not of one number of whole metaframes, or not of those that
-    `count` slots fill, where that is known."""
+    `count` slots fill, if that is known."""
     frames = max(0, 8 * sizes[0] - skews[0]) // plan.period if count is None else count // plan.group
     for lane, (size, skew) in enumerate(zip(sizes, skews)):
         wanted = bytes_of(frames * plan.period + skew)
@@ -187,7 +187,7 @@ def must_begin_at(plan, lane, syncs, front):
 
 def are_sent(plan, schedule, lanes, is_compared):
     """Whether lanes are as they were sent, and not as a schedule makes them. That some lack their skews and others not, or lack them
-    and are damaged, is an error; where they are compared with the sent lanes, that tells what is damaged."""
+    and are damaged, is an error; if they are compared with the sent lanes, that tells what is damaged."""
     skewed = [lane for lane in lanes if schedule.skew[lane.number]]
     bare = [lane for lane in skewed if lane.is_sent(schedule.skew[lane.number])]
     wrong, is_struck = first_wrong(plan, schedule, lanes)
@@ -250,5 +250,5 @@ def is_right_in_spite(plan, schedule, lane, frame):
 
 
 def is_seen(mask):
-    """Whether a CRC32 shows that these bits of a code are inverted: not where those are both bits of the header, or all others."""
+    """Whether a CRC32 shows that these bits of a code are inverted: not if those are both bits of the header, or all others."""
     return mask & HEADER not in (0, HEADER) or mask & OTHERS not in (0, OTHERS)

@@ -19,7 +19,7 @@ OUT, NOT_BUILT = "out", 70
 
 
 def found_program(name, is_here=True):
-    """The path of the program. A launcher builds it first where it has to, and prints where it is; but other machines run their own
+    """The path of the program. A launcher builds it first if it has to, and prints where it is; but other machines run their own
     launcher, since what was built here is not there."""
     found = shutil.which(name)
     if found is None:

@@ -4,7 +4,7 @@ from reading.checksums import CRC24
 
 
 def sealed_alone(word):
-    """A control word with the CRC24 that it has where it covers no data."""
+    """A control word with the CRC24 that it has if it covers no data."""
     return word >> 24 << 24 | CRC24.of((word >> 24 << 24).to_bytes(8, "big"))
 
 
@@ -18,7 +18,7 @@ def is_reset(word):
 
 
 def is_valid_alone(word):
-    """Whether a flow row's word counts: a control word with the CRC24 of the word alone."""
+    """Whether a flow row's word counts: a control word with the CRC24 of only the word."""
     return is_control(word) and word == sealed_alone(word)
 
 

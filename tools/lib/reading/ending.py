@@ -87,7 +87,7 @@ def tell(tool, what):
 
 
 def must_be_new(path, name, overwrite):
-    """An error where a file is there that would be written over; `--overwrite` allows it."""
+    """An error if a file is there that would be written over; `--overwrite` allows it."""
     if os.path.lexists(path) and not overwrite:
         raise Refused("%s exists; --overwrite writes over it" % shown_name(name))
 
@@ -103,7 +103,7 @@ def one_line(text):
 
 
 def closed():
-    """The status where the reader of standard output went away."""
+    """The status if the reader of standard output went away."""
     discard()
     return CLOSED
 

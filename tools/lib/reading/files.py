@@ -22,7 +22,7 @@ Record = namedtuple("Record", "stamp data")
 
 class Refused(Exception):
     """A file that is missing, or is not as it has to be; the text is one line. `name` is the file, and `told` what the program says of
-    it, where it has words for it. `is_plan` is true of a command's own plan or settings, and `named_by` has the plan and the row that
+    it, if it has words for it. `is_plan` is true of a command's own plan or settings, and `named_by` has the plan and the row that
     name the file."""
 
     is_plan, named_by = False, None
@@ -33,13 +33,13 @@ class Refused(Exception):
 
 
 def shown_name(name):
-    """A name as it is written in a message: in quotes where a reader could take it for another."""
+    """A name as it is written in a message: in quotes if a reader could take it for another."""
     is_plain = name.isprintable() and name and " " not in name and name == name.strip()
     return name if is_plain else repr(name)
 
 
 def own_program(tool):
-    """The program of the repository that a tool of this path stands in, where none is named."""
+    """The program of the repository that a tool of this path stands in, if none is named."""
     places = [os.path.join(os.path.dirname(os.path.dirname(path)), "interlaken") for path in (os.path.abspath(tool), os.path.realpath(tool))]
     return os.environ.get("INTERLAKEN_PROGRAM") or next((place for place in places if os.path.exists(place)), places[0])
 
@@ -88,7 +88,7 @@ class Folder:
             raise Refused("%s: more than %d bytes" % (shown_name(name), most), name, "too large")
 
     def content(self, name, most=None):
-        """The bytes of a file, which is refused where it has more than `most`."""
+        """The bytes of a file, which is refused if it has more than `most`."""
         try:
             with open(self.path(name), "rb") as file:
                 data = file.read() if most is None else file.read(most + 1)
@@ -186,7 +186,7 @@ def is_text(field):
 
 
 def must_agree(what, computed, found):
-    """An error where a picture would show something else than the program said."""
+    """An error if a picture would show something else than the program said."""
     if computed != found:
         raise Refused("%s: computed %s, but the program gave %s" % (what, shortened(computed), shortened(found)))
 

@@ -31,7 +31,7 @@ def other_kind(name, found, wanted):
 
 
 def read_plan(folder, name):
-    """A tool's own plan; where the file is of another kind, that is the error."""
+    """A tool's own plan; if the file is of another kind, that is the error."""
     try:
         return Plan(folder, name)
     except Refused:

@@ -49,7 +49,7 @@ class Lane:
         self.lock = first_lock(self.bits, self.syncs, plan)
         self.front, self.inverted, self.dark, self.other, self.changed = 0, [], [], [], None
         self.report, self.note = {}, ""
-        self.events = {}  # by bit, but for declared locks, where they were told
+        self.events = {}  # by bit, but for declared locks, if they were told
 
     def is_sent(self, skew):
         """Whether the file has the lane as it was sent, without the skew that the schedule gives it."""

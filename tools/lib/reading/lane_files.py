@@ -54,6 +54,6 @@ class LaneLocks:
         self.firsts = [lock.first for lock in self.locks]
 
     def lock_at(self, bit):
-        """The lock that covers a bit, or of the word that loses it; None where there is none."""
+        """The lock that covers a bit, or of the word that loses it; None if there is none."""
         number = bisect_right(self.firsts, bit) - 1
         return self.locks[number] if number >= 0 and bit <= self.locks[number].end else None

@@ -57,7 +57,7 @@ def has_right_crc(bits, begin, plan):
 
 
 def legal_headers(bits):
-    """A text in which bit q is 1 where the bits q and q + 1 of the lane differ."""
+    """A text in which bit q is 1 if the bits q and q + 1 of the lane differ."""
     number = int(bits or "0", 2)
     return as_text(number ^ number << 1, len(bits))
 
@@ -68,7 +68,7 @@ def as_text(number, length):
 
 
 def word_locks(bits):
-    """A text in which bit p + 1 is 1 where a word lock begins at p."""
+    """A text in which bit p + 1 is 1 if a word lock begins at p."""
     run, reach = int(legal_headers(bits) or "0", 2), 1
     while reach < HEADERS:
         run, reach = run & run << CODE * reach, 2 * reach
@@ -103,7 +103,7 @@ def reason(bit, lost, given_up, framed):
 
 
 def headers_lost(legal, phase):
-    """The bit of the word, of those from a phase on, at which a block of 64 has its 16th illegal header; None where there is none."""
+    """The bit of the word, of those from a phase on, at which a block of 64 has its 16th illegal header; None if there is none."""
     headers = legal[phase + 1:len(legal) - CODE + 2:CODE]
     for block in range(0, len(headers), HEADERS):
         wrong = [place for place in range(block, min(block + HEADERS, len(headers))) if headers[place] == "0"]

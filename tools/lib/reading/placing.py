@@ -183,7 +183,7 @@ LOOKED_AT, LOOKED_BACK = 16, 8
 
 
 def lane_apart(folder, plan, lane, groups):
-    """How many bits the Sync words of a lane stand behind those of lane 0 in groups of one epoch. Where none of these is whole, those
+    """How many bits the Sync words of a lane stand behind those of lane 0 in groups of one epoch. If none of these is whole, those
     before them tell, since a lock keeps its place."""
     reach, name, found = CODE * plan.deskew, lane_names(plan)[lane], Counter()
     for back in (0, LOOKED_BACK * plan.period):
@@ -229,7 +229,7 @@ def must_have_all(folder, plan, names, command="link"):
 
 
 def not_placed(folder, plan):
-    """The error where the words of a device's lanes stand neither by the skews nor by the table of places."""
+    """The error if the words of a device's lanes stand neither by the skews nor by the table of places."""
     table, words = plan.out + PLACES, plan.out + WORDS
     why = "%s is not of these lanes and words" % table if folder.has(table) else "%s is missing, by which words are placed" % table
     over = ", over %s: keep that under another name" % words if folder.has(words) else ""

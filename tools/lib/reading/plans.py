@@ -29,7 +29,7 @@ SCHEDULE_KIND, EVENTS_KIND = Kind("a schedule", SCHEDULE), Kind("an events file"
 
 class Plan(KeyedRows):
     """A plan: `channels` are its channels' numbers in order, `entries` its calendar, `captures` the names by channel in the order of
-    the rows, None where a row has no name."""
+    the rows, None if a row has no name."""
 
     def __init__(self, folder, name):
         super().__init__(folder, name, PLAN_LIMIT, PLAN_KIND, PLAN, {"channel": Many(1024, True), "entry": Many(1024, False)})
@@ -68,7 +68,7 @@ class Plan(KeyedRows):
         return word >> 32 & 255 | (word >> 24 & 255) << 8 if self.wide else word >> 32 & 255
 
     def slot_of(self, lane, bit):
-        """The slot of the word that has this sent bit of a lane; None where it is none of the stream's."""
+        """The slot of the word that has this sent bit of a lane; None if it is none of the stream's."""
         row = bit // CODE % self.metaframe - 2 - self.skips
         if not 0 <= row < self.metaframe - 3 - self.skips:
             return None
@@ -238,12 +238,12 @@ class Settings(KeyedRows):
         self.back = {channel: capture for _, channel, capture in self.many["back"]}
 
     def must_fit(self, plan):
-        """A clash where a `back` row has a channel that the plan does not list."""
+        """A clash if a `back` row has a channel that the plan does not list."""
         for row, channel, _ in self.many["back"]:
             if channel not in plan.captures:
                 self.clash(row, 1, "back: %s does not list channel %d" % (plan.name, channel))
 
 
 def are_settings(folder, name):
-    """Whether a file has the settings of two ends, and is no plan."""
+    """Whether a file has the settings of two ends, and is not a plan."""
     return any(row.fields[0] in SETTINGS and row.fields[0] not in PLAN for row in rows_of(folder.content(name)))

@@ -43,7 +43,7 @@ def size_of(field):
 
 
 def take_rows(folder, name, most, take):
-    """Gives the rows of a file of at most this many bytes to a call that raises a fault where it does not take a row."""
+    """Gives the rows of a file of at most this many bytes to a call that raises a fault if it does not take a row."""
     for row in rows_of(folder.content(name, most)):
         try:
             for place, field in enumerate(row.fields):
@@ -55,7 +55,7 @@ def take_rows(folder, name, most, take):
 
 
 def must_have_fields(row, counts, form):
-    """A fault where a row has another number of fields; `form` says what it should be like."""
+    """A fault if a row has another number of fields; `form` says what it should be like."""
     if len(row.fields) not in counts:
         raise Fault("fields", None, "%s: %d field%s, and the row is `%s`" % (shown(row.fields[0]), len(row.fields), "s" * (len(row.fields) != 1), form))
 
@@ -87,7 +87,7 @@ def number_hint(field):
 
 
 def must_be_within(number, least, most, place, what, step=1, hint=""):
-    """A fault where a number is out of range."""
+    """A fault if a number is out of range."""
     if not least <= number <= most:
         raise Fault("range", place, "%s: %d is not in %d to %d%s" % (what, number, least, most, hint))
     if number % step:
@@ -95,7 +95,7 @@ def must_be_within(number, least, most, place, what, step=1, hint=""):
 
 
 def must_have_size(field, most, place, what):
-    """A fault where a text is empty or too long."""
+    """A fault if a text is empty or too long."""
     if not 1 <= size_of(field) <= most:
         told = "an empty name" if not field else "a name of %d bytes" % size_of(field)
         raise Fault("range", place, "%s: %s, and it has 1 to %d bytes" % (what, told, most))
@@ -122,7 +122,7 @@ class KeyedRows:
         take_rows(folder, name, limit, self.take)
 
     def __getattr__(self, key):
-        """A number or a text by its key; None where an optional text has no row."""
+        """A number or a text by its key; None if an optional text has no row."""
         return self.__dict__["values"].get(key)
 
     def take(self, row):

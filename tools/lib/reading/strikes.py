@@ -6,7 +6,7 @@ from reading.plans import CODE
 from reading.words import covers
 
 # A row of a schedule with the first and the last sent bit that it strikes on a lane, and the first and the last slot whose words have
-# such bits, or None where it strikes framing words alone.
+# such bits, or None if it only strikes framing words.
 Strike = namedtuple("Strike", "row key lane first last slots")
 
 

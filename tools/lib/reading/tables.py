@@ -9,7 +9,7 @@ RULES = ("bad", "control", "crc", "data", "max", "empty", "short", "end", "fill"
 
 
 def read_events(folder, plan, lanes):
-    """By lane its events by bit, of a table that `inspect` wrote; None where there is no table. One that the program does not make of
+    """By lane its events by bit, of a table that `inspect` wrote; None if there is no table. One that the program does not make of
     these lanes is of an older run, and left out with a note."""
     name = plan.out + EVENTS_END
     if not folder.has(name):
@@ -35,7 +35,7 @@ def events_in(folder, name, lanes):
 
 
 def read_faults(folder, plan):
-    """The rules that words break, by word, of a table that `check` wrote; none where there is no table. One that the program does not
+    """The rules that words break, by word, of a table that `check` wrote; none if there is no table. One that the program does not
     make of these words is of an older run, and left out with a note."""
     name, faults = plan.out + FAULTS_END, {}
     if not folder.has(name):

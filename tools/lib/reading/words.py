@@ -13,7 +13,7 @@ class Packet(namedtuple("Packet", "channel number first last data end")):
     format."""
 
     def is_good(self, longest):
-        """Whether a receiver delivers it where no span meets it."""
+        """Whether a receiver delivers it if no span meets it."""
         return self.last is not None and self.end & 8 != 0 and len(self.data) <= longest
 
 
@@ -108,7 +108,7 @@ def spans_at(rows, places, count=None):
 
 
 def begin_of(pairs, plan, skew):
-    """The bit of lane 0 at which its first Sync word begins: its skew, or 0 where the groups fit that alone, since the lanes were
+    """The bit of lane 0 at which its first Sync word begins: its skew, or 0 if the groups only fit that, since the lanes were
     received as they were sent."""
     groups = [place[0] for pair in pairs for place in pair if place and place[0]]
     return next((begin for begin in (skew, 0) if all(is_sent(group, plan, begin) for group in groups)), skew)

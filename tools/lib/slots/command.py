@@ -13,13 +13,13 @@ TOLD = {MISSING: "the packets that did not come, in place of the fault spans", D
 
 def options_of(words):
     parser = Options(prog="slots", description="Tells fault spans, lost packets, damaged bits, packets, faults or events of a link by slots, lanes and bits, as CSV.")
-    parser.add_argument("plan", help="the plan of the link, whose outputs are there")
+    parser.add_argument("plan", help="the plan of the link; its outputs must exist")
     table = parser.add_mutually_exclusive_group()
     for name, told in TOLD.items():
         table.add_argument("--" + name, dest="table", action="store_const", const=name, default=SPANS, help=told)
     text = parser.add_mutually_exclusive_group()
     text.add_argument("--text", metavar="FILE", help="what `link` or `receive` printed")
-    text.add_argument("--program", help="the program, which makes in a temporary folder what the table is of: by `link`, or of the lanes that are there if the plan names no captures")
+    text.add_argument("--program", help="the program; it makes what the table needs in a temporary folder: by `link`, or from the existing lanes if the plan names no captures")
     return parser.parse_args(words)
 
 

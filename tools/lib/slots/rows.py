@@ -27,7 +27,7 @@ def place(run, slot):
 
 
 def place_of_span(run, slot, found):
-    """The columns of an end of a span: none where it is open, or in a group that was not sent. A words file has no lanes, but for one
+    """The columns of an end of a span: none if it is open, or in a group that was not sent. A words file has no lanes, but for one
     that was gathered of these."""
     if found is None or not run.places.has_group(found[0]):
         return [""] * len(PLACE)

@@ -106,7 +106,7 @@ class Run:
         return places
 
     def checked(self, places):
-        """The places, where the lanes have them; where no spans tell of skews, the lanes do."""
+        """The places, if the lanes have them; if no spans tell of skews, the lanes do."""
         try:
             self.check_lanes(places)
             return places

@@ -19,9 +19,9 @@ from waves.vcd import write_vcd
 
 def options_of(words):
     parser = Options(prog="waves", description="Writes the waves of a plan's lanes and of their stream as a VCD file.")
-    parser.add_argument("plan", help="a plan, whose lanes `link` or `send` wrote, or another")
-    parser.add_argument("--to", metavar="FILE", help="the file; OUT.vcd where it is not named, with OUT the plan's `out`")
-    parser.add_argument("--overwrite", action="store_true", help="writes over a file that is there")
+    parser.add_argument("plan", help="a plan; its lanes must exist, from `link`, `send` or a device")
+    parser.add_argument("--to", metavar="FILE", help="the file; by default OUT.vcd, with the plan's `out` as OUT")
+    parser.add_argument("--overwrite", action="store_true", help="replaces an existing file")
     return parser.parse_args(words)
 
 

@@ -34,8 +34,8 @@ def together(signals, others, before):
 
 
 class LaneWaves:
-    """The signals of a lane; `words` and `locks` count what was read when the changes have been taken. The stream, where there is one,
-    has to be that of the lane. `events` are those of the lane by bit, where there is a table of them."""
+    """The signals of a lane; `words` and `locks` count what was read when the changes have been taken. The stream, if there is one,
+    has to be that of the lane. `events` are those of the lane by bit, if there is a table of them."""
 
     def __init__(self, lane, plan, stream, places, events=None):
         self.lane, self.plan, self.stream, self.places = lane, plan, stream, places
@@ -89,7 +89,7 @@ def values_of(word):
 
 class StreamWaves:
     """The signals of the sent stream and of the fault spans, at the words of lane 0: the words of a row, one of each lane, share the
-    67 bits of lane 0's. `places` says where words stand, and `faults` are the rules that words break, where there are some."""
+    67 bits of lane 0's. `places` says where words stand, and `faults` are the rules that words break, if there are some."""
 
     def __init__(self, stream, spans, plan, places, faults):
         self.stream, self.spans, self.plan, self.places = stream, spans, plan, places

@@ -8,7 +8,7 @@ from operator import itemgetter
 # A signal by its kind (`wire`, `integer`, `real` or `string`), its bits, and its name.
 Signal = namedtuple("Signal", "kind bits name")
 # Signals with one name before theirs. `changes` yields (time, values) in order of time, a value for each signal: a number, a text,
-# or None where the signal has none.
+# or None if the signal has none.
 Scope = namedtuple("Scope", "name signals changes")
 FIRST, LAST = ord("!"), ord("~")
 time_of = itemgetter(0)
