@@ -1,51 +1,57 @@
-"""Both ends of an Interlaken link: a receiver, bytes of lanes in, packets, fault spans and control words out; a transmitter, packets and
-rows of flow control in, at any time, bytes of lanes out; and damage of lanes on their way.
+"""Both ends of an Interlaken link, over the C library that tools/library makes.
+
+A receiver takes bytes of lanes and returns packets, fault spans and control words:
 
     with Receiver(plan, library="lib/libinterlaken.so") as receiver:
         for event in receiver.feed_all(lanes):
             ...
 
-Where bytes come live, call `feed` and `finish` for each lane, and take `events()` after each.
+If bytes arrive live, call `feed` and `finish` for each lane, and read `events()` after each call.
+
+A transmitter takes packets and rows of flow control at any time, and returns bytes of lanes:
 
     with Transmitter(plan, library="lib/libinterlaken.so") as transmitter:
         transmitter.packet(3, b"..")
         transmitter.finish()
         lanes = transmitter.take_all(2)
 
-Where lanes go live, call `take` for each in turn, and `packet`, `flow` and `local` at any time between.
+If lanes leave live, call `take` for each in turn, and `packet`, `flow` and `local` at any time between.
+
+A checker applies the rules of a sender to words. Call `flow` between words, as for a transmitter, and read all faults before the next word:
 
     with Checker(plan, library="lib/libinterlaken.so") as checker:
         checker.word(WordKind.CONTROL, 0x81ffff0000188177)
         for fault in checker.faults():
             ...
 
-Give `flow` between words, as to a transmitter. Take all faults before the next word.
+Damage changes bits of lanes on their way:
 
     with Damage(2, library="lib/libinterlaken.so") as damage:
         damage.flip(0, 12345)
         damaged = damage.apply(0, data)
 
+A plan has the numbers of a link, and finds the lane and bit of a received word by its place, and of a sent word by its slot:
+
     plan = Plan(text, library="lib/libinterlaken.so")
     plan.lanes, plan.channels, plan.place(event.first), plan.slot(0)
 
-The numbers of a plan, and the lane and bit of a word: of one that came, and of one that is sent.
+An inspector returns the events of lanes. It accepts no byte of a lane while an event of this lane is due:
 
     with Inspector(plan, library="lib/libinterlaken.so") as inspector:
         for event in inspector.feed_all(lanes):
             ...
 
-Where lanes come live, call `feed` for each, and take `events()` after each: it takes no byte of a lane whose events are due.
-interlaken.monitor has a receiver, an inspector, and a gatherer with a checker over the same bytes, as one stream of findings.
+A gatherer returns the words of aligned lanes; live, read `gathered()` after each `feed` and `finish`:
 
     with Gatherer(plan, library="lib/libinterlaken.so") as gatherer:
         for word in gatherer.feed_all(lanes):
             ...
 
-Where lanes come live, call `feed` and `finish` for each, and take `gathered()` after each.
+interlaken.monitor runs a receiver, an inspector, and a gatherer with a checker over the same bytes, and returns one stream of findings.
 
-It calls the C library that tools/library makes; `library` is its path, or its name if the system finds it by that. A call that is misused
-raises Misuse, and changes nothing; a plan that is refused raises BadPlan, with the row and the cause. Each of them takes one call at a
-time. Numbers of a later version of the library have the name UNKNOWN. It needs Python 3.10.
+`library` is the path of the C library, or its name if the system finds it by name. A misused call raises Misuse and changes nothing; a
+refused plan raises BadPlan with the row and the cause. Each object accepts one call at a time. Numbers of a later version of the library
+have the name UNKNOWN. The package needs Python 3.10.
 """
 
 from __future__ import annotations
@@ -143,7 +149,7 @@ class Drop(_Number):
 
 
 class Fault(_Number):
-    """What a fault span is for."""
+    """The reason of a fault span."""
 
     START = 0
     BAD = 1
@@ -187,7 +193,7 @@ class Rule(_Number):
 
 
 class LaneState(_Number):
-    """How far the search for the locks of a lane is."""
+    """The state of a lane's search for a lock."""
 
     SEARCHING = 0
     WORD_LOCK = 1
@@ -195,7 +201,7 @@ class LaneState(_Number):
 
 
 class LaneEventKind(_Number):
-    """What a lane shows at a word."""
+    """Kinds of events of a lane."""
 
     NO_LANE_EVENT = 0
     BAD_WORD = 1
@@ -213,7 +219,7 @@ class LaneEventKind(_Number):
 
 
 class GatheredKind(_Number):
-    """What a gatherer tells."""
+    """Kinds of items of a gatherer."""
 
     NONE = 0
     WORD = 1
@@ -222,7 +228,7 @@ class GatheredKind(_Number):
 
 
 class Misuse(Exception):
-    """A call was asked what it does not do; `result` says what."""
+    """A call was misused; `result` says how."""
 
     def __init__(self, result: Result):
         super().__init__(result.name)
@@ -282,7 +288,7 @@ class Flow:
 
 @dataclass(frozen=True)
 class Ended:
-    """The end: all lanes are finished, and all other events were given."""
+    """The end: all lanes are finished, and all other events were returned."""
 
 
 Event = Packet | Dropped | Span | Flow | Ended
@@ -290,7 +296,7 @@ Event = Packet | Dropped | Span | Flow | Ended
 
 @dataclass(frozen=True)
 class Report:
-    """What the locks of a lane were, and how many of the words that they cover are wrong. `first` is the bit position of the first
+    """The locks of a lane, and the number of wrong words that they cover. `first` is the bit position of the first
     declaring Sync, or None."""
 
     locks: int
@@ -314,8 +320,8 @@ class RuleFault:
 
 @dataclass(frozen=True)
 class Counts:
-    """What a transmitter was given on a channel, and what it sent of it. A burst is sent once its burst word was made: then all its bytes
-    count, and its packet if it is the last burst of one."""
+    """Packets and bytes of a channel that a transmitter was given and that it sent. A burst is sent once its burst word was made: then all its
+    bytes count, and its packet if it is the last burst of one."""
 
     packets_given: int
     packets_sent: int
@@ -359,9 +365,9 @@ Gathered = GatheredWord | GatheredBreak | Ended
 
 @dataclass(frozen=True)
 class Status:
-    """How a lane of a transmitter stands: how many of its bytes wait until they are taken, whether the lanes have ended, so that no byte more
-    is made, and whether 4,088 bytes or more of some lane wait, so that no word is made before some of them are taken. And how many packets
-    of all channels are left, whose last burst was not sent."""
+    """The state of a lane of a transmitter: the number of its bytes that wait to be taken; the number of packets of all channels whose last
+    burst was not sent; whether the lanes have ended; and whether some lane has 4,088 or more waiting bytes, so that no word is made before
+    some of them are taken."""
 
     waiting: int
     left: int

@@ -1,14 +1,14 @@
-"""What is wrong with the lanes of a device, while it runs: a receiver, an inspector, and a gatherer with a checker over the same bytes, as
-one stream.
+"""Finds faults in the lanes of a device while it runs: a receiver, an inspector, and a gatherer with a checker over the same bytes return
+one stream of findings.
 
     with Monitor(plan, library="lib/libinterlaken.so") as monitor:
         for event in monitor.feed_all(lanes):
             if isinstance(event, Finding):
                 print(event)
 
-Where bytes come live, call `feed` for each lane, and take `events()` after each. Each Finding has a lane and a bit of it, as far as there
-is one. The other events are the Packet and Flow of the receiver. The words are checked from the first group of aligned lanes on: if the
-device sends bursts by then, rules may be told that the words before would explain. What the far end turns off is not in the lanes: pass its
+If bytes arrive live, call `feed` for each lane, and read `events()` after each call. A Finding names its lane and bit, if it has one. The
+other events are the receiver's Packet and Flow. Words are checked from the first group of aligned lanes on: if the device already sends
+bursts then, a reported rule may be explained by the words before. The lanes do not show which channels the far end turns off: pass its
 verified control words to `flow`, or no word breaks the rule OFF.
 """
 
