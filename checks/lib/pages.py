@@ -5,7 +5,7 @@
     most      the most words that it may have: tokens with a letter or a digit, commands and their output among them
 
 A page above its number fails, and so do all together above ALL: take words out, or argue for a new number in the commit. A page without
-a row, or a row without a page, fails. So does a run of REPEAT words that two pages have outside commands, output and tables.
+a row, or a row without a page, fails. So does a run of REPEAT words that two pages have outside commands and output.
 
 Three forms of sentences fail, since English has plainer ones: 'alone' behind a noun ('only' before it), 'is no X' ('is not an X'), and a
 sentence that begins with What, That, Whether or Of, and so has a clause for its subject.
@@ -46,7 +46,7 @@ def runs_of(text):
     text = LINK.sub(r"\1", CODE.sub(lambda found: found[0].strip("`"), COMMENT.sub(blank, FENCE.sub(blank, text))))
     words = []
     for number, line in enumerate(text.split("\n"), 1):
-        if not line.lstrip().startswith(("|", "#")):
+        if not line.lstrip().startswith("#"):
             words += [(re.sub(r"\W", "", word).lower(), number) for word in words_in(line)]
     for first in range(len(words) - REPEAT + 1):
         run = words[first:first + REPEAT]
