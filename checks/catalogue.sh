@@ -1,7 +1,7 @@
 #!/usr/bin/env bash
-# Compares the checksums of this project with those of a public catalogue of CRCs, as the Debian package python3-crccheck has them: the
-# CRC24 of the words that `burst` writes, the checksum of the samples of `oobwrite`, the CRC32 of the lanes that `send` writes, and both
-# CRCs of tools/lib/reading. The CRC32 has another bit order than that of the catalogue.
+# Compares the project's checksums with a public catalogue of CRCs (Debian package python3-crccheck): the CRC24 of words of `burst`, the
+# checksum of samples of `oobwrite`, the CRC32 of lanes of `send`, and both CRCs of tools/lib/reading. The CRC32 has another bit order than
+# in the catalogue.
 set -u
 . "$(dirname "$0")/lib/program.bash"
 wants python3 python3

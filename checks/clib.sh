@@ -1,12 +1,15 @@
 #!/usr/bin/env bash
-# Tries the C library: the header's calls beside those of the archive, the C example and the Python module on lanes that the program
-# made, in drawn pieces and orders, beside what `receive` prints and writes; drawn sequences of calls with wrong ones among them, as C
-# and as C++, with the sanitizers if the compiler has them; and each allocation failing. The numbers of the crates, the Python
-# module and the package for SystemVerilog, and their texts, beside the header's; what else the header says: null with a count of 0, when an
-# event comes, threads. Random damage beside a slow reading of its definition and beside `damage`. A transmitter with packets and control
-# words at random times, whose lanes a receiver decodes. The programs of examples/c beside the commands. Symbol versions, with a program
-# linked as with 1.4.1; tools/library --install; the package of Python by pip. Needs gcc, and an archive of these sources: what the gate
-# or `rt lib` has built, or that of release/. CASES=1000 compares as many generated cases, SEQUENCES=100000 tries as many sequences.
+# Tries the C library.
+# - The header's calls are the archive's; numbers and texts of the crates, Python and SystemVerilog are the header's.
+# - C example and Python module print and write what `receive` does, on lanes in random pieces and orders; the programs of examples/c do
+#   what the commands do.
+# - Random sequences of calls, misused ones among them, as C and C++, with sanitizers if the compiler has them; each allocation fails once.
+# - Other promises of the header: null with a count of 0, the byte at which an event comes, threads.
+# - Random damage against a slow reading of its definition and against `damage`; a transmitter with packets and control words at random
+#   times.
+# - Symbol versions, with a program linked as with 1.4.1; tools/library --install; the Python package by pip.
+# Needs gcc, and an archive of these sources: built by the gate or `rt lib`, or of release/. CASES=1000 and SEQUENCES=100000 set how many
+# generated cases and sequences are tried.
 set -u
 . "$(dirname "$0")/lib/program.bash"
 wants_cc

@@ -1,6 +1,6 @@
 #!/usr/bin/env bash
-# The Python receiver as the test of cocotb feeds it, a bit of each lane at a time, beside `receive` of the same lanes; and the test
-# itself where cocotb is there, with iverilog or verilator. Needs gcc, and an archive of these sources.
+# Feeds the Python receiver as the cocotb test does, one bit of each lane at a time, and compares with `receive`; runs the test itself if
+# cocotb is installed, with iverilog or verilator. Needs gcc, and an archive of these sources.
 set -u
 . "$(dirname "$0")/lib/program.bash"
 wants python3 python3

@@ -1,7 +1,6 @@
 #!/usr/bin/env bash
-# Whether the checks of this folder can fail. Each that tries the program is run with programs in its place that do not work, and each
-# other one in a copy of the repository that has no crates and no edits: a check passes here if it fails there, in time. Names of
-# checks, as rows, try only these.
+# Tries whether the checks of this folder can fail. A check that tries the program runs with programs that do not work, and each other check
+# in a copy of the repository without crates and edits; each must fail, in time. Arguments are names of checks, as rows.
 set -u
 top=$(cd "$(dirname "${BASH_SOURCE[0]}")/.." && pwd)
 . "$top/checks/lib/tally.bash"

@@ -1,6 +1,6 @@
 #!/usr/bin/env bash
-# Compares what the tools' readers find in spoiled files with what the program finds, 500 plans among them: the same file, row and
-# cause each time; and calls tools/explain with mistakes, each with what it has to say of it.
+# Compares the findings of the tools' readers in spoiled files, 500 plans among them, with the program's: the same file, row and cause.
+# Calls tools/explain with mistakes, and with outputs that are also inputs.
 set -u
 . "$(dirname "$0")/lib/program.bash"
 wants python3 python3

@@ -1,6 +1,6 @@
 #!/usr/bin/env bash
-# Makes each allocation, read, write and open of the program fail in turn, command by command on a small link, by a library that
-# is loaded before the program; takes two minutes at most. Words are those of faults/faults.py, as --seconds 30 send.
+# Makes each allocation, read, write and open of the program fail in turn, for each command on a small link, by a library that is loaded
+# before the program. Takes two minutes at most. Arguments are those of faults/faults.py, as --seconds 30 send.
 set -u
 . "$(dirname "$0")/lib/program.bash"
 wants_cc

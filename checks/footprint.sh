@@ -1,7 +1,7 @@
 #!/usr/bin/env bash
-# Compares the stack and the memory that calls of the C library use with what the header says: the stack of each `new` and of all other
-# calls, painted before, and the memory that each handle keeps, by functions of interlaken_alloc.h that count. And runs each command of the
-# program in the stack that README says. Needs an archive as checks/clib.sh does.
+# Measures the stack and the memory of calls of the C library, and compares them with the header: the stack of each `new` and of all other
+# calls, and the memory that each handle keeps. Runs each command of the program in the stack that README says. Needs an archive as
+# checks/clib.sh does.
 set -u
 . "$(dirname "$0")/lib/program.bash"
 wants_cc

@@ -1,7 +1,7 @@
 #!/usr/bin/env bash
-# Tries the inspector, the gatherer and the checker of the C library beside `inspect`, `gather` and `check`: 1,000 random links of 1 to 64
-# lanes, damaged, in random pieces. Four threads with handles of their own find the same, and each allocation of each `new` fails. Needs
-# an archive as checks/clib.sh does. Words are those of handles.py, as --cases 5000 --jobs 4.
+# Tries the inspector, the gatherer and the checker of the C library against `inspect`, `gather` and `check`: 1,000 random damaged links of
+# 1 to 64 lanes, in random pieces. Four threads with their own handles find the same, and each allocation of each `new` fails once. Needs an
+# archive as checks/clib.sh does. Arguments are those of handles.py, as --cases 5000 --jobs 4.
 set -u
 . "$(dirname "$0")/lib/program.bash"
 wants_cc

@@ -1,7 +1,7 @@
 #!/usr/bin/env bash
-# Runs the launcher in a small tree, with programs that print who they are and an rt that proves nothing: which program is run
-# where, what is built and when, what --help and --version say; and there tools/release, the check of the release, checks/run with checks
-# that end in each way, and the gate.
+# Runs the launcher in a small tree, with programs that print their names and an rt that proves nothing: which program runs, what is built
+# and when, and --help and --version. Also tools/release, the check of the release, checks/run with checks that end in each way, and the
+# gate.
 set -u
 top=$(cd "$(dirname "${BASH_SOURCE[0]}")/.." && pwd)
 . "$top/checks/lib/tally.bash"

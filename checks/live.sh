@@ -1,10 +1,13 @@
 #!/usr/bin/env bash
-# Tries the C library on random links of 1 to 64 lanes beside the model. Of receivers the order of all events, and the byte at which each
-# comes, in random chunks and orders, and beside `receive` of the first bytes. Of transmitters each byte of each lane, slots and counts,
-# with packets and flow control at random times; their words beside `gather` and `check`. Each allocation of each call failing. Random
-# calls, wrong ones among them, under sanitizers; some under memcheck, and two threads under helgrind and a sanitizer. Needs an archive
-# as checks/clib.sh does. CASES=1000 tries as many links and as many transmitters, SEQUENCES=1000 as many scripts of random calls.
-# SENSITIVITY=1 tries instead whether the check fails with each of some wrong libraries.
+# Tries the C library on random links of 1 to 64 lanes against the Python model.
+# - Receivers: the order of all events and the byte at which each comes, in random chunks and orders, and against `receive` of the first
+#   bytes.
+# - Transmitters: each byte of each lane, slots and counts, with packets and flow control at random times; their words against `gather` and
+#   `check`.
+# - Each allocation of each call fails once. Random calls, misused ones among them, under sanitizers, some under memcheck, and two threads
+#   under helgrind and a sanitizer.
+# Needs an archive as checks/clib.sh does. CASES=1000 and SEQUENCES=1000 set how many links, transmitters and scripts of random calls are
+# tried. SENSITIVITY=1 instead tries whether the check fails with each of some wrong libraries.
 set -u
 . "$(dirname "$0")/lib/program.bash"
 wants_cc

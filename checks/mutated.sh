@@ -1,6 +1,6 @@
 #!/usr/bin/env bash
-# Runs the commands that read what another end made on 400 mutated files, and shows that each run ends by itself with an answer.
-# Words are those of mutated.py, as --count 100000 --jobs 4.
+# Runs the commands that read another end's files on 400 mutated files: each run ends by itself, with an answer. Arguments are those of
+# mutated.py, as --count 100000 --jobs 4.
 set -u
 . "$(dirname "$0")/lib/program.bash"
 wants python3 python3

@@ -1,5 +1,5 @@
 #!/usr/bin/env bash
-# Compares captures and words files by tools/packets in which packets and words were changed, taken out and put in.
+# Compares captures and words files by tools/packets after packets and words were changed, removed and inserted.
 set -u
 . "$(dirname "$0")/lib/program.bash"
 wants python3 python3

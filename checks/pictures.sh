@@ -1,6 +1,6 @@
 #!/usr/bin/env bash
-# Draws the examples, three generated cases, a link of 64 lanes and the tour by tools/picture, and compares the lanes, packets, spans
-# and peaks of the pictures with what the program printed; and gives it files that are missing, odd or of another run.
+# Draws the examples, three generated cases, a link of 64 lanes and the tour by tools/picture, and compares the lanes, packets, spans and
+# peaks of the pictures with the program's output; then gives it missing, odd and foreign files.
 set -u
 . "$(dirname "$0")/lib/program.bash"
 wants python3 python3

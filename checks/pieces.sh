@@ -1,6 +1,6 @@
 #!/usr/bin/env bash
-# Shows that outputs grow in pieces of 65,536 bytes while a command works, that the rests come last in the order of creation, and
-# that the text is one write, by a library that makes a write or a read of the program fail.
+# Shows that outputs grow in pieces of 65,536 bytes while a command works, that the rests come last in the order of creation, and that the
+# text is one write, by a library that makes a write or a read of the program fail.
 set -u
 . "$(dirname "$0")/lib/program.bash"
 wants_cc

@@ -1,9 +1,8 @@
 #!/usr/bin/env bash
-# Whether release/ is that of this tree: its program is whole, runs, and is byte for byte what the gate has built, and so is its archive
-# of the C library, but for running; and its sums of sources are those of the sources. Another kit than that of the release may build
-# other bytes of the same sources, so what it has built is not compared. INTERLAKEN_BUILT names the program that the gate has built,
-# which then has to be there; without it, one that was built in this checkout counts if it is not older than its sources, and so
-# does the archive.
+# Checks that release/ belongs to this tree: its program is whole, runs, and is byte for byte the program that the gate built, and its
+# archive of the C library too; its sums are those of the sources. Another kit may build other bytes, so then its build is not compared.
+# INTERLAKEN_BUILT names the program of the gate; without it a program or archive that was built in this checkout counts if it is not older
+# than its sources.
 set -u
 top=$(cd "$(dirname "${BASH_SOURCE[0]}")/.." && pwd)
 . "$top/checks/lib/tally.bash"

@@ -1,5 +1,5 @@
 #!/usr/bin/env bash
-# The worked examples of the model in model/, by its own test.
+# Runs the Python model's own test, which has its worked examples.
 set -u
 top=$(cd "$(dirname "${BASH_SOURCE[0]}")/.." && pwd)
 . "$top/checks/lib/tally.bash"

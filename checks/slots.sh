@@ -1,6 +1,6 @@
 #!/usr/bin/env bash
-# Compares the slots, lanes and bits of tools/slots with what `link` prints and with the lanes and words that the program writes, on the
-# examples and on random links.
+# Compares the slots, lanes and bits of tools/slots with the output of `link` and with the program's lanes and words, on the examples and on
+# random links.
 set -u
 . "$(dirname "$0")/lib/program.bash"
 wants python3 python3

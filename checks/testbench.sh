@@ -1,8 +1,7 @@
 #!/usr/bin/env bash
-# Compares the SystemVerilog benches of examples/testbench with the program. For lanes as sent and damaged ones, what the one bench
-# prints of a lane is what `receive` prints of it, and, if it is stated here, what the rules give. The lanes of idles that the
-# other makes are those of `send`, and `receive` locks on them. Needs iverilog; where verilator is there too, of version 5 or later,
-# it lints both benches.
+# Compares the SystemVerilog benches of examples/testbench with the program. For lanes as sent and damaged ones, the one bench prints of a
+# lane what `receive` prints, and what the rules give if it is stated here. The lanes of idles of the other are those of `send`, and
+# `receive` locks on them. Needs iverilog; verilator 5 or later also lints both benches.
 set -u
 . "$(dirname "$0")/lib/program.bash"
 wants iverilog iverilog

@@ -1,6 +1,6 @@
 #!/usr/bin/env bash
-# Writes the waves of examples and of a damaged link by tools/waves, reads them back, by vcd2fst too, and compares them with what the
-# program printed and wrote.
+# Writes the waves of examples and of a damaged link by tools/waves, reads them back, also by vcd2fst, and compares them with the program's
+# output and files.
 set -u
 . "$(dirname "$0")/lib/program.bash"
 wants python3 python3
