@@ -557,7 +557,7 @@ _PLAN_CALLS = {
 
 
 def _lane(number: int) -> int:
-    """The number of a lane; one that C cannot have is that of no lane, which ctypes would cut to one that may be there."""
+    """The number of a lane. A number that C cannot have becomes one that no lane has; ctypes would cut it to one that a lane may have."""
     return number if 0 <= number < _NO_LANE else _NO_LANE
 
 
@@ -751,7 +751,7 @@ class Receiver(_OfPlan):
         return taken.value
 
     def feed_bits(self, lane: int, bits: int, count: int) -> bool:
-        """Feeds a lane with its next `count` bits: those of a number, the highest first. False if the ring of the lane has no room: then
+        """Feeds a lane with its next `count` bits: the low bits of a number, the highest first. False if the ring of the lane has no room: then
         nothing was taken; take events and feed these again."""
         _within(bits, _within(count, 63, "count"), "number of %d bits" % count)
         self._feed_bits(lane, 0, 0)  # what is misused raises before bits are kept
@@ -799,7 +799,7 @@ class Receiver(_OfPlan):
             yield event
 
     def feed_all(self, lanes: Sequence[bytes]) -> Iterator[Event]:
-        """Feeds these lanes, all that the plan has and of which nothing was fed, to their ends, and yields all events as they come."""
+        """Feeds all lanes of the plan from first to last byte, and yields all events as they come. Nothing may have been fed before."""
         fed = [0] * len(lanes)
         over = [False] * len(lanes)
         while True:
@@ -1043,7 +1043,7 @@ class Inspector(_OfPlan):
             yield event
 
     def feed_all(self, lanes: Sequence[bytes]) -> Iterator[LaneEvent]:
-        """Feeds these lanes, of which nothing was fed, to their ends, one after another, and yields all their events."""
+        """Feeds these lanes from first to last byte, one after another, and yields all their events. Nothing of them may have been fed before."""
         for lane, data in enumerate(lanes):
             fed = 0
             while fed < len(data):
@@ -1087,7 +1087,7 @@ class Gatherer(_OfPlan):
             yield gathered
 
     def feed_all(self, lanes: Sequence[bytes]) -> Iterator[Gathered]:
-        """Feeds these lanes, of which nothing was fed, side by side to their ends, and yields all words and breaks, and then the end."""
+        """Feeds these lanes from first to last byte, side by side, and yields all words and breaks, and then the end."""
         fed = [0] * len(lanes)
         going = set(range(len(lanes)))
         while going:

@@ -164,7 +164,7 @@ class Monitor:
                 self._due.append(Finding(fault, broken))
 
     def feed_bits(self, lane: int, bits: int, count: int) -> bool:
-        """Feeds a lane with its next `count` bits: those of a number, the highest first. Up to seven bits wait for the next. False if the ring of
+        """Feeds a lane with its next `count` bits: the low bits of a number, the highest first. Up to seven bits wait for the next. False if the ring of
         the receiver has no room: then nothing was taken; take events and feed these again."""
         waiting = self._bits.setdefault(lane, _Bits())
         if not self._feed_waiting(lane, waiting):
@@ -188,7 +188,7 @@ class Monitor:
         self._gather()
 
     def feed_all(self, lanes: Sequence[bytes]) -> Iterator[Packet | Flow | Finding]:
-        """Feeds these lanes, all that the plan has and of which nothing was fed, to their ends, and yields what there is as it comes."""
+        """Feeds all lanes of the plan from first to last byte, and yields packets and findings as they come."""
         fed, left = [0] * len(lanes), set(range(len(lanes)))
         while left:
             before = sum(fed) - len(left)
