@@ -1,4 +1,4 @@
-ghost use Rattle.std.specs.Prelude.{◌≡◌, ◌+◌, ◌<◌, ◌≤◌, [], ◌∷◌, ◌++◌, length, filter, All, true, if◌then◌else◌, IfOk};
+ghost use Rattle.std.specs.Prelude.{◌≡◌, ◌+◌, ◌<◌, ◌≤◌, ℕ, List, [], ◌∷◌, ◌++◌, length, filter, slice_index, All, Contains, true, if◌then◌else◌, IfOk};
 ghost use Rattle.std.specs.List.{AllPairs};
 ghost use Rattle.lk_index_lists.specs.Held.{without, IsSameSize, IsApart};
 ghost use Rattle.burst_scheduler.specs.Ring.{ring_list, has_chunk, places_of, IsInOrder};
@@ -19,6 +19,19 @@ pub fn numbers(alloc: Global, channels: &[u16]) -> Result<Vec<(u16, u32)>, OutOf
     }
     order.sort_unstable_by_key(|pair| pair.0);
     Ok(order)
+}
+
+// Returns the place that stands with a channel in this order of number, looked up by halves: where a channel is listed and the
+// order is that of its list, its place.
+pub fn place_in(order: &[(u16, u32)], channel: u16) -> usize
+    ensures { (channels : List ℕ) → IsInOrder channels order.now → Contains channels channel → (result < length channels) × (slice_index channels result ≡ channel) }
+{
+    let at = order.partition_point(|pair| pair.0 < channel);
+    if at < order.len() {
+        order[at].1 as usize
+    } else {
+        order.len()
+    }
 }
 
 // Links the channels that have a chunk left into a ring that is empty, in order of number.

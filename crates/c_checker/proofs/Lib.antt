@@ -1,2 +1,1 @@
-mod CheckerBox
 mod Taken

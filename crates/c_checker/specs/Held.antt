@@ -5,11 +5,11 @@ use Rattle.csv_rows.specs.Rows.{rows_of}
 use Rattle.plan_errors.specs.declared.error.PlanError.{PlanError}
 use Rattle.link_plan.specs.Listing.{channels_in_order, numbers_of}
 use Rattle.link_plan.specs.Plan.{plan_of}
-use Rattle.link_plan.specs.Views.{GivesPlan}
+use Rattle.link_plan.specs.Views.{GivesPlan, plan_value}
 use Rattle.link_plan.specs.declared.plan.Plan.{Plan}
 use Rattle.duplex_model.specs.DuplexRun.{heard_word}
 use Rattle.word_rules.specs.declared.fault.Fault.{Fault}
-use Rattle.word_rules.specs.declared.limits.WordLimits.{WordLimits}
+use Rattle.word_rules.specs.Limits.{limits_of}
 use Rattle.live_checker.specs.declared.misuse.Misuse.{Misuse}
 use Rattle.live_checker.specs.Calls.{IsFinish, IsFlow, IsNext, IsWord, word_refusal}
 use Rattle.live_checker.specs.Standing.{Checked, Checks, nothing_checked}
@@ -24,19 +24,9 @@ use Rattle.c_checker.specs.Many.{GivesWords, asked}
 use Rattle.c_checker.specs.declared.fault.CFault.{CFault}
 use Rattle.c_checker.specs.declared.many.CWord.{CWord}
 
--- the numbers of a plan that the rules read
-abbrev pub limits_of : Plan → WordLimits
-limits_of plan = record {
-  burst_max = plan.link.burst_max;
-  burst_short = plan.link.burst_short;
-  burst_min = plan.burst_min;
-  max_packet = plan.link.max_packet;
-  wide = plan.wide;
-}
-
 -- a checker by the rules of a plan, its listed channels and its calendar, to which nothing came
 abbrev pub IsCheckerOf : Plan → State → Type 0
-IsCheckerOf plan t = Checks t (nothing_checked (limits_of plan) (channels_in_order (numbers_of plan.channels.items)) plan.entries.items)
+IsCheckerOf plan t = Checks t (nothing_checked (limits_of (plan_value plan)) (channels_in_order (numbers_of plan.channels.items)) plan.entries.items)
 
 -- it is that of the plan of these bytes
 abbrev pub IsCheckerOfPlan : List ℕ → State → Type 0

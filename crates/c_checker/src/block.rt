@@ -1,7 +1,9 @@
 //! The pointer that C holds to a checker, or to none.
 ghost use Rattle.std.specs.Prelude.{◌≡◌, true, is_some, Option, Some, None};
 ghost use Rattle.live_checker.specs.States.{State};
-ghost use Rattle.c_checker.specs.Owned.{block_owns, checker_coded};
+ghost use Rattle.std.specs.Coded.{coded_option};
+ghost use Rattle.c_parts.specs.OnBlock.{block_owns};
+ghost use Rattle.live_checker.specs.contracts.checker.LiveChecker.{the_row};
 
 use c_parts::Parts;
 use live_checker::LiveChecker;
@@ -16,11 +18,11 @@ use std::ptr;
 pub struct CheckerBlock {
     ptr: *mut u8,
     alloc: Global,
-    pub ghost checker: { Option State } by { checker_coded },
+    pub ghost checker: { Option State } by { coded_option the_row.coded },
 }
 
 impl Model for CheckerBlock {
-    ghost also_owns = { λ b. block_owns b.alloc b.ptr b.checker };
+    ghost also_owns = { λ b. block_owns the_row b.alloc b.ptr b.checker };
 }
 
 impl CheckerBlock {

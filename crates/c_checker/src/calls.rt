@@ -3,7 +3,7 @@ ghost use Rattle.std.specs.Prelude.{◌≡◌, IfOk, IfErr};
 ghost use Rattle.c_parts.specs.Refusals.{IsRefused};
 ghost use Rattle.c_checker.specs.Codes.{word_of};
 ghost use Rattle.c_checker.specs.Faults.{fault_told};
-ghost use Rattle.c_checker.specs.Held.{FinishesWords, FreesChecker, GivesFault, GivesKind, GivesMany, GivesResult, GivesWord, HearsFlow, IsCheckerOf, IsCheckerOfPlan, MakesChecker, limits_of};
+ghost use Rattle.c_checker.specs.Held.{FinishesWords, FreesChecker, GivesFault, GivesKind, GivesMany, GivesResult, GivesWord, HearsFlow, IsCheckerOf, IsCheckerOfPlan, MakesChecker};
 
 use crate::codes::{misuse_code, word_of};
 use crate::fault::{CFault, as_fault, no_fault};
@@ -17,25 +17,12 @@ use lk_base::{OutOfMemory, RxWord};
 use std::alloc::Global;
 use word_rules::{Fault, WordLimits};
 
-// The numbers of a plan that the rules read.
-fn limits_of(plan: &Plan) -> WordLimits
-    ensures { result ≡ limits_of plan.now }
-{
-    WordLimits {
-        burst_max: plan.link.burst_max(),
-        burst_short: plan.link.burst_short(),
-        burst_min: plan.burst_min,
-        max_packet: plan.link.max_packet(),
-        wide: plan.wide,
-    }
-}
-
 // A checker by the rules of a plan.
 fn checker_of(alloc: Global, plan: &Plan) -> Result<LiveChecker, OutOfMemory>
     ensures { IfOk result (IsCheckerOf plan.now) }
 {
     let channels = channels_in_order(alloc, &plan.channels)?;
-    let checker = LiveChecker::new(alloc, limits_of(plan), &channels, &plan.entries)?;
+    let checker = LiveChecker::new(alloc, WordLimits::of(plan), &channels, &plan.entries)?;
     Ok(checker)
 }
 

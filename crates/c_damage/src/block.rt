@@ -1,7 +1,9 @@
 //! The pointer that C holds to the damage of lanes, or to none.
 ghost use Rattle.std.specs.Prelude.{◌≡◌, true, is_some, List, Option, Some, None};
 ghost use Rattle.lane_damage.specs.OnWay.{OnWay};
-ghost use Rattle.c_damage.specs.Owned.{block_owns, damage_coded};
+ghost use Rattle.std.specs.Coded.{coded_option};
+ghost use Rattle.c_parts.specs.OnBlock.{block_owns};
+ghost use Rattle.lane_damage.specs.contracts.damage.Damage.{the_row};
 
 use c_parts::Parts;
 use lane_damage::Damage;
@@ -16,11 +18,11 @@ use std::ptr;
 pub struct DamageBlock {
     ptr: *mut u8,
     alloc: Global,
-    pub ghost damage: { Option (List OnWay) } by { damage_coded },
+    pub ghost damage: { Option (List OnWay) } by { coded_option the_row.coded },
 }
 
 impl Model for DamageBlock {
-    ghost also_owns = { λ b. block_owns b.alloc b.ptr b.damage };
+    ghost also_owns = { λ b. block_owns the_row b.alloc b.ptr b.damage };
 }
 
 impl DamageBlock {

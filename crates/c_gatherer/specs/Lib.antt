@@ -1,4 +1,3 @@
 pub mod Codes
 pub mod Held
-pub mod Owned
 pub mod Shown

@@ -1,7 +1,9 @@
 //! The pointer that C holds to a gatherer, or to none.
 ghost use Rattle.std.specs.Prelude.{◌≡◌, true, is_some, Option, Some, None};
 ghost use Rattle.c_gatherer.specs.declared.bit_gatherer.BitGatherer.{BitGatherer};
-ghost use Rattle.c_gatherer.specs.Owned.{block_owns, gatherer_coded};
+ghost use Rattle.std.specs.Coded.{coded_option};
+ghost use Rattle.c_parts.specs.OnBlock.{block_owns};
+ghost use Rattle.c_gatherer.specs.contracts.bit_gatherer.BitGatherer.{the_row};
 
 use crate::bit_gatherer::BitGatherer;
 use c_parts::Parts;
@@ -16,11 +18,11 @@ use std::ptr;
 pub struct GathererBlock {
     ptr: *mut u8,
     alloc: Global,
-    pub ghost gatherer: { Option BitGatherer } by { gatherer_coded },
+    pub ghost gatherer: { Option BitGatherer } by { coded_option the_row.coded },
 }
 
 impl Model for GathererBlock {
-    ghost also_owns = { λ b. block_owns b.alloc b.ptr b.gatherer };
+    ghost also_owns = { λ b. block_owns the_row b.alloc b.ptr b.gatherer };
 }
 
 impl GathererBlock {

@@ -1,7 +1,9 @@
 //! The pointer that C holds to an inspector, or to none.
 ghost use Rattle.std.specs.Prelude.{◌≡◌, true, is_some, Option, Some, None};
 ghost use Rattle.c_inspector.specs.declared.bit_inspector.BitInspector.{BitInspector};
-ghost use Rattle.c_inspector.specs.Owned.{block_owns, inspector_coded};
+ghost use Rattle.std.specs.Coded.{coded_option};
+ghost use Rattle.c_parts.specs.OnBlock.{block_owns};
+ghost use Rattle.c_inspector.specs.contracts.bit_inspector.BitInspector.{the_row};
 
 use crate::bit_inspector::BitInspector;
 use c_parts::Parts;
@@ -16,11 +18,11 @@ use std::ptr;
 pub struct InspectorBlock {
     ptr: *mut u8,
     alloc: Global,
-    pub ghost inspector: { Option BitInspector } by { inspector_coded },
+    pub ghost inspector: { Option BitInspector } by { coded_option the_row.coded },
 }
 
 impl Model for InspectorBlock {
-    ghost also_owns = { λ b. block_owns b.alloc b.ptr b.inspector };
+    ghost also_owns = { λ b. block_owns the_row b.alloc b.ptr b.inspector };
 }
 
 impl InspectorBlock {

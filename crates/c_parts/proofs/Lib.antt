@@ -1,1 +1,3 @@
+mod Blocks
 pub mod Holding
+pub mod Meeting

@@ -1,5 +1,6 @@
 pub mod Codes
 pub mod Misuses
+pub mod OnBlock
 pub mod OnHeld
 pub mod Places
 pub mod Refusals

@@ -1,5 +1,7 @@
 //! What the handles for C share: the numbers that C sees, misuse of calls, refusals of plans, places of words,
 //! reports of lanes, and the parts of a box.
+// why: A handle for C is a block (a pointer) and a mark that says if it holds a value; the value is a ghost. A call takes the box out
+// and puts it back, so all hand-made proofs are of functions by value, here once for all handles. All zeros are a handle of none.
 #![tactic(auto)]
 
 pub mod codes;

@@ -1,6 +1,8 @@
 //! The pointer that C holds to a session, or to none.
 ghost use Rattle.std.specs.Prelude.{◌≡◌, true, is_some, Option, Some, None};
-ghost use Rattle.c_receiver.specs.Owned.{block_owns, session_coded};
+ghost use Rattle.std.specs.Coded.{coded_option};
+ghost use Rattle.c_parts.specs.OnBlock.{block_owns};
+ghost use Rattle.c_receiver.specs.contracts.bit_receiver.BitReceiver.{the_row};
 ghost use Rattle.c_receiver.specs.declared.bit_receiver.BitReceiver.{BitReceiver};
 
 use crate::bit_receiver::BitReceiver;
@@ -16,11 +18,11 @@ use std::ptr;
 pub struct ReceiverBlock {
     ptr: *mut u8,
     alloc: Global,
-    pub ghost session: { Option BitReceiver } by { session_coded },
+    pub ghost session: { Option BitReceiver } by { coded_option the_row.coded },
 }
 
 impl Model for ReceiverBlock {
-    ghost also_owns = { λ h. block_owns h.alloc h.ptr h.session };
+    ghost also_owns = { λ h. block_owns the_row h.alloc h.ptr h.session };
 }
 
 impl ReceiverBlock {

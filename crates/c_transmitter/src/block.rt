@@ -1,7 +1,9 @@
 //! The pointer that C holds to a transmitter, or to none.
 ghost use Rattle.std.specs.Prelude.{◌≡◌, true, is_some, Option, Some, None};
 ghost use Rattle.c_transmitter.specs.declared.bit_transmitter.BitTransmitter.{BitTransmitter};
-ghost use Rattle.c_transmitter.specs.Owned.{block_owns, transmitter_coded};
+ghost use Rattle.std.specs.Coded.{coded_option};
+ghost use Rattle.c_parts.specs.OnBlock.{block_owns};
+ghost use Rattle.c_transmitter.specs.contracts.bit_transmitter.BitTransmitter.{the_row};
 
 use crate::bit_transmitter::BitTransmitter;
 use c_parts::Parts;
@@ -16,11 +18,11 @@ use std::ptr;
 pub struct TransmitterBlock {
     ptr: *mut u8,
     alloc: Global,
-    pub ghost transmitter: { Option BitTransmitter } by { transmitter_coded },
+    pub ghost transmitter: { Option BitTransmitter } by { coded_option the_row.coded },
 }
 
 impl Model for TransmitterBlock {
-    ghost also_owns = { λ b. block_owns b.alloc b.ptr b.transmitter };
+    ghost also_owns = { λ b. block_owns the_row b.alloc b.ptr b.transmitter };
 }
 
 impl TransmitterBlock {

@@ -1,3 +1,4 @@
+// why: No word counts before the first reset word, as after an invalid word.
 ghost use Rattle.std.specs.Prelude.{◌≡◌, ℕ, ◌+◌, ◌*◌, ◌<◌, ◌≤◌, List, [], ◌∷◌, ◌++◌, length, map, reverse, Bool, IfOk, All, vec_len};
 ghost use Rattle.std.specs.List.{range_with_len};
 ghost use Rattle.stream_model.specs.Calendar.{Told};

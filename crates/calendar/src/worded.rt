@@ -27,6 +27,9 @@ pub fn valid_word(word: u64) -> Option<Control>
     }
 }
 
+// why: A control word that a receiver verified is heard by its fields (calendar::verified_word). Its own checksum, over the
+// data before it, is not looked at. The contracts still say which flow row it is: the word with a checksum over only
+// itself (heard_word). Rows of a flow file are verified (valid_word).
 /// Returns the fields of a control word that was verified with the data before it, or `None` if the number is no control word. It does
 /// not look at the checksum: the fields are those of the flow row with the checksum of the word alone.
 pub fn verified_word(word: u64) -> Option<Control>

@@ -8,7 +8,7 @@ use Rattle.link_cases.specs.Case.{Case, numbers_drawn, case_of}
 use Rattle.link_cases.specs.Accepted.{schedule_of_case, settings_of}
 use Rattle.link_cases.proofs.Drawn as drawn
 use Rattle.pcap_files.specs.Written.{capture_bytes}
-use Rattle.run_shell.specs.Outcome.{Outcome}
+use Rattle.run_shell.specs.Outcome.{Outcome, content_of}
 use Rattle.receipts.specs.Received.{bytes_of}
 use Rattle.link_commands.specs.Delivery.{AllUndamaged, DeliversAll, captured_on, sent_on}
 use Rattle.link_commands.specs.Linked.{IsLinkedBy}
@@ -41,16 +41,16 @@ module _ (prefix : List ℕ) where
       (lit≤ tt))
 
   module _ (stream : List Word) (o : Outcome) (h : IsLinkedBy (clean_reading prefix) stream o) where
-    all : DeliversAll (clean_reading prefix) stream o h
+    all : DeliversAll (clean_reading prefix) stream h.over (content_of o.files)
     all = clean_case_delivers (asked clean_number prefix) stream o h (whole stream) near
 
-    sent : bytes_of (sent_on (clean_reading prefix) stream o h 0) ≡ four_bytes ∷ []
+    sent : bytes_of (sent_on (clean_reading prefix) stream h.over 0) ≡ four_bytes ∷ []
     sent = case_sends_all (asked clean_number prefix) stream o h 0 ∙ ap (λ (c : Case). captured_on (case_reading prefix c) 0) is_case
 
-    listed : Contains h.setting.channels 0
+    listed : Contains h.over.source.channels 0
     listed =
         let some = (drawn.case-fits clean_number).channels.some in
-        subst (λ (cs : List ℕ). Contains cs 0) (sym h.is_setting.channels) (case_listed prefix clean_number 0 (omega (arith, some)))
+        subst (λ (cs : List ℕ). Contains cs 0) (sym h.over.is_source.channels) (case_listed prefix clean_number 0 (omega (arith, some)))
 
     meets : CleanCaseMeets prefix
     meets = record {

@@ -6,7 +6,8 @@ use Rattle.link_plan.specs.Views.{plan_value}
 use Rattle.link_plan.specs.declared.plan.Plan as code
 use Rattle.plan_inputs.proofs.InputsRead.{same_numbers}
 use Rattle.word_rules.specs.declared.limits.WordLimits.{WordLimits}
-use Rattle.check_commands.specs.Check.{limits_of, rules_of}
+use Rattle.word_rules.specs.Limits.{limits_of}
+use Rattle.check_commands.specs.Check.{rules_of}
 
 pub same_rules : (plan : code.Plan) (flow : List FlowRow) (limits : WordLimits) (channels entries : List ℕ) (rows : List FlowRow) → limits ≡ limits_of (plan_value plan) → channels ≡ channels_in_order (numbers_of plan.channels.items) → entries ≡ plan.entries.items → rows ≡ flow
     → record { limits = limits; channels = channels; entries = entries; flow = rows } ≡ rules_of (plan_value plan) flow

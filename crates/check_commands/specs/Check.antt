@@ -17,7 +17,7 @@ use Rattle.run_shell.specs.Meaning.{Meaning}
 use Rattle.run_shell.specs.Work.{Work, meaning_by}
 use Rattle.word_rules.specs.Faults.{Plan, faults}
 use Rattle.word_rules.specs.declared.fault.Fault.{Fault}
-use Rattle.word_rules.specs.declared.limits.WordLimits.{WordLimits}
+use Rattle.word_rules.specs.Limits.{limits_of}
 use Rattle.run_stops.specs.WordsInputs.{words_in}
 use Rattle.check_commands.specs.Table.{check_text, faults_table}
 
@@ -49,16 +49,6 @@ abbrev pub IsReadFor : List ℕ → Files → List ℕ → Type 0
 IsReadFor name files q = (q ≡ name) ⊎ MatchResult (plan_in files name) (λ plan. IsOfPlan plan q) (λ r. ⊥)
 
 -- ---- what is made of it
-
--- the numbers of a plan that the rules read
-abbrev pub limits_of : PlanValue → WordLimits
-limits_of plan = record {
-  burst_max = plan.settings.burst_max;
-  burst_short = plan.settings.burst_short;
-  burst_min = plan.burst_min;
-  max_packet = plan.settings.max_packet;
-  wide = plan.wide;
-}
 
 -- what the words are judged by: the plan's numbers, its listed channels in order of number, its calendar, and the rows of flow
 -- control

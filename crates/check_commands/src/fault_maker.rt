@@ -6,7 +6,7 @@ ghost use Rattle.link_plan.specs.Views.{plan_value};
 ghost use Rattle.run_shell.specs.Outputs.{Differ, more, open_names};
 ghost use Rattle.run_shell.specs.Rests.{rests_of};
 ghost use Rattle.word_rules.specs.Checks.{Keeps};
-ghost use Rattle.check_commands.specs.Check.{faults_name, limits_of, rules_of};
+ghost use Rattle.check_commands.specs.Check.{faults_name, rules_of};
 ghost use Rattle.check_commands.specs.Making.{GaveFaults};
 ghost use Rattle.check_commands.specs.Table as table;
 
@@ -14,7 +14,7 @@ use crate::inputs::CheckInputs;
 use crate::pass::{BLOCK, block_faults};
 use crate::table::{fault_rows, heading};
 use crate::tally::Tally;
-use link_plan::{Plan, channels_in_order};
+use link_plan::channels_in_order;
 use lk_base::OutOfMemory;
 use run_shell::{Finished, Maker, Outputs, Step, only_name};
 use std::alloc::Global;
@@ -28,26 +28,13 @@ fn table_names(alloc: Global, out: &str) -> Result<Vec<String>, OutOfMemory>
     only_name(alloc, format!(in alloc; "{out}.faults.csv")?)
 }
 
-// The numbers of a plan that the rules read.
-fn limits_of(plan: &Plan) -> WordLimits
-    ensures { result ≡ limits_of (plan_value plan.now) }
-{
-    WordLimits {
-        burst_max: plan.link.burst_max(),
-        burst_short: plan.link.burst_short(),
-        burst_min: plan.burst_min,
-        max_packet: plan.link.max_packet(),
-        wide: plan.wide,
-    }
-}
-
 // What checks the words by the rules of a plan.
 fn checker_of(alloc: Global, inputs: &CheckInputs) -> Result<Checker, OutOfMemory>
     ensures { IfOk result (λ checker. Keeps checker (rules_of (plan_value inputs.now.plan) inputs.now.flow.items) []) }
 {
     let channels = channels_in_order(alloc, inputs.plan.channels.as_slice())?;
     let plan = WordPlan {
-        limits: limits_of(&inputs.plan),
+        limits: WordLimits::of(&inputs.plan),
         channels: &channels,
         entries: inputs.plan.entries.as_slice(),
         flow: inputs.flow.as_slice(),

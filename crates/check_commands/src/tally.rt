@@ -1,4 +1,5 @@
 //! The counts of faults, in all and of each rule.
+// why: Counts of rules are arrays of fixed length: the place of a rule is proved to be below it.
 ghost use Rattle.std.specs.Prelude.{◌≡◌, ◌<◌, ◌+◌, ◌-◌, ◌^◌, ◌==◌, ◌++◌, [], List, cond, length, slice_index, slice_set, IfOk, OnOk, string_bytes};
 ghost use Rattle.std.specs.List.{flat_map};
 ghost use Rattle.word_rules.specs.declared.fault.Fault.{Fault};

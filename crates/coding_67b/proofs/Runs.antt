@@ -1,7 +1,7 @@
 -- Codes one after another, and their bits as bytes.
-use Rattle.std.proofs.Common.{ℕ, ◌≡◌, refl, sym, ap, ◌∙◌, ◌+◌, ◌*◌, Bool, List, [], ◌∷◌, ◌++◌, length, take, arith, append_assoc, append-nil}
+use Rattle.std.proofs.Common.{ℕ, ◌≡◌, refl, sym, ap, ◌∙◌, ◌*◌, Bool, List, [], ◌∷◌, ◌++◌, length, arith, append-nil}
 use Rattle.std.proofs.lemmas.Grind.{flat_map-append}
-use Rattle.lk_base.specs.Checksum.{bits_of, bits_of_bytes}
+use Rattle.lk_base.specs.Checksum.{bits_of}
 use Rattle.lane_model.specs.LaneBits.{bits_of_codes}
 use Rattle.lane_model.proofs.FilesHold.{length-flat_map_bits}
 
@@ -25,17 +25,6 @@ code_more codes code = codes_joined codes (code ∷ []) ∙ ap (λ (bits : List 
 pub codes_length : (codes : List ℕ) → length (bits_of_codes codes) ≡ 67 * length codes
 unfolding bits_of_codes
 codes_length codes = length-flat_map_bits 67 codes
-
--- the next 8 bits that wait are given as a byte
-pub byte_more : (bytes new : List ℕ) (place byte : ℕ) (waits rest all : List Bool) → bits_of_bytes (take place bytes) ++ waits ≡ all → waits ≡ bits_of 8 byte ++ rest
-    → take (place + 1) new ≡ take place bytes ++ byte ∷ [] → bits_of_bytes (take (place + 1) new) ++ rest ≡ all
-byte_more bytes new place byte waits rest all before taken put =
-    let given : List ℕ = take place bytes in
-    ap (λ bs. bits_of_bytes bs ++ rest) put
-    ∙ ap (λ (bits : List Bool). bits ++ rest) (flat_map-append (bits_of 8) given (byte ∷ []) ∙ ap (λ (bits : List Bool). bits_of_bytes given ++ bits) (append-nil (bits_of 8 byte)))
-    ∙ append_assoc (bits_of_bytes given) (bits_of 8 byte) rest
-    ∙ ap (λ (bits : List Bool). bits_of_bytes given ++ bits) (sym taken)
-    ∙ before
 
 -- where no bit waits, the bytes have all bits
 pub all_given : (given waits all : List Bool) → given ++ waits ≡ all → length waits ≡ 0 → given ≡ all

@@ -1,4 +1,5 @@
 //! Codes of 67 bits both ways, and the bits of a lane as bytes both ways.
+// why: After a bit writer padded its last byte nothing waits; the lane's file pads, and no other caller does.
 #![tactic(auto)]
 
 mod codes;

@@ -7,6 +7,9 @@ ghost use Rattle.control_words.specs.declared.fields.Control.{Control};
 
 use super::fields::{Control, Eop, NotControl};
 
+// why: ControlWord::control is the only conversion to the fields, and there is no TryFrom beside it. The hexadecimal word of a
+// flow row is read digit by digit, since its definition allows the digits of either case one by one; hex::decode_to_slice
+// gives bytes, and its errors more than the rule has.
 /// A control word by its number, and each of its fields by name. Any number of 64 bits has them, also one that no receiver
 /// accepts.
 #[derive(Clone, Copy, Debug, PartialEq, Eq)]
@@ -89,6 +92,8 @@ impl ControlWord {
         (self.0 >> (55 - i)) & 1 == 1
     }
 
+    // why: The channel of a burst is ControlWord::channel(wide), and there is no function channel_number on a Control: its
+    // clause is channel_number wide of the word.
     /// Bits 39:32, the channel of the data that follow; where channel numbers are wide, bits 31:24 are the upper eight bits of its
     /// number.
     pub fn channel(self, wide: bool) -> u16
@@ -131,6 +136,9 @@ impl ControlWord {
         self.0 >> 24 << 24
     }
 
+    // why: A control word is carried as its number (Word::Control), and is a ControlWord if its fields are read; from_word
+    // gives control and crc of it in one call. The type is in control_words and not beside Word, since a change of lk_base
+    // proves the whole project again.
     /// The fields of a control word, the only ones that have its number. Bits that no sender sets are taken as they come.
     ///
     /// # Errors

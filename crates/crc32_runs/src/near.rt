@@ -44,7 +44,8 @@ fn fold_eight(words: &mut [u64], at: usize)
     }
 }
 
-/// Adds all words but the last 79 to 86 to later words, and returns the place of the first of these. Fewer words stay as they are.
+/// Adds words to later ones, and returns the place of the first word that was not added: the register of the words from there on is
+/// that of all words before. Usually all but the last 79 to 86 are added.
 pub fn fold_near(words: &mut [u64]) -> usize
     ensures register { register_of (drop result words.new) ≡ register_of words.old }
     ensures within { result ≤ length words.new }

@@ -90,8 +90,8 @@ damage_after_send name i send link damage files read (w, h) (v, k) r d lane lt s
     let s = plan.settings in
     let out = plan.out in
     let few : s.lanes ≤ 64 = k.link.lanes.1 in
-    let one : h.source ≡ k.source = same_source plan i.reading.inputs h.source k.source h.is_source k.is_source in
-    let same_stream : w ≡ v = one_stream k.source w v (subst (λ (x : Source). IsBurstStream x w) one h.of_stream.stream) k.is_stream in
+    let one : h.source ≡ k.over.source = same_source plan i.reading.inputs h.source k.over.source h.is_source k.over.is_source in
+    let same_stream : w ≡ v = one_stream k.over.source w v (subst (λ (x : Source). IsBurstStream x w) one h.of_stream.stream) k.over.is_stream in
     let (contents, are, wrote) = h.of_stream.files in
     let sent_is : sent ≡ get_or contents lane [] = content_at out s.lanes lane few lt contents [] send.files sent are.one_each (wrote ∙ sym (append-nil (outs (lane_names out s.lanes) contents))) is_sent in
     let code = stream_lane_bits s v lane in
@@ -104,8 +104,8 @@ damage_after_send name i send link damage files read (w, h) (v, k) r d lane lt s
     let made : damage.files ≡ outs (lane_names (damaged_out out) s.lanes) d.received ++ [] =
     d.files ∙ ap (λ (p : PlanValue). outs (lane_names (damaged_out p.out) p.settings.lanes) d.received) r.plan ∙ sym (append-nil (outs (lane_names (damaged_out out) s.lanes) d.received)) in
     let damaged_is : damaged ≡ get_or d.received lane [] = content_at (damaged_out out) s.lanes lane few lt d.received [] damage.files damaged (d.are.as_many ∙ many) made is_damaged in
-    let linked_is : linked ≡ get_or k.lanes lane [] = content_at out s.lanes lane few lt k.lanes _ link.files linked k.are_lanes.one_each k.files is_linked in
-    let of_link : IsFileOf linked (received_bits (lane_damage i.schedule lane) code) = subst (λ (bytes : List ℕ). IsFileOf bytes (received_bits (lane_damage i.schedule lane) code)) (sym linked_is) (k.are_lanes.each lane lt) in
+    let linked_is : linked ≡ get_or k.over.lanes lane [] = content_at out s.lanes lane few lt k.over.lanes _ link.files linked k.over.are_lanes.one_each k.files is_linked in
+    let of_link : IsFileOf linked (received_bits (lane_damage i.schedule lane) code) = subst (λ (bytes : List ℕ). IsFileOf bytes (received_bits (lane_damage i.schedule lane) code)) (sym linked_is) (k.over.are_lanes.each lane lt) in
     let arrived = arrives_at read.schedule i.schedule lane (get_or read.lanes lane []) sent (get_or d.received lane []) damaged r.schedule read_is (sym damaged_is) (d.are.each lane (omega (arith, many, lt))) in
     padding_stays (lane_damage i.schedule lane) codes.0 code sent damaged linked codes.1 coded free of_link arrived
   where

@@ -54,6 +54,8 @@ pub struct Got {
     pub length: u32,
 }
 
+// why: Duplex::new takes numbers, and not a plan and its settings: the crate of the machine needs neither the crate of plans
+// nor the crate of settings. duplex_commands takes the numbers from both.
 /// A run of two ends, slot by slot. `Waits duplex settings ends` says that it is before the first slot, with these packets;
 /// `Runs duplex settings ends slots a b`, that this many slots were done, in which the ends sent the words a and b; and
 /// `HasGot duplex setting settings slots a b got_a got_b`, that these packets of these words were given so far, by channel.

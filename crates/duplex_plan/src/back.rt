@@ -1,3 +1,6 @@
+// why: A row that is read from a file is a struct with named fields (BackRow, EventRow), in specs too. The forms of
+// csv_rows::Form have named fields, too. In specs a form is its constructor with the fields in order: least, greatest, and
+// the step or the longest text.
 /// A channel of end b that has packets.
 #[derive(Debug, Drop)]
 pub struct BackRow {

@@ -1,5 +1,7 @@
 //! The command that gathers: the lanes of a plan become the words file of their words, and a table of where their groups and breaks
 //! stand.
+// why: gather and inspect read lanes while they write, as receive does. Their maker would need a step that asks for bytes, and
+// what it gave would be stated for the files that it read.
 #![tactic(auto)]
 
 mod files;

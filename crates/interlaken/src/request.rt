@@ -1,4 +1,5 @@
 //! What words ask for.
+// why: FILE.plan is told from another file when a request is made, and not by a rule of arguments of its own.
 ghost use Rattle.std.specs.Prelude.{◌≡◌, map, is_some, IfOk, IfErr, IsSome, string_bytes};
 ghost use Rattle.interlaken.specs.Request.{is_plan_name, burst_of, join_of, IsGivenTo, request_for, request_by, request_of};
 ghost use Rattle.command_words.specs.CommandLine.{words_of};

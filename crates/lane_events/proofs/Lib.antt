@@ -1,5 +1,6 @@
 -- What other crates cite.
 pub mod EventsHold
+pub mod Due
 -- What this crate alone cites.
 mod Dues
 mod Local

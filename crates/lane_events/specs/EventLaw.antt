@@ -1,5 +1,5 @@
 -- The laws on the events of a lane.
-use Rattle.std.specs.Prelude.{ℕ, ◌≡◌, ◌≤◌, ◌<◌, ◌+◌, ◌==◌, ◌⊎◌, Bool, List, ◌++◌, AllPairs, count_by, All, take, drop, false, ◌^◌}
+use Rattle.std.specs.Prelude.{ℕ, ◌≡◌, ◌≤◌, ◌<◌, ◌+◌, ◌==◌, ◌⊎◌, nat_le, Bool, List, ◌++◌, AllPairs, count_by, All, filter, length, take, drop, false, ◌^◌}
 use Rattle.lk_base.specs.declared.word.Word.{Word}
 use Rattle.lk_base.specs.Link.{Settings}
 use Rattle.lk_base.specs.Words.{payload}
@@ -25,6 +25,15 @@ EventsAreDetermined = (s : Settings) (bits : List Bool) (one other : List LaneEv
 abbrev pub EarlierEventsStay : Type 0
 EarlierEventsStay = (s : Settings) (bits more : List Bool) (one all : List LaneEvent) → 32 ≤ s.metaframe →
     AreLaneEvents s bits one → AreLaneEvents s (bits ++ more) all → (rest : List LaneEvent) × (all ≡ one ++ rest)
+
+-- the word of an event, the 67 bits from the event's bit on, is among the first n bits
+abbrev pub is_within : ℕ → LaneEvent → Bool
+is_within n e = nat_le (e.bit + 67) n
+
+-- the events of the first bits of a lane are those of its words that end with or before the last of these bits, and no others
+abbrev pub EventsAreDue : Type 0
+EventsAreDue = (s : Settings) (bits more : List Bool) (one all : List LaneEvent) → 32 ≤ s.metaframe →
+    AreLaneEvents s bits one → AreLaneEvents s (bits ++ more) all → one ≡ filter (is_within (length bits)) all
 
 -- ---- their order
 

@@ -12,6 +12,9 @@ use std::marker::Model;
 /// How many payload words are kept as words: at most those of a piece of `MOST_BYTES` bytes.
 pub const MOST_WORDS: usize = 64;
 
+// why: The words of a run of payload words go from the lock of a lane to the deskew as words. lane_lock::StepList has at most
+// one run, between the steps before and after it, since a batch of 64 words seldom has two; a second run is appended as
+// steps.
 /// The steps that bits of a lane show, in order: steps, then payload words in a row, then steps. It takes memory when it is
 /// created, and none after.
 #[derive(Drop)]

@@ -1,5 +1,5 @@
 //! The bytes of words as they were received, nine for each.
-ghost use Rattle.std.specs.Prelude.{◌≡◌, ◌≤◌, ◌*◌, OnOk, length, take};
+ghost use Rattle.std.specs.Prelude.{◌≡◌, ◌≤◌, ◌*◌, OnErr, OnOk, length, take};
 ghost use Rattle.lane_words.specs.WordsFile.{rx_words_file};
 
 use lk_base::{OutOfMemory, RxWord};
@@ -20,9 +20,10 @@ fn write_words(bytes: &mut [u8], words: &[RxWord])
 ///
 /// # Errors
 ///
-/// `OutOfMemory` if memory ran out, and nothing else.
+/// `OutOfMemory` if memory ran out, and nothing else. `bytes` is then unchanged.
 pub fn words_bytes(bytes: &mut Vec<u8>, words: &[RxWord]) -> Result<(), OutOfMemory>
-    ensures { OnOk result (bytes.new.items ≡ rx_words_file words.now) }
+    ensures file { OnOk result (bytes.new.items ≡ rx_words_file words.now) }
+    ensures err { OnErr result (bytes.new.items ≡ bytes.old.items) }
 {
     bytes.resize(WORD_BYTES * words.len(), 0)?;
     write_words(bytes, words);

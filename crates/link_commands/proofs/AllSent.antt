@@ -65,32 +65,32 @@ none_sent : (source : Source) (w : List Word) (packets : List (List ℕ)) (slots
 none_sent source w packets slots e = rw e refl
 
 module _ (i : LinkReading) (stream : List Word) (o : Outcome) (h : IsLinkedBy i stream o) where
-  is_free : o.status ≡ Done → IsHeld h.source stream → ⊥
+  is_free : o.status ≡ Done → IsHeld h.over.source stream → ⊥
   is_free done = by o.status h.status done
     where
-      by : (status : Status) → IsStatusOf h.source stream status → status ≡ Done → IsHeld h.source stream → ⊥
+      by : (status : Status) → IsStatusOf h.over.source stream status → status ≡ Done → IsHeld h.over.source stream → ⊥
       by status (inl (e, held)) done = absurd cc
       by status (inr (e, free)) done = free
 
-  pub captured : (channel : ℕ) → packets_of h.source channel ≡ captured_on i channel
-  captured channel = ap (λ (ps : List (ℕ × List ℕ)). map (λ (p : ℕ × List ℕ). p.1) (filter (λ (p : ℕ × List ℕ). p.0 == channel) ps)) h.is_source.packets
+  pub captured : (channel : ℕ) → packets_of h.over.source channel ≡ captured_on i channel
+  captured channel = ap (λ (ps : List (ℕ × List ℕ)). map (λ (p : ℕ × List ℕ). p.1) (filter (λ (p : ℕ × List ℕ). p.0 == channel) ps)) h.over.is_source.packets
 
-  listed : (channel : ℕ) → AreOn (channels_in_order (numbers_in i.reading.plan)) i.reading.inputs.packets → (packets_of h.source channel ≡ []) ⊎ Contains h.source.channels channel
+  listed : (channel : ℕ) → AreOn (channels_in_order (numbers_in i.reading.plan)) i.reading.inputs.packets → (packets_of h.over.source channel ≡ []) ⊎ Contains h.over.source.channels channel
   listed channel on =
-      none_or_listed h.source.channels channel h.source.packets
-      (subst (λ (ps : List (ℕ × List ℕ)). AreOn h.source.channels ps) (sym h.is_source.packets) (subst (λ (cs : List ℕ). AreOn cs i.reading.inputs.packets) (sym h.is_source.channels) on))
+      none_or_listed h.over.source.channels channel h.over.source.packets
+      (subst (λ (ps : List (ℕ × List ℕ)). AreOn h.over.source.channels ps) (sym h.over.is_source.packets) (subst (λ (cs : List ℕ). AreOn cs i.reading.inputs.packets) (sym h.over.is_source.channels) on))
 
-  numbered_sent : (channel : ℕ) → EachIsPacket h.setting.max_packet h.source → AreOn (channels_in_order (numbers_in i.reading.plan)) i.reading.inputs.packets → (IsHeld h.source stream → ⊥) →
-      bytes_of (sent_packets h.source channel stream) ≡ packets_of h.source channel
+  numbered_sent : (channel : ℕ) → EachIsPacket h.setting.max_packet h.over.source → AreOn (channels_in_order (numbers_in i.reading.plan)) i.reading.inputs.packets → (IsHeld h.over.source stream → ⊥) →
+      bytes_of (sent_packets h.over.source channel stream) ≡ packets_of h.over.source channel
   numbered_sent channel each on free = elim (listed channel on) [
-    | inl none ↦ none_sent h.source stream (packets_of h.source channel) (burst_slots channel 0 stream) none
-    | inr has ↦ the_law_on_held h.source h.setting.max_packet channel stream has h.is_stream each free
+    | inl none ↦ none_sent h.over.source stream (packets_of h.over.source channel) (burst_slots channel 0 stream) none
+    | inr has ↦ the_law_on_held h.over.source h.setting.max_packet channel stream has h.over.is_stream each free
   ]
 
   -- where the packets are within the longest and on the plan's channels
-  pub all_sent : EachIsPacket h.setting.max_packet h.source → AreOn (channels_in_order (numbers_in i.reading.plan)) i.reading.inputs.packets → o.status ≡ Done → SendsAll i stream o h
+  pub all_sent : EachIsPacket h.setting.max_packet h.over.source → AreOn (channels_in_order (numbers_in i.reading.plan)) i.reading.inputs.packets → o.status ≡ Done → SendsAll i stream o h
   all_sent each on done channel =
-      places_change_no_packet (slot_place (sent_over i stream)) numbered h.source channel stream
+      places_change_no_packet (slot_place (sent_over i stream)) numbered h.over.source channel stream
       ∙ numbered_sent channel each on (is_free done)
       ∙ captured channel
 

@@ -104,22 +104,22 @@ lacks_one place source channel z w stream finish left =
 
 module _ (i : LinkReading) (stream : List Word) (o : Outcome) (h : IsLinkedBy i stream o) where
   abbrev lines : List ℕ
-  lines = link_text h.source stream h.reports h.setting h.events h.counts (missing_lines h.sent (missing_among (sent_over i stream) h.events h.sent))
+  lines = link_text h.over.source stream h.reports h.setting h.events h.over.counts (missing_lines h.sent (missing_among (sent_over i stream) h.events h.sent))
 
-  lacks_on : (channel : ℕ) → IsHeldOn h.source stream channel → o.text ≡ lines ++ held_line channel → LacksAPacket i stream o h
+  lacks_on : (channel : ℕ) → IsHeldOn h.over.source stream channel → o.text ≡ lines ++ held_line channel → LacksAPacket i stream o h
   lacks_on channel (z, finish, least) text = record {
     channel = channel;
     held_on = (z, finish, least);
     named = text;
-    fewer = subst (λ (ps : List (List ℕ)). length (sent_on i stream o h channel) < length ps) (captured i stream o h channel)
-        (lacks_one (slot_place (sent_over i stream)) h.source channel z stream h.is_stream finish least.0.1);
+    fewer = subst (λ (ps : List (List ℕ)). length (sent_on i stream h.over channel) < length ps) (captured i stream o h channel)
+        (lacks_one (slot_place (sent_over i stream)) h.over.source channel z stream h.over.is_stream finish least.0.1);
   }
 
-  ended : IsHeld h.source stream → IsEndedBy h.source stream lines o.text → LacksAPacket i stream o h
+  ended : IsHeld h.over.source stream → IsEndedBy h.over.source stream lines o.text → LacksAPacket i stream o h
   ended held (inl (channel, on, text)) = lacks_on channel on text
   ended held (inr (free, text)) = absurd (free held)
 
-  is_held : (status : Status) → IsStatusOf h.source stream status → status ≡ Held → IsHeld h.source stream
+  is_held : (status : Status) → IsStatusOf h.over.source stream status → status ≡ Held → IsHeld h.over.source stream
   is_held status (inl (e, held)) s = held
   is_held status (inr (e, free)) s = absurd cc
 

@@ -14,10 +14,11 @@ use Rattle.stream_model.proofs.OneStream.{one_stream}
 use Rattle.receive_model.specs.Positions.{Epoch}
 use Rattle.receive_model.specs.Stretches.{fault_from, items_of}
 use Rattle.receive_model.specs.Pieces.{bytes_of, Packet}
-use Rattle.receive_model.specs.Events.{Event, Setting, delivered, events}
+use Rattle.receive_model.specs.Events.{Event, delivered, events}
 use Rattle.receive_model.specs.Spans.{spans}
 use Rattle.delivery_laws.specs.Law.{meets_none}
 use Rattle.delivery_laws.specs.SentPackets.{sent_packets_at}
+use Rattle.report_model.specs.declared.counts.Accidents.{Accidents}
 use Rattle.link_laws.specs.Accidents.{Sent, accidents_in, no_accidents, slot_place}
 use Rattle.link_laws.specs.PremisesMet.{channel_1, two_lanes, wide_packet}
 use Rattle.link_laws.specs.Received.{AreReceived}
@@ -39,7 +40,7 @@ use Rattle.link_commands.specs.Linked.{IsLinkedBy, missing_among, missing_lines,
 use Rattle.link_commands.specs.PremisesMet.{one_to_eight, plan_name}
 use Rattle.link_commands.specs.TwoPacketsMet.{OneOfTwoArrives, eight_more, second_packet, two_entries, two_epoch, two_files, two_packets, two_reading, two_words}
 use Rattle.plan_inputs.proofs.ListedFiles.{HaveBytes, files_of_bytes}
-use Rattle.link_commands.proofs.DamagedGroups.{events_are, lose_none, none_there, one_epoch, setting_is}
+use Rattle.link_commands.proofs.DamagedGroups.{events_are, lose_none, none_there, one_epoch}
 use Rattle.link_commands.proofs.Delivers.{delivers}
 use Rattle.link_commands.proofs.LinkWork.{lawful_link}
 use Rattle.link_commands.proofs.PremisesHold.{done_by}
@@ -136,23 +137,23 @@ module _ (source : Source) (is : IsSourceOf two_reading.reading.plan two_reading
 an_outcome : (o : Outcome) × IsLinkedBy two_reading two_words o
 an_outcome =
     let (o, (w, h)) = (lawful_link plan_name).some_made two_files have_bytes two_reading two_read in
-    (o, subst (λ (x : List Word). IsLinkedBy two_reading x o) (words_are h.source h.is_source w h.is_stream) h)
+    (o, subst (λ (x : List Word). IsLinkedBy two_reading x o) (words_are h.over.source h.over.is_source w h.over.is_stream) h)
 
 abbrev two_to_send : List (ℕ × List ℕ)
 two_to_send = (1, one_to_eight) ∷ (1, eight_more) ∷ []
 
 module _ (o : Outcome) (h : IsLinkedBy two_reading two_words o) where
-  none : h.counts ≡ no_accidents
+  none : h.over.counts ≡ no_accidents
   none = none_there two_to_send two_packets two_words two_stream refl o h none_counted
 
-  its_epoch : (all : List Epoch) → AreReceived two_lanes (map bits_of_bytes h.lanes) all → all ≡ epochs
+  its_epoch : (all : List Epoch) → AreReceived two_lanes (map bits_of_bytes h.over.lanes) all → all ≡ epochs
   its_epoch = one_epoch two_to_send two_packets two_words two_stream refl o h
 
   its_events : h.events ≡ events channel_1 epochs
   its_events = events_are two_to_send two_packets two_words two_stream refl o h
 
-  sent_is : sent_on two_reading two_words o h 1 ≡ both
-  sent_is = ap (λ (x : Source). sent_packets_at (slot_place two_sent) x 1 two_words) (source_is h.source h.is_source) ∙ both_sent
+  sent_is : sent_on two_reading two_words h.over 1 ≡ both
+  sent_is = ap (λ (x : Source). sent_packets_at (slot_place two_sent) x 1 two_words) (source_is h.over.source h.over.is_source) ∙ both_sent
 
   told : missing_lines h.sent (missing_among two_sent h.events h.sent) ≡ codes "missing channel=1 packet=0 first=224 last=226 span=1\n"
   told =
@@ -161,15 +162,15 @@ module _ (o : Outcome) (h : IsLinkedBy two_reading two_words o) where
 
   -- ---- its files
 
-  unmet : DeliversUnmet two_reading two_words o h
-  unmet = delivers two_files plan_name two_reading two_words o two_read h none
+  unmet : DeliversUnmet two_reading two_words h.over (content_of o.files)
+  unmet = delivers two_files plan_name two_reading two_words o two_read h (ap (λ (c : Accidents). c.stretches) none)
 
   table : content_of o.files (spans_name (codes "o")) ≡ Some (span_table three_spans)
   table = unmet.table ∙ ap (λ (es : List Epoch). Some (span_table (spans (items_of es)))) (its_epoch unmet.epochs unmet.are) ∙ ap (λ ss. Some (span_table ss)) spans_are
 
   capture : content_of o.files (capture_name (codes "o") 1) ≡ Some (capture_bytes 1 (eight_more ∷ []))
   capture =
-      unmet.captures 1 (subst (λ (x : Setting). Contains x.channels 1) (sym (setting_is two_to_send two_packets two_words two_stream refl o h)) (0, lit< tt, refl))
+      unmet.captures 1 (subst (λ (x : Source). Contains x.channels 1) (sym (source_is h.over.source h.over.is_source)) (0, lit< tt, refl))
       ∙ ap₂ (λ (es : List Epoch) (ps : List Packet). Some (capture_bytes 1 (received.bytes_of (filter (meets_none (items_of es)) ps)))) (its_epoch unmet.epochs unmet.are) sent_is
       ∙ ap (λ (ps : List Packet). Some (capture_bytes 1 (received.bytes_of ps))) meets_one
 
@@ -181,7 +182,7 @@ one_of_two =
       read = two_read;
       outcome = o;
       linked = h;
-      done = done_by h.source two_words o.status h.is_source.flow h.status;
+      done = done_by h.over.source two_words o.status h.over.is_source.flow h.status;
       one_epoch = its_epoch o h;
       none = none o h;
       kept = lose_none two_to_send two_packets two_words two_stream refl o h;

@@ -83,14 +83,14 @@ pub record OneOfTwoArrives : Type 0 where
   pub linked : IsLinkedBy two_reading two_words outcome
   pub done : outcome.status ≡ Done
   -- the bits of the written lanes show this epoch, and no other
-  pub one_epoch : (epochs : List Epoch) → AreReceived two_lanes (map bits_of_bytes linked.lanes) epochs → epochs ≡ two_epoch ∷ []
+  pub one_epoch : (epochs : List Epoch) → AreReceived two_lanes (map bits_of_bytes linked.over.lanes) epochs → epochs ≡ two_epoch ∷ []
   -- no accident is counted, and no declared lock was lost
-  pub none : linked.counts ≡ no_accidents
+  pub none : linked.over.counts ≡ no_accidents
   pub kept : LosesNoLock linked.reports
   pub are : spans (items_of (two_epoch ∷ [])) ≡ three_spans
   pub table : content_of outcome.files (spans_name (codes "o")) ≡ Some (span_table three_spans)
   -- both packets are sent, and the second alone meets no span
-  pub sent : sent_on two_reading two_words outcome linked 1 ≡ wide_packet ∷ second_packet ∷ []
+  pub sent : sent_on two_reading two_words linked.over 1 ≡ wide_packet ∷ second_packet ∷ []
   pub meets : filter (meets_none (items_of (two_epoch ∷ []))) (wide_packet ∷ second_packet ∷ []) ≡ second_packet ∷ []
   -- it arrives alone, and the first is reported as missing
   pub arrives : delivered 1 linked.events ≡ second_packet ∷ []

@@ -77,6 +77,9 @@ impl Observer for Counter<'_> {
 
     ghost saw = { HasCounted };
 
+    // why: Accidents are counted in runs: while the words of a block are the sent ones they are only compared. The checksum is
+    // computed from the first word that is not as sent, with the sent words before it taken first. The view of Stretch
+    // lags by these words (caught_up), and a run is a fold of word.
     fn words(&mut self, front: &Front, count: usize) {
         self.watch.words(self.sent, front, count);
     }

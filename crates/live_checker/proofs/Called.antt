@@ -8,12 +8,12 @@ use Rattle.live_checker.specs.Standing.{Checked, nothing_checked, with_heard, wi
 use Rattle.live_checker.specs.Laws.{AreSameRows, Call, GiveFlow, GiveWord, LawOnCalls, after, plan_with, rows_in, words_in}
 use Rattle.live_checker.proofs.SameRows.{same_rows}
 
-words_after : (calls : List Call) (x : Checked) → (after calls x).words ≡ x.words ++ words_in calls
+pub words_after : (calls : List Call) (x : Checked) → (after calls x).words ≡ x.words ++ words_in calls
 words_after [] x = sym (append-nil x.words)
 words_after (GiveWord word ∷ calls) x = words_after calls (with_word word x) ∙ append_assoc x.words (word ∷ []) (words_in calls)
 words_after (GiveFlow heard ∷ calls) x = words_after calls (with_heard heard x)
 
-plan_after : (calls : List Call) (x : Checked) → (after calls x).plan ≡ with_flow x.plan (x.plan.flow ++ rows_in (length x.words) calls)
+pub plan_after : (calls : List Call) (x : Checked) → (after calls x).plan ≡ with_flow x.plan (x.plan.flow ++ rows_in (length x.words) calls)
 plan_after [] x = ap (with_flow x.plan) (sym (append-nil x.plan.flow))
 plan_after (GiveWord word ∷ calls) x =
     let n : length (x.words ++ word ∷ []) ≡ suc (length x.words) = (let l = length-append x.words (word ∷ []) in omega arith) in

@@ -137,8 +137,8 @@ impl LiveChecker {
         Ok(())
     }
 
-    /// Takes Data words of these numbers, one after another as `word` does, if none of them can show a fault and they are not too many.
-    /// Otherwise takes none, and nothing changes. True if they were taken.
+    /// Takes Data words of these numbers, one after another as `word` does, and returns true; or takes none, returns false, and changes
+    /// nothing. It may return false although no word of the run shows a fault.
     pub fn data_run(&mut self, run: &[u64]) -> bool
         ensures { IsRun self.old self.new run.now result }
     {

@@ -1,5 +1,6 @@
 //! The laws on faults that are told as words come.
 ghost use Rattle.live_checker.specs.Laws.{LawOnCalls, LiveRowsAreInOrder, LiveRowsAreRows};
+ghost use Rattle.live_checker.specs.Steps.{StepsCheck, StepsTellFaults};
 
 /// The faults that words show one by one are the faults of all words together. The rows of all rules but `empty` are the same list,
 /// and so are the rows of `empty`.
@@ -17,4 +18,12 @@ pub fn live_rows_are_in_order()
 /// control: its slot is the number of words that were given before it.
 pub fn faults_are_those_of_check()
     ensures { LawOnCalls }
+{}
+
+/// Any calls on a new checker, in any order and with any misuse among them, lead to a state that stands for what they gave. The faults
+/// that they gave back, and then those that are due, are the faults of all words that were taken, in the same two lists: the rows of
+/// `empty`, and all others.
+pub fn calls_lead_to_checks()
+    ensures check { StepsCheck }
+    ensures tell { StepsTellFaults }
 {}

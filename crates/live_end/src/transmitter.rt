@@ -17,6 +17,8 @@ use lk_base::{Link, OutOfMemory, Shape, Word};
 use std::alloc::Global;
 use std::marker::Model;
 
+// why: LiveTransmitter::take makes each word only while fewer bytes wait than are asked for (MakesWords), so a caller that
+// takes few bytes at a time has a flow word counted soon. For a lane that does not exist it makes no word.
 /// A transmitter of the lanes of a link whose packets and rows are given while it sends. Words are made as bytes of lanes are asked
 /// for, one of each lane at a time, so what is given counts from the next word on.
 #[derive(Drop)]

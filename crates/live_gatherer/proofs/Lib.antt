@@ -6,3 +6,4 @@ mod Takings
 mod Feeding
 mod Standings
 mod LawsHold
+mod WholeLanes

@@ -58,6 +58,11 @@ pub record AreGathered (items : List Aligned) : Type 0 where
 abbrev pub NumberedAreGathered : Type 0
 NumberedAreGathered = (items : List Aligned) → AreGathered items
 
+-- of whole lanes all words are given: after the last break no group begins
+abbrev pub AllAreGathered : Type 0
+AllAreGathered = (s : Settings) (lanes : List (List ℕ)) (items : List Aligned) → AreAllItems s lanes items →
+    (begun items ≡ []) × (gathered_words items ≡ words_given false (numbered items))
+
 -- ---- what was given
 
 -- it is the first of what is given of all lanes whose bytes begin with what was fed, and are equal to it on finished lanes

@@ -1,10 +1,15 @@
 //! The laws on what is given.
-ghost use Rattle.live_gatherer.specs.Laws.{EndGaveAll, GivenComeFirst, NoneWaitsForBytes, NumberedAreGathered};
+ghost use Rattle.live_gatherer.specs.Laws.{AllAreGathered, EndGaveAll, GivenComeFirst, NoneWaitsForBytes, NumberedAreGathered};
 
-/// Of any items the words that are given, with one Bad word for each break between two, are the gathered words; and the breaks are the
+/// Of any items the words that are given, with one Bad word for each break between two epochs, are the gathered words; and the breaks are the
 /// rows of their places that have a cause.
 pub fn numbered_are_gathered()
     ensures { NumberedAreGathered }
+{}
+
+/// Of whole lanes the words that are given, with one Bad word for each break between two epochs, are the gathered words, and no others.
+pub fn all_are_gathered()
+    ensures { AllAreGathered }
 {}
 
 /// What was given is the first of what all lanes give whose bytes begin with what was fed, and are equal to it on finished lanes, in

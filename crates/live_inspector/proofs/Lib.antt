@@ -2,3 +2,4 @@
 mod AllLanes
 mod Taking
 mod CallsHold
+mod InTime

@@ -1,11 +1,12 @@
 -- The laws on any calls, in any order.
-use Rattle.std.specs.Prelude.{ℕ, ◌≡◌, ◌<◌, ◌==◌, cond, List, [], ◌∷◌, ◌++◌, length, get_or, take, Option, Some, None, Result, Ok, Err}
+use Rattle.std.specs.Prelude.{ℕ, ◌≡◌, ◌<◌, ◌+◌, ◌*◌, ◌==◌, cond, List, [], ◌∷◌, ◌++◌, filter, length, get_or, take, Option, Some, None, Result, Ok, Err}
 use Rattle.lk_base.specs.Checksum.{bits_of_bytes}
 use Rattle.lk_base.specs.Link.{Settings}
 use Rattle.lane_events.specs.declared.types.LaneEvent.{LaneEvent}
+use Rattle.lane_events.specs.EventLaw.{is_within}
 use Rattle.lane_events.specs.Events.{AreLaneEvents}
 use Rattle.live_inspector.specs.Calls.{AreFresh, FeedsLane, FinishesLane, IsNext, event_of}
-use Rattle.live_inspector.specs.Lanes.{Lane, Stands, Told, gave, took, untold}
+use Rattle.live_inspector.specs.Lanes.{Lane, Stands, Takes, Told, gave, took, untold}
 use Rattle.live_inspector.specs.declared.misuse.Misuse.{Misuse}
 use Rattle.live_inspector.specs.declared.types.LiveEvent.{LiveEvent}
 
@@ -65,3 +66,14 @@ GivenAreFirst = (s : Settings) (calls : List Call) (lanes : List Lane) (h : Hist
 abbrev pub AllAreGiven : Type 0
 AllAreGiven = (s : Settings) (calls : List Call) (lanes : List Lane) (h : History) (i : ℕ) (events : List LaneEvent) → ComesTo s calls lanes h → IsNext lanes lanes None → i < s.lanes →
     AreLaneEvents s (bits_of_bytes (h i).bytes) events → (h i).given ≡ events
+
+-- After any calls the events that were given of a lane, and then those that are due, are all events of the words that end within the
+-- bytes that were taken of it, and no others, however the lane goes on.
+abbrev pub EventsAreInTime : Type 0
+EventsAreInTime = (s : Settings) (calls : List Call) (lanes : List Lane) (h : History) (i : ℕ) (d : Lane) (more : List ℕ) (all : List LaneEvent) → ComesTo s calls lanes h → i < s.lanes →
+    AreLaneEvents s (bits_of_bytes ((h i).bytes ++ more)) all → (h i).given ++ (get_or lanes i d).due ≡ filter (is_within (8 * length (h i).bytes)) all
+
+-- A call that takes bytes takes at most six bytes past the one in which the word of the first event that is then due ends.
+abbrev pub FeedStopsSoon : Type 0
+FeedStopsSoon = (s : Settings) (l m : Lane) (piece : List ℕ) (n : ℕ) (t : Told) (first : LaneEvent) (others : List LaneEvent) → Stands s l t → Takes l m piece n →
+    l.due ≡ [] → m.due ≡ first ∷ others → 8 * (length t.bytes + n) < first.bit + 67 + 56

@@ -1,7 +1,8 @@
 //! The laws on the bytes that are taken of lanes.
 ghost use Rattle.live_lanes.specs.Laws.{AllTakenAreTheFile, AllWantTheSame, AreInStep, AreWholeBytes, TakenAreFirst};
 
-/// What was taken of a lane, in whatever pieces, is the first of the file of that lane, whatever payload words follow.
+/// The bytes that were taken of a lane, in whatever pieces, are the first of the file of that lane, whatever payload words follow.
+/// Eight words are 67 bytes.
 pub fn taken_are_first()
     ensures { TakenAreFirst }
 {}

@@ -25,6 +25,9 @@ pub fn channels_are_heard()
     ensures { ChannelsAreHeard }
 {}
 
+// why: That a lock is declared if and only if its report has more locks than lost ones is a law of the receiver for C
+// (live_receiver::states_are_reported), and none of lock_model. It is on what a caller can see: the state and the report
+// of one lane, after any calls. A law on attempts alone would add nothing to it.
 /// The lock of a lane is declared if and only if its report has more locks than lost ones.
 pub fn states_are_reported()
     ensures { StatesAreReported }

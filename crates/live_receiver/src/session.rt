@@ -13,6 +13,7 @@ use lk_base::OutOfMemory;
 use rx_end::{LaneReport, LaneState, Receiver, RxEvent};
 use std::alloc::Global;
 
+// why: live_receiver::Session has public fields: the clauses on its calls name them.
 /// A receiver, with what it must know to answer for any call.
 #[derive(Drop)]
 pub struct Session {

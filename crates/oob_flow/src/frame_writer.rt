@@ -9,6 +9,8 @@ use lk_base::OutOfMemory;
 use std::alloc::Global;
 use stream_model::LocalRow;
 
+// why: FrameWriter::next takes the room of the frame before it sets a row: if memory runs out, the writer and the caller's
+// samples are unchanged. OobOut takes memory when it is made, and at no other call.
 /// A writer of the frames of a calendar and of local rows, one after another.
 #[derive(Drop)]
 pub struct FrameWriter {

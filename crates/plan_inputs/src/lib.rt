@@ -1,5 +1,7 @@
 //! The plan of a command and the inputs that it names, from the files of a store: each read and checked whole before the
 //! next.
+// why: The packets of a plan's captures are judged by the plan's max_packet: a longer one is a refused record of its capture.
+// why: All bytes of a capture count against the limit for the captures of a plan, also its headers.
 #![tactic(auto)]
 
 mod captures;

@@ -1,4 +1,6 @@
 //! The command that receives: the lanes of a plan become captures and a table of fault spans.
+// why: receive always feeds the lane of which the least was fed, so each piece finds an empty ring and no byte is fed twice. A
+// lane that was read up to its limit is over, without a byte read past it.
 #![tactic(auto)]
 
 mod lane_buffer;

@@ -9,6 +9,8 @@ use lk_outside::{ReadError, Store, WholeError, read_whole};
 use plan_errors::PlanError;
 use std::alloc::Global;
 
+// why: A generic input reader that takes a tree of needed files was rejected. For commands with one input it says no more than
+// run_stops::read_input, and costs a struct and two methods.
 /// Reads the whole of an input of at most `limit` bytes. The files are unchanged.
 ///
 /// # Errors

@@ -1,4 +1,5 @@
 //! Why the work of a command stops, each cause with its line, and inputs read whole or in pieces.
+// why: If a call of the store runs out of memory, which counts as no fault, the run stops with status 6.
 #![tactic(auto)]
 
 mod input_error;

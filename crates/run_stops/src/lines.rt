@@ -33,6 +33,7 @@ fn line_of(alloc: Global, stop: &Stop) -> Result<String, AllocError>
     format!(in alloc; "{stop}\n")
 }
 
+// why: stop_line takes every stop, also those that no reader returns.
 /// Appends the line of what stopped a command, the text that `Display` writes and a line end. `out` is as before if memory runs
 /// out.
 pub fn stop_line(alloc: Global, out: &mut Vec<u8>, stop: &Stop) -> Result<(), OutOfMemory>

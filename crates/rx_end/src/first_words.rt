@@ -1,4 +1,4 @@
-ghost use Rattle.std.specs.Prelude.{◌≡◌, ◌<◌, ◌≤◌, ◌+◌, ◌^◌, ◌++◌, true, false, List, length, take};
+ghost use Rattle.std.specs.Prelude.{◌≡◌, ◌<◌, ◌≤◌, ◌+◌, ◌^◌, ◌++◌, true, false, List, length, max, take};
 ghost use Rattle.lk_base.specs.Positions.{words_from};
 ghost use Rattle.lk_base.specs.declared.word.Aligned.{Aligned as Item};
 ghost use Rattle.receive_model.specs.Behind.{is_after};
@@ -6,6 +6,7 @@ ghost use Rattle.receive_model.specs.Events.{Event, Setting};
 ghost use Rattle.reassembly.specs.Stands.{Stands};
 ghost use Rattle.reassembly.specs.States.{NothingWaits};
 ghost use Rattle.rx_front.specs.Waiting.{words_in};
+ghost use Rattle.word_list.specs.Received.{data_front};
 
 use lk_base::{Aligned, Pos};
 use reassembly::Reassembly;
@@ -18,6 +19,7 @@ pub fn put_first(reassembly: &mut Reassembly, front: &Front, at: Pos) -> usize
     requires some { 1 ≤ length front.now.waiting }
     requires are { front.now.waiting ≡ words_from at.group at.index (words_in front.now.waiting) }
     requires fits { at.index + length front.now.waiting < 2 ^ 32 }
+    ensures count { result ≡ max 1 (length (data_front (words_in front.now.waiting))) }
     ensures some { 1 ≤ result }
     ensures most { result ≤ length front.now.waiting }
     ensures stands { (setting : Setting) (put : List Item) (given : List Event) → is_after at put ≡ true →

@@ -1,3 +1,5 @@
+// why: A batch of bytes ends with a word of lane 0, if a word of it ends with a byte at all. Then the next words begin with a
+// byte and are taken eight at once. Lanes that are skewed by other bits gain nothing.
 ghost use Rattle.std.specs.Prelude.{◌≡◌, ◌<◌, ◌≤◌, ◌+◌, ◌*◌, ◌^◌, [], length, take};
 ghost use Rattle.lk_base.specs.Checksum.{bits_of_bytes};
 ghost use Rattle.deskew.specs.Steps.{steps_taken};

@@ -204,7 +204,7 @@ impl Front {
         self.block.len()
     }
 
-    /// Returns the word number `i` of those that wait, from 0.
+    /// Returns the word number `i` of those that wait, from 0 and below their number.
     pub fn word(&self, i: usize) -> RxWord
         requires { i < length self.now.waiting }
         ensures { result ≡ get_or (words_in self.now.waiting) i Bad }
@@ -311,8 +311,8 @@ impl Front {
         true
     }
 
-    // Counts the rounds that can be made at once: 0 unless all their bits may be taken before an item is given, and they are enough
-    // to be worth it.
+    // Counts the rounds that can be made at once, at most 536: 0 unless all their bits may be taken before an item is given. If it is
+    // not 0 it may still be fewer than 16.
     fn batch_bytes(&self) -> usize
         ensures most { result ≤ 536 }
         ensures there { All (HasBytes result) self.now.lanes }

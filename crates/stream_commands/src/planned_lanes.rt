@@ -38,6 +38,10 @@ fn lanes_of_source(
 }
 
 /// Makes the lanes of the stream of a plan and its inputs, without its words, and lists the packets that it sends.
+///
+/// # Errors
+///
+/// `OutOfMemory` if memory ran out, or if the stream has more words than a computer can hold, and only then.
 pub fn plan_lanes(alloc: Global, reading: &PlanReading) -> Result<PlanLanes, OutOfMemory>
     requires { FitPlan (numbers_of reading.now.plan.channels.items) (inputs_value reading.now.inputs) }
     ensures { IfOk result (AreLanesOfPlan (reading_value reading.now)) }

@@ -56,12 +56,7 @@ alone : (low high : ℕ) → high ≡ 0 → (low + 256 * high ≡ low) × (high 
 alone low high e = (omega arith, e)
 
 pub narrow_right : (source : Source) (before : List Word) (x : ℕ) → All (λ channel. channel < 256) source.channels → IsRightControl source before x → (channel_number true x ≡ channel_number false x) × (multi_field x ≡ 0)
-narrow_right source before x narrow right = elim (bit_cases x) [
-  | inl idle ↦ alone (channel_field x) (multi_field x) (right.multi idle)
-  | inr burst ↦ (
-      let small : channel_number true x < 256 = of_all (λ channel. channel < 256) source.channels (channel_number true x) narrow (right.ready burst).known in
-      alone (channel_field x) (multi_field x) (none_above (channel_field x) (multi_field x) small))
-]
+narrow_right source before x narrow right = grind (arith, bit_cases, of_all, none_above, alone)
 
 pub narrow_stands_alone : NarrowStandsAlone
 narrow_stands_alone source w t x narrow stream at = narrow_right source (take t w) x narrow (stream.controls t x at)

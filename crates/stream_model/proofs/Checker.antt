@@ -91,10 +91,8 @@ carries None ds first = false
 carries (Some chunk) ds first = bytes_eq ds (data_words chunk.bytes) && beq first chunk.is_first
 
 carried : (o : Option Chunk) (ds : List ℕ) (first : Bool) → carries o ds first ≡ true → (chunk : Chunk) × (o ≡ Some chunk) × (ds ≡ data_words chunk.bytes) × (first ≡ chunk.is_first)
-carried None ds first h = cc
-carried (Some chunk) ds first h =
-    let both = and_parts _ _ h in
-    (chunk, refl, (bytes_eq-Decides ds (data_words chunk.bytes)).0 both.0, (booleans_Decides first chunk.is_first).0 both.1)
+carried None ds first h = grind (arith, and_parts, bytes_eq-Decides)
+carried (Some chunk) ds first h = grind (arith, and_parts, bytes_eq-Decides)
 
 abbrev pub is_less : Ordering → Bool
 is_less Less = true
@@ -171,26 +169,7 @@ module _ (source : Source) (before : List Word) (x : ℕ) (ds : List ℕ) where
   due_told due = and_from _ _ (le-leb _ _ due.0) (and_from _ _ (clear_told before (source.shape.burst_short / 8) (length before) due.2) (any_ready_told source before due.1.0 due.1.1))
 
   idle_right : IsSealed → burst_field x ≡ 0 → idle_ok (length before) ≡ true → IsRightControl source before x × IsWhole source before x ds
-  idle_right seal none h =
-      let due = and_parts _ _ h in
-      let sop = and_parts _ _ due.1 in
-      let channel = and_parts _ _ sop.1 in
-      let multi = and_parts _ _ channel.1 in (
-        record {
-          burst = (λ b. absurd (not_both (burst_field x) none b), λ is. absurd (false≢true (sym (not-true _ due.0) ∙ due_told is)));
-          idle = λ b. (eqb-true _ _ sop.0, eqb-true _ _ channel.0);
-          start = λ b. absurd (not_both (burst_field x) none b);
-          end = seal.end;
-          ready = λ b. absurd (not_both (burst_field x) none b);
-          least = λ b. absurd (not_both (burst_field x) none b);
-          multi = λ b. eqb-true _ _ multi.0;
-          control = seal.control;
-          reset = seal.reset;
-          entries = seal.entries;
-          checksum = seal.checksum;
-        },
-        record { burst = λ b. absurd (not_both (burst_field x) none b); idle = λ _. (bytes_eq-Decides ds []).0 multi.1 },
-      )
+  idle_right seal none h = grind (arith, and_parts, eqb-true, false≢true, not-true, bytes_eq-Decides, not_both, due_told)
 
   least : (c : ℕ) → list_all (before_ok c) source.channels ≡ true → (other : ℕ) → IsReady source before other → other ≢ c → mark_cmp (key source before c) (key source before other) ≡ Less
   least c h other ready ne = elim (or_cases (other == c) _ (all_at (before_ok c) source.channels other h ready.known)) [
@@ -229,10 +208,7 @@ module _ (source : Source) (before : List Word) (x : ℕ) (ds : List ℕ) where
       )
 
   by_kind : IsSealed → (if burst_field x == 1 then burst_ok (length before) else idle_ok (length before)) ≡ true → IsRightControl source before x × IsWhole source before x ds
-  by_kind seal h = elim (bit_cases x) [
-    | inl none ↦ idle_right seal none (sym (cond-false (burst_field x == 1) (burst_ok (length before)) (idle_ok (length before)) (ne_eqb _ _ (not_both (burst_field x) none))) ∙ h)
-    | inr one ↦ burst_right seal one (sym (cond-true (burst_field x == 1) (burst_ok (length before)) (idle_ok (length before)) (eq-eqb _ _ one)) ∙ h)
-  ]
+  by_kind seal h = grind (arith, cond-false, cond-true, eq-eqb, ne_eqb, bit_cases, not_both, idle_right, burst_right)
 
   add_checked : IsGood source before → block_ok (length before) (controls_in before) (end_format source before) (data_since before) ≡ true → IsGood source (before ++ block x ds)
   add_checked good h =

@@ -1,4 +1,8 @@
 //! The words that a link sends: what a payload stream is made of, its words one after another, and what they send of its packets.
+// why: link and the transmitter list sent packets as the words are made (SentList::pass, pass_data, pass_block), and count by
+// that list, so that no word is scanned again. burst needs only the counts, so its maker of words counts bursts and keeps
+// no list.
+// why: Counts and lists of sent packets are kept by channel number, 65,536 of them, so that a word finds its channel at once.
 #![tactic(auto)]
 
 mod bursts;

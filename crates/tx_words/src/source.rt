@@ -7,6 +7,11 @@ use lk_base::Shape;
 use std::marker::Model;
 use stream_model::{FlowRow, LocalRow};
 
+// why: A stream is made of a StreamSource (shape, channels, calendar, packets, rows) and not of a plan: burst of one capture
+// has no plan, and its group of one word is not a link's. StreamSource::new asks once what its parts must meet; all
+// packets together have fewer than 2⁴⁰ bytes. The transmitter lists packets by numbers of 32 bits, so it also asks for
+// fewer than 2³² of them. It asks for a source whose shape is the link's except for BurstMin, which is the plan's and not
+// the link's.
 /// The packets and rows of a stream, lent, with the numbers that shape it. A contract sees it as the source of the stream.
 #[derive(Drop)]
 pub struct StreamSource<'a> {

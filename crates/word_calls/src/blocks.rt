@@ -1,8 +1,9 @@
 //! The calls of `word_list` on blocks of received words.
+use crate::lines::tell;
+use crate::values::tell_words;
 use lk_base::{OutOfMemory, RxWord};
 use std::alloc::Global;
 use std::io;
-use test_telling::{tell, tell_words};
 use word_list::RxBlock;
 
 const LANES: usize = 2;

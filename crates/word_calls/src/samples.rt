@@ -3,13 +3,13 @@ ghost use Rattle.std.specs.Prelude.{◌≡◌, ◌∷◌, ◌<◌, ◌≤◌, []
 ghost use Rattle.oob_flow.specs.Receiving.{StandsIn};
 ghost use Rattle.oob_flow.specs.Sending.{StandsOut};
 
+use crate::values::tell_value;
 use arrayvec::ArrayVec;
 use lk_base::OutOfMemory;
 use oob_flow::{FrameWriter, OobIn, OobOut, bad_sample};
 use std::alloc::Global;
 use std::io;
 use stream_model::LocalRow;
-use test_telling::tell_value;
 
 // Appends the next samples.
 fn append_samples(out: &mut OobOut, count: u32, samples: &mut Vec<u8>) -> Result<(), OutOfMemory>

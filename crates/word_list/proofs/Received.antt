@@ -58,6 +58,12 @@ rx_words_of-drop (suc n) [] (k ∷ ks) e = absurd (omega (arith, e))
 rx_words_of-drop (suc n) (x ∷ xs) [] e = absurd (omega (arith, e))
 rx_words_of-drop (suc n) (x ∷ xs) (k ∷ ks) e = rx_words_of-drop n xs ks (omega (arith, e))
 
+pub rx_words_of-take : (n : ℕ) (xs : List ℕ) (ks : List WordKind) → length ks ≡ length xs → rx_words_of (take n xs) (take n ks) ≡ take n (rx_words_of xs ks)
+rx_words_of-take zero xs ks e = refl
+rx_words_of-take (suc n) [] ks e = refl
+rx_words_of-take (suc n) (x ∷ xs) [] e = absurd (omega (arith, e))
+rx_words_of-take (suc n) (x ∷ xs) (k ∷ ks) e = ap (λ (ws : List RxWord). rx_word_of x k ∷ ws) (rx_words_of-take n xs ks (omega (arith, e)))
+
 -- ---- of a block
 
 -- a block with these numbers and kinds
@@ -79,3 +85,15 @@ pub data_from : (xs : List ℕ) (ks : List WordKind) (from n : ℕ) → length k
 data_from xs ks from n e is =
     let long : length (drop from ks) ≡ length (drop from xs) = length-drop from ks ∙ ap (λ m. m - from) e ∙ sym (length-drop from xs) in
     ap (λ m. take m (drop from xs)) is ∙ data_taken (drop from xs) (drop from ks) long ∙ ap data_front (rx_words_of-drop from xs ks e)
+
+-- the words of a longer or shorter block begin with its own
+pub kept_words : (b : Block) (room count : ℕ) (xs ys : List ℕ) (ks ls : List WordKind) → block_of room xs ks ≡ b → length ks ≡ length xs → length ls ≡ length ys →
+    take (length xs) ys ≡ take count xs → take (length ks) ls ≡ take count ks → take (length b.words) (rx_words_of ys ls) ≡ take count b.words
+kept_words b room count xs ys ks ls is e f kept kinds_kept =
+    ap (λ m. take m (rx_words_of ys ls)) (sym (many b room xs ks is e))
+    ∙ sym (rx_words_of-take (length xs) ys ls f)
+    ∙ ap (λ (zs : List ℕ). rx_words_of zs (take (length xs) ls)) kept
+    ∙ ap (λ m. rx_words_of (take count xs) (take m ls)) (sym e)
+    ∙ ap (rx_words_of (take count xs)) kinds_kept
+    ∙ rx_words_of-take count xs ks e
+    ∙ ap (λ (c : Block). take count c.words) is

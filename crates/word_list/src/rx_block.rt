@@ -27,12 +27,14 @@ impl Model for RxBlock {
     ghost invariant = { λ a. (length a.kinds.items ≡ length a.numbers.items) × (a.room ≤ vec_capacity a.numbers) × (a.room ≤ vec_capacity a.kinds) };
 }
 
-// Makes both lists `count` long.
+// Makes both lists `count` long, and keeps what stood below that.
 fn resize_parts(numbers: &mut Vec<u64>, kinds: &mut Vec<WordKind>, count: usize)
     requires numbers { count ≤ vec_capacity numbers.old }
     requires kinds { count ≤ vec_capacity kinds.old }
     ensures numbers { length numbers.new.items ≡ count }
     ensures kinds { length kinds.new.items ≡ count }
+    ensures numbers_kept { take (length numbers.old.items) numbers.new.items ≡ take count numbers.old.items }
+    ensures kinds_kept { take (length kinds.old.items) kinds.new.items ≡ take count kinds.old.items }
     ensures room { vec_capacity numbers.old ≤ vec_capacity numbers.new }
     ensures as_much { vec_capacity kinds.old ≤ vec_capacity kinds.new }
 {
@@ -105,7 +107,7 @@ fn data_part<'a>(numbers: &'a [u64], kinds: &[WordKind], from: usize) -> &'a [u6
 }
 
 impl RxBlock {
-    /// Creates an empty block with room for `room` words. It takes memory here, and no later call does.
+    /// Creates an empty block with room for `room` words. It takes all its memory here, and no later call takes any.
     ///
     /// # Errors
     ///
@@ -146,17 +148,18 @@ impl RxBlock {
         self.kinds.clear();
     }
 
-    /// Makes the block hold `count` words, which are still to be written. Those that are there stay, so that a block of the same
-    /// size is not filled again.
+    /// Makes the block hold `count` words, at most its room. Words that are there below that number stay; any words after them are
+    /// still to be written.
     pub fn resize(&mut self, count: usize)
         requires { count ≤ self.old.room }
         ensures words { length self.new.words ≡ count }
+        ensures kept { take (length self.old.words) self.new.words ≡ take count self.old.words }
         ensures room { self.new.room ≡ self.old.room }
     {
         resize_parts(&mut self.numbers, &mut self.kinds, count);
     }
 
-    /// Writes a word to this place.
+    /// Writes a word to this place, below the number of words.
     pub fn set(&mut self, place: usize, word: RxWord)
         requires { place < length self.old.words }
         ensures words { self.new.words ≡ set self.old.words place word }
@@ -165,7 +168,8 @@ impl RxBlock {
         set_part(&mut self.numbers, &mut self.kinds, place, word);
     }
 
-    /// Writes words to every `step`-th place, the first to `from`. Returns the place of the word after the last.
+    /// Writes words to every `step`-th place, the first to `from`. `step` is below 2^62, and all places are of words that are there.
+    /// Returns the place of the word after the last.
     pub fn spread(&mut self, words: &[RxWord], from: usize, step: usize) -> usize
         requires step { step < 2 ^ 62 }
         requires within { from + length words.now * step < length self.old.words + step }
@@ -176,7 +180,7 @@ impl RxBlock {
         spread_parts(&mut self.numbers, &mut self.kinds, words, from, step)
     }
 
-    /// Returns the word number `i`, from 0.
+    /// Returns the word number `i`, from 0 and below the number of words.
     pub fn get(&self, i: usize) -> RxWord
         requires { i < length self.now.words }
         ensures { result ≡ get_or self.now.words i Bad }

@@ -11,6 +11,7 @@ pub mod Due
 pub mod Flows
 pub mod ControlRows
 pub mod Checks
+pub mod Limits
 pub mod Made
 pub mod Order
 pub mod Runs

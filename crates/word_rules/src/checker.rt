@@ -1,5 +1,5 @@
 //! The pass over a sender's words.
-ghost use Rattle.std.specs.Prelude.{◌≡◌, ◌≤◌, ◌<◌, ◌+◌, ◌^◌, ◌++◌, ◌∷◌, [], ℕ, List, map, Option, true, slice_get, slice_set, IfOk, IsOk, OnOk, length, vec_capacity, vec_len};
+ghost use Rattle.std.specs.Prelude.{◌≡◌, ◌≤◌, ◌<◌, ◌+◌, ◌*◌, ◌^◌, ◌++◌, ◌∷◌, [], ℕ, List, map, Option, true, slice_get, slice_set, IfOk, IsOk, OnErr, OnOk, length, vec_capacity, vec_len};
 ghost use Rattle.std.specs.Bool.{OnFalse, OnTrue};
 ghost use Rattle.std.specs.Option.{option_to_list};
 ghost use Rattle.lk_base.specs.declared.word.RxWord.{RxWord};
@@ -26,6 +26,9 @@ use control_words::{CHANNEL_NUMBERS, ControlWord};
 use lk_base::{OutOfMemory, RxWord};
 use std::alloc::Global;
 
+// why: Checker asks for the word after each word, instead of reporting a row late: only the rule empty looks past its word. A
+// channel's state has the number of bad words at its last change, so a bad word makes all channels unknown without
+// touching them. Fewer than 2⁵⁷ words leave room for the counts of entries that words carry, 16 a word.
 /// What the rules read of the words that came so far.
 #[derive(Drop)]
 pub struct Checker {
@@ -160,20 +163,22 @@ impl Checker {
         Ok(())
     }
 
-    // Takes Data words of these numbers, each by itself.
-    fn each_data(&mut self, run: &[u64], faults: &mut Vec<Fault>) -> Result<(), OutOfMemory>
-        requires { (p : Plan) × (earlier : List RxWord) × Keeps self.old p earlier × (length earlier + length run.now < 2 ^ 57) }
-        ensures rows { (p : Plan) (earlier : List RxWord) → Keeps self.old p earlier → OnOk result (faults.new.items ≡ faults.old.items ++ faults_from p earlier (map (λ (x : ℕ). Data x) run.now)) }
-        ensures keeps { (p : Plan) (earlier : List RxWord) → Keeps self.old p earlier → OnOk result (Keeps self.new p (run_after earlier run.now)) }
+    // Takes Data words of these numbers, each by itself. There is room for the rows of all of them.
+    fn each_data(&mut self, run: &[u64], faults: &mut Vec<Fault>)
+        requires keeps { (p : Plan) × (earlier : List RxWord) × Keeps self.old p earlier × (length earlier + length run.now < 2 ^ 57) }
+        requires room { vec_len faults.old + 2 * length run.now ≤ vec_capacity faults.old }
+        ensures rows { (p : Plan) (earlier : List RxWord) → Keeps self.old p earlier → faults.new.items ≡ faults.old.items ++ faults_from p earlier (map (λ (x : ℕ). Data x) run.now) }
+        ensures keeps { (p : Plan) (earlier : List RxWord) → Keeps self.old p earlier → Keeps self.new p (run_after earlier run.now) }
     {
         for i in 0..run.len() {
-            self.data(run[i], faults)?;
+            let Ok(()) = self.data(run[i], faults) else {
+                unreachable!()
+            };
         }
-        Ok(())
     }
 
-    /// Takes Data words of these numbers, one after another, if none of them can break a rule; otherwise it takes none. True if they were
-    /// taken.
+    /// Takes Data words of these numbers, one after another, and returns true: none of them breaks a rule. Or takes none, and returns
+    /// false. It may return false although no word of the run breaks a rule.
     pub fn faultless_run(&mut self, run: &[u64]) -> bool
         requires { (p : Plan) × (earlier : List RxWord) × Keeps self.old p earlier × (length earlier + length run.now < 2 ^ 57) }
         ensures rows { (p : Plan) (earlier : List RxWord) → Keeps self.old p earlier → OnTrue result (faults_from p earlier (map (λ (x : ℕ). Data x) run.now) ≡ []) }
@@ -191,16 +196,20 @@ impl Checker {
     ///
     /// # Errors
     ///
-    /// `OutOfMemory`. What the checker gives after it means nothing.
+    /// `OutOfMemory` if memory ran out, and only then. The checker and the rows are then unchanged.
     pub fn data_run(&mut self, run: &[u64], faults: &mut Vec<Fault>) -> Result<(), OutOfMemory>
         requires { (p : Plan) × (earlier : List RxWord) × Keeps self.old p earlier × (length earlier + length run.now < 2 ^ 57) }
         ensures rows { (p : Plan) (earlier : List RxWord) → Keeps self.old p earlier → OnOk result (faults.new.items ≡ faults.old.items ++ faults_from p earlier (map (λ (x : ℕ). Data x) run.now)) }
         ensures keeps { (p : Plan) (earlier : List RxWord) → Keeps self.old p earlier → OnOk result (Keeps self.new p (run_after earlier run.now)) }
+        ensures same { OnErr result (self.new ≡ self.old) }
+        ensures same_rows { OnErr result (faults.new.items ≡ faults.old.items) }
     {
         if self.faultless_run(run) {
             return Ok(());
         }
-        self.each_data(run, faults)
+        faults.reserve(2 * run.len())?;
+        self.each_data(run, faults);
+        Ok(())
     }
 
     // Takes a Bad word.

@@ -1,3 +1,9 @@
+ghost use Rattle.std.specs.Prelude.{◌≡◌};
+ghost use Rattle.link_plan.specs.Views.{plan_value};
+ghost use Rattle.word_rules.specs.Limits.{limits_of};
+
+use link_plan::Plan;
+
 /// The numbers of a plan that the rules of words read.
 #[derive(Clone, Copy, Debug, PartialEq, Eq)]
 pub struct WordLimits {
@@ -11,4 +17,19 @@ pub struct WordLimits {
     pub max_packet: u32,
     /// Whether channel numbers are wide: 16 bits in place of 8.
     pub wide: bool,
+}
+
+impl WordLimits {
+    /// Returns the numbers of this plan that the rules read.
+    pub fn of(plan: &Plan) -> WordLimits
+        ensures { result ≡ limits_of (plan_value plan.now) }
+    {
+        WordLimits {
+            burst_max: plan.link.burst_max(),
+            burst_short: plan.link.burst_short(),
+            burst_min: plan.burst_min,
+            max_packet: plan.link.max_packet(),
+            wide: plan.wide,
+        }
+    }
 }

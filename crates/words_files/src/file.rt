@@ -62,7 +62,7 @@ impl WordsFile {
     }
 
     /// Copies the numbers of the data words from word `from` on, until another word, the end of the file or the end of `numbers`.
-    /// Returns how many.
+    /// Returns how many; the numbers after them may be anything. `from` is at most the number of words.
     pub fn copy_data(&self, from: usize, numbers: &mut [u64]) -> usize
         requires { from ≤ length self.now }
         ensures within { from + result ≤ length self.now }

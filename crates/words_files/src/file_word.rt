@@ -5,6 +5,12 @@ ghost use Rattle.words_files.specs.FileWord.{file_number, file_tag, received_in_
 use crate::format::{BAD_TAG, CONTROL_TAG, DATA_TAG};
 use lk_base::{RxWord, Word};
 
+// why: A word in nine bytes is a words_files::FileWord, which keeps the number of a bad word. One reader and one writer serve
+// words files, listings and gathered words. Received and sent words are made of it (received_of, sent_of). So WordsFile
+// and SentFile are two views of one type, both in words_files. A change of that crate has most commands proved again, but
+// this form is done. No call reads a file into a list, since no program did.
+// why: A listing has the payload of a bad word, which received words forget. So listings have a type of words of their own,
+// FileWord, with one word for each nine bytes.
 /// A word as it stands in a words file. A bad word keeps its number.
 #[derive(Clone, Copy, Debug, PartialEq, Eq)]
 pub enum FileWord {

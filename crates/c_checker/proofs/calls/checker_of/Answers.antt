@@ -16,6 +16,6 @@ returns c =
     let plan = c.args.plan.now in
     let t = c.in_ok-checker.checker in
     let order = c.deref-2.ensures.value ∙ c.in_ok-channels.ensures ∙ ap (λ (rows : List ChannelRow). channels_in_order (numbers_of rows)) c.deref.ensures.value in
-    let at_entries = subst (λ (entries : List ℕ). Checks t (nothing_checked c.limits_of.result c.deref-2.result.now entries)) c.deref-3.ensures.value c.in_ok-checker.ensures in
-    let at_channels = subst (λ (channels : List ℕ). Checks t (nothing_checked c.limits_of.result channels plan.entries.items)) order at_entries in
-    subst (λ (limits : WordLimits). Checks t (nothing_checked limits (channels_in_order (numbers_of plan.channels.items)) plan.entries.items)) c.limits_of.ensures at_channels
+    let at_entries = subst (λ (entries : List ℕ). Checks t (nothing_checked c.of.result c.deref-2.result.now entries)) c.deref-3.ensures.value c.in_ok-checker.ensures in
+    let at_channels = subst (λ (channels : List ℕ). Checks t (nothing_checked c.of.result channels plan.entries.items)) order at_entries in
+    subst (λ (limits : WordLimits). Checks t (nothing_checked limits (channels_in_order (numbers_of plan.channels.items)) plan.entries.items)) c.of.ensures at_channels

@@ -3,4 +3,4 @@ use Rattle.cell_pool.specs.Cells.{byte_of_word}
 use Rattle.cell_pool.proofs.cells.bytes_of_cell.Goals as goal
 
 pub returns : goal.returns
-returns c = λ i h. c.put_cell.ensures.put i h ∙ ap (λ w. byte_of_word w (i % 8)) (c.words_of_cell.ensures.words (i / 8) (omega arith))
+returns c = λ i h. c.put_cell.ensures.put i h ∙ ap (λ w. byte_of_word w (i % 8)) (c.of_cell.ensures.words (i / 8) (omega arith))

@@ -15,5 +15,5 @@ pub returns : goal.returns
 returns c =
     let plan = c.args.inputs.now.plan in
     subst (λ (p : Plan). IfOk c.new.result (λ checker. Keeps checker p []))
-    (same_rules plan c.args.inputs.now.flow.items _ _ _ _ c.limits_of.ensures (c.deref.ensures.value ∙ c.in_ok-channels.ensures ∙ ap (λ (cs : List ChannelRow). channels_in_order (numbers_of cs)) c.as_slice.ensures.value) c.as_slice-2.ensures.value c.as_slice-3.ensures.value)
+    (same_rules plan c.args.inputs.now.flow.items _ _ _ _ c.of.ensures (c.deref.ensures.value ∙ c.in_ok-channels.ensures ∙ ap (λ (cs : List ChannelRow). channels_in_order (numbers_of cs)) c.as_slice.ensures.value) c.as_slice-2.ensures.value c.as_slice-3.ensures.value)
     c.new.ensures

@@ -31,7 +31,7 @@ put-requires-clause-open g c =
 
 pub returns-clause-puts : goal.returns-clause-puts
 returns-clause-puts g c out before rows was h =
-    let bytes = c.deref.ensures.value ∙ c.in_ok-words_bytes.ensures in
+    let bytes = c.deref.ensures.value ∙ c.in_ok-words_bytes.ensures.file in
     let added = length-append before c.args.words.now in
     let had = h.count in
     let sum = c.in_ok-self.ensures in

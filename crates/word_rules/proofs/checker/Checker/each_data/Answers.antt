@@ -10,11 +10,11 @@ use Rattle.word_rules.proofs.Runs.{run_at, rows_at, run_few}
 use Rattle.word_rules.proofs.checker.Checker.each_data.Goals as goal
 
 pub loop-i-init : goal.loop-i-init
-loop-i-init c = record { keeps = λ p e k. k; rows = λ p e k. sym (append-nil c.args.faults.now.items) }
+loop-i-init c = record { keeps = λ p e k. k; rows = λ p e k. sym (append-nil c.args.faults.now.items); few = omega arith; room = omega arith }
 
 pub data-requires : goal.data-requires
 data-requires c =
-    let (p, e, k, few) = c.requires in
+    let (p, e, k, few) = c.requires.keeps in
     (p, run_after e (take c.loop-i.i c.args.run.now), c.loop-i.invariant.keeps p e k, run_few e c.args.run.now c.loop-i.i (2 ^ 57) few)
 
 pub loop-i-preserved : goal.loop-i-preserved
@@ -25,12 +25,14 @@ loop-i-preserved c =
     record {
       keeps = λ p e k.
           subst (λ (before : List RxWord). Keeps c.data.new.self p before) (sym (run_at e run i 0 c.loop-i-test.true))
-          (c.in_ok-data.ensures.keeps p (run_after e (take i run)) (c.loop-i.invariant.keeps p e k));
+          (c.in-Ok.ensures.keeps p (run_after e (take i run)) (c.loop-i.invariant.keeps p e k));
       rows = λ p e k.
-          c.in_ok-data.ensures.rows p (run_after e (take i run)) None (c.loop-i.invariant.keeps p e k)
+          c.in-Ok.ensures.rows p (run_after e (take i run)) None (c.loop-i.invariant.keeps p e k)
           ∙ ap (λ (l : List Fault). l ++ data_rows p.limits (run_after e (take i run))) (c.loop-i.invariant.rows p e k)
           ∙ append_assoc first (faults_from p e (map (λ (x : ℕ). Data x) (take i run))) (data_rows p.limits (run_after e (take i run)))
           ∙ ap (λ (l : List Fault). first ++ l) (sym (rows_at p e run i 0 c.loop-i-test.true));
+      few = (let a = c.in-Ok.ensures.few in let b = c.loop-i.invariant.few in omega (arith, a, b));
+      room = (let a = c.in-Ok.ensures.kept in let b = c.loop-i.invariant.room in omega (arith, a, b));
     }
 
 pub returns-clause-rows : goal.returns-clause-rows

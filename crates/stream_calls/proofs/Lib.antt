@@ -1,3 +1,0 @@
-mod TwoChannels
-mod OnePacket
-mod Running

@@ -1,0 +1,2 @@
+mod OnePacket
+mod Running
