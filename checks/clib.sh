@@ -440,6 +440,7 @@ no channel number: 65536
 no word: 18446744073709551616
 row 1: RANGE"
   try_monitor
+  try_late_monitor
   holds 'examples/python' "$(python3 -B "$top/examples/python/packets.py" library/lib/libinterlaken.so damaged.plan damaged.lane.0 damaged.lane.1 2>&1)" "$printed"
 fi
 ends

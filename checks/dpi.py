@@ -9,6 +9,7 @@ import tempfile
 
 from lib.captures import packets_of
 import documents
+from lib.dpi_adapted import try_adapted
 from lib.dpi_monitor import try_monitor
 from lib.machine import copy_examples, patience
 from lib.tally import Tally
@@ -159,10 +160,10 @@ def try_layer(tally, folder):
     tally.expect("a lane without room", full, True)
 
 
-def build(tally, folder, bench, name, shape):
-    """A bench of other parameters."""
+def build(tally, folder, bench, name, shape, files=None):
+    """A bench of other parameters, of the files of its name or of another."""
     parameters = ["-G%s=%d" % pair for pair in zip(("LANES", "METAFRAME", "SKIPS", "WIDTH"), shape)]
-    words = ["--binary", "--timing", "-f", bench + ".f", "--top-module", "tb_" + bench, "--Mdir", name, *QUICK, *parameters]
+    words = ["--binary", "--timing", "-f", (files or bench) + ".f", "--top-module", "tb_" + bench, "--Mdir", name, *QUICK, *parameters]
     tally.expect("tb_%s of other parameters" % bench, run("verilator", *words, folder=folder)[0], 0)
 
 
@@ -285,9 +286,9 @@ def main():
             tally.give_up("the bench", "it is not built")
         names = numbers_of(TOP + "/include/interlaken.h") + [("INTERLAKEN_NO_ROOM", "100")]
         tally.expect("names and numbers of the header and of the package", numbers_of(folder + "/dpi/interlaken_dpi.sv"), sorted(names))
-        for bench in ("live", "drive", "monitor"):
-            words = ["--lint-only", "-Wall", "--timing", "-f", bench + ".f", "--top-module", "tb_" + bench]
-            tally.expect("lint of tb_" + bench, run("verilator", *words, folder=folder + "/dpi"), (0, ""))
+        for files, bench, more in (("live", "live", ()), ("drive", "drive", ()), ("monitor", "monitor", ()), ("adapted", "monitor", ("-GLANES=4", "-GWIDTH=67"))):
+            words = ["--lint-only", "-Wall", "--timing", "-f", files + ".f", "--top-module", "tb_" + bench, *more]
+            tally.expect("lint of %s.f" % files, run("verilator", *words, folder=folder + "/dpi"), (0, ""))
         sys.path.insert(0, TOP + "/examples/python")
         try_layer(tally, folder)
         try_drive(tally, folder + "/dpi")
@@ -296,6 +297,7 @@ def main():
                 build(tally, folder + "/dpi", "live", name, shape)
             Bench(tally, folder, shape, name).try_all()
         try_monitor(tally, folder, run, lambda name, shape: build(tally, folder + "/dpi", "monitor", name, shape), PROGRAM)
+        try_adapted(tally, folder, run, lambda name, shape, files: build(tally, folder + "/dpi", "monitor", name, shape, files))
         try_bare(tally, folder)
     return tally.end()
 

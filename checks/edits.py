@@ -2,12 +2,10 @@
 file exactly once, and checks/edits/tried.csv has a row with the present sums.
 
     python3 edits.py TOP
-    python3 edits.py TOP --whole    what a release asks for: nor has a crate below stated something else since
-    python3 edits.py TOP --turn     prints the crate whose edits the gate tries this time
+    python3 edits.py TOP --whole    what a release asks for: nor has a statement of a crate below changed that it stands on
+    python3 edits.py TOP --history FROM TO    how many rows each commit between two made stale, and of how many the crate had changed
 """
 
-import glob
-import hashlib
 import os
 import shutil
 import subprocess
@@ -16,14 +14,13 @@ import sys
 HERE = os.path.dirname(os.path.abspath(__file__))
 sys.path[:0] = [HERE, os.path.join(os.path.dirname(HERE), "tools", "lib")]
 
-from build.kit import below, logic_of, uses_of
-from lib.edit_files import BadEdit, edits_in, name_of, replaced
+from build.kit import logic_of, uses_of
+from lib.edit_files import BadEdit, crates_with_edits, edits_in, name_of, replaced
 from lib.tally import Tally
-from lib.tried import fault_of_row, rows_in, sum_below, sum_of_crate, sum_of_file
+from lib.tried import Sources, fault_of_row, rows_in, sums_now
 
-
-def crates_with_edits(top):
-    return sorted(os.path.basename(it[:-1]) for it in glob.glob(os.path.join(top, "checks", "edits", "*", "")))
+# What a landing asks of a row. A release asks for what is below, too.
+LANDING = ("edit_sum", "own_sum", "logic")
 
 
 def logic_here(top):
@@ -45,9 +42,9 @@ def fault_of_text(edit, crate):
     return None
 
 
-def untried_in(top):
-    """The crates that checks/edits/untried.txt excuses: not all of their edits were tried since the crates changed. A release waits for
-    them."""
+def waiting_in(top):
+    """The crates of checks/edits/untried.txt: rows of them may be stale, since a session ended before all were tried. A release by
+    tools/release waits for them."""
     path = os.path.join(top, "checks", "edits", "untried.txt")
     if not os.path.exists(path):
         return set()
@@ -57,39 +54,31 @@ def untried_in(top):
 
 def check(top, whole):
     tally, rows, logic = Tally("edits"), rows_in(os.path.join(top, "checks", "edits", "tried.csv")), logic_here(top)
-    untried, waiting = set() if whole else untried_in(top), 0
-    crates, uses = os.path.join(top, "crates"), uses_of(os.path.join(top, "crates.txt"))
+    excused, waiting = set() if whole else waiting_in(top), 0
+    crates, sources = os.path.join(top, "crates"), Sources(top, uses_of(os.path.join(top, "crates.txt")))
     for name in crates_with_edits(top):
-        now = {"crate_sum": sum_of_crate(os.path.join(crates, name)), "logic": logic}
-        if whole:
-            now["below_sum"] = sum_below(crates, below(uses, name))
         for edit in edits_in(os.path.join(top, "checks", "edits", name)):
             row = rows.pop((name, name_of(edit)), None)
-            fault, untold = fault_of_text(edit, os.path.join(crates, name)), fault_of_row(row, {**now, "edit_sum": sum_of_file(edit)})
-            if untold and not fault and name in untried:
+            fault = fault_of_text(edit, os.path.join(crates, name))
+            now = sums_now(sources, name, edit, row, logic, whole) if row and not fault else {}
+            asked = {column: now[column] for column in now if whole or column in LANDING}
+            stale = fault_of_row(row, asked)
+            if stale and not fault and name in excused:
                 waiting += 1
             else:
-                tally.count("%s/%s" % (name, name_of(edit)), fault or untold)
+                tally.count("%s/%s" % (name, name_of(edit)), fault or stale)
     for name, edit in rows:
         tally.count("%s/%s" % (name, edit), "tried.csv has a row of it, and there is no such edit")
     if waiting:
-        print("edits: %d of the crates of untried.txt were not tried since these changed; a release waits for them" % waiting)
+        print("edits: %d of the crates of untried.txt were not tried since what they stand on changed" % waiting)
     return tally.end()
 
 
-def turn(top):
-    """The crate whose turn it is: the sum of all sources picks one of those that have edits."""
-    names = crates_with_edits(top)
-    whole = hashlib.sha256()
-    for crate in sorted(glob.glob(os.path.join(top, "crates", "*", ""))):
-        whole.update(sum_of_crate(crate).encode())
-    return names[int(whole.hexdigest(), 16) % len(names)]
-
-
 def main(top, *words):
-    if words == ("--turn",):
-        print(turn(top))
-        return 0
+    if words[:1] == ("--history",):
+        from lib.history import report
+
+        return report(top, *words[1:])
     return check(top, words == ("--whole",))
 
 

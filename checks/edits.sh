@@ -1,11 +1,13 @@
 #!/usr/bin/env bash
 # The wider set of wrong bodies, edits/CRATE/NAME.edit, which the gate is too short for.
 #
-#     checks/edits.sh                 whether each can still be made, and has a row of the present sums in edits/tried.csv
-#     checks/edits.sh try [CRATE..]   has the prover refuse those of these crates, or of all, and writes their rows
-#     checks/edits.sh turn            has `rt ci` try those of one crate, which the sum of the sources picks, one by one
+#     checks/edits.sh                       whether each can still be made, and has a row of the present sums in edits/tried.csv
+#     checks/edits.sh try [CRATE..]         has the prover refuse those of these crates, or of all, and writes their rows
+#     checks/edits.sh try --stale [CRATE..] only those whose rows are not of the present sums
+#     checks/edits.sh turn                  these first, then those tried longest ago, until ten minutes of processors are used
 #
-# The last two work in a copy of the repository. If the kit keeps what the gate proved there, only the edits are tried.
+# The last three have --jobs N for crates at once, and --proved CHECKOUT for one in which `rt ci` proved these sources. Without it they
+# have `rt ci` prove a copy of the repository; what the kit keeps is not proved again.
 set -u -o pipefail
 top=$(cd "$(dirname "${BASH_SOURCE[0]}")/.." && pwd)
 . "$top/checks/lib/tally.bash"
@@ -14,6 +16,11 @@ wants python3 python3
 what=${1:-}
 [ $# -eq 0 ] || shift
 [ -n "$what" ] || exec python3 -B "$top/checks/edits.py" "$top"
+
+usage() {
+  echo "usage: checks/edits.sh [try [--stale] [--jobs N] [--proved CHECKOUT] [CRATE..] | turn [--jobs N] [--proved CHECKOUT]]" >&2
+  exit 2
+}
 
 # Makes the copy: these crates and those that they stand on.
 copy() { # ROOM CRATE..
@@ -28,29 +35,36 @@ copy() { # ROOM CRATE..
   done <"$room/crates.txt"
 }
 
-command -v rt >/dev/null 2>&1 || { echo "edits: skipped, no rt (the kit): the edits of the wider set" && exit 77; }
-room=$(mktemp -d)
-trap 'rm -rf "$room"' EXIT
-export RT_JOBS=${RT_JOBS:-$("$top/tools/jobs")}
 case $what in
-  try)
-    [ $# -gt 0 ] || set -- $(cd "$top/checks/edits" && printf '%s\n' */ | tr -d /)
-    for crate in "$@"; do
-      compgen -G "$top/checks/edits/$crate/*.edit" >/dev/null || gives_up "there is no edit of the crate $crate"
-    done
-    copy "$room" "$@" || gives_up 'the crates cannot be copied'
-    (cd "$room" && rt ci) | tail -n 1 || gives_up 'a crate is not proved as it stands'
-    python3 -B "$top/checks/lib/try_edits.py" "$top" "$room" --jobs "$RT_JOBS" "$@"
-    ;;
-  turn)
-    crate=$(python3 -B "$top/checks/edits.py" "$top" --turn) || gives_up 'no crate can be picked'
-    copy "$room" "$crate" || gives_up 'the crates cannot be copied'
-    cp -a "$top/checks/edits/$crate" "$room/crates/$crate/must-fail" || gives_up "there is no edit of the crate $crate"
-    echo "edits: the turn of $crate"
-    (cd "$room" && rt ci) | sed -u '$ s/^/edits: /'
-    ;;
-  *)
-    echo "usage: checks/edits.sh [try [CRATE..]|turn]" >&2
-    exit 2
-    ;;
+  try | turn) ;;
+  *) usage ;;
 esac
+jobs=${RT_JOBS:-$("$top/tools/jobs")} proved='' options=() crates=()
+[ "$what" = try ] || options+=(--turn)
+while [ $# -gt 0 ]; do
+  case $1 in
+    --stale) [ "$what" = try ] && options+=(--stale) || usage ;;
+    --jobs | --proved)
+      [ $# -gt 1 ] || usage
+      [ "$1" = --proved ] && proved=$2 || jobs=$2
+      shift
+      ;;
+    -*) usage ;;
+    *)
+      [ "$what" = try ] || usage
+      compgen -G "$top/checks/edits/$1/*.edit" >/dev/null || gives_up "there is no edit of the crate $1"
+      crates+=("$1")
+      ;;
+  esac
+  shift
+done
+[[ $jobs =~ ^[1-9][0-9]*$ ]] || usage
+command -v rt >/dev/null 2>&1 || { echo "edits: skipped, no rt (the kit): the edits of the wider set" && exit 77; }
+if [ -z "$proved" ]; then
+  proved=$(mktemp -d)
+  trap 'rm -rf "$proved"' EXIT
+  copy "$proved" $([ ${#crates[@]} -gt 0 ] && printf '%s\n' "${crates[@]}" || (cd "$top/checks/edits" && printf '%s\n' */ | tr -d /)) ||
+    gives_up 'the crates cannot be copied'
+  (cd "$proved" && RT_JOBS=$jobs rt ci) | tail -n 1 || gives_up 'a crate is not proved as it stands'
+fi
+python3 -B "$top/checks/lib/try_edits.py" "$top" "$proved" --jobs "$jobs" "${options[@]}" "${crates[@]}"

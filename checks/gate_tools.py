@@ -1,6 +1,7 @@
 """What checks/gate_tools.sh does, with the repository as its word."""
 
 import contextlib
+import glob
 import io
 import os
 import subprocess
@@ -13,10 +14,10 @@ sys.path.insert(0, os.path.join(TOP, "tools", "lib"))
 from build.jobs import BYTES, at_once, groups_of, room_in
 from build.modules import costs_of, owner_of
 from lib.edit_files import BadEdit, replaced
-from lib.edit_rounds import Crate, functions_in, outline, rounds_of
+from lib.edit_rounds import Crate, functions_in, rounds_of
 from lib.tally import Tally
-from lib.tried import COLUMNS, fault_of_row, rows_in, sum_below, sum_of_crate, write_rows
-from lib.try_edits import Book, functions_of, refusals_in, refused_by
+from lib.tried import COLUMNS, Sources, fault_of_row, files_of, functions_of, rows_in, sums_now, without_comments, write_rows
+from lib.try_edits import Book, refusals_in, refused_by, stale_of, turn_of
 
 SOURCE = """//! A crate.
 
@@ -82,8 +83,8 @@ def functions(tally):
     changed = [("a", [named["twice"]]), ("b", [named["plain"]]), ("c", [named["half"]]), ("d", [named["twice"]]), ("e", None)]
     rounds = [[name for name, _ in it] for it in rounds_of(crate, changed)]
     tally.expect("which edits share a check", rounds, [["a", "c"], ["b"], ["d"], ["e"]])
-    tally.expect("an outline has no body that a contract hides", "half(n) + plain(n)" in outline("src/lib.rt", SOURCE), False)
-    tally.expect("an outline has a body that shows", "n + 1" in outline("src/lib.rt", SOURCE), True)
+    empty = functions_in("src/laws.rt", "pub fn law()\n    ensures { 1 ≡ 1 }\n{}\n\npub fn next() {\n    step()\n}\n")
+    tally.expect("an empty body ends with itself", [(it.name, sorted(it.words)) for it in empty], [("law", []), ("next", ["step"])])
 
 
 def edits(tally, room):
@@ -120,32 +121,79 @@ def refusals(tally):
 
 
 def rows(tally, room):
-    crate, file = os.path.join(room, "crates", "small"), os.path.join(room, "tried.csv")
-    now = {"edit_sum": "1", "crate_sum": sum_of_crate(crate), "below_sum": sum_below(os.path.join(room, "crates"), ["small"]), "logic": "l"}
-    write_rows(file, {("small", "good"): dict(zip(COLUMNS, ["small", "good", *now.values(), "a goal, with a comma"]))})
+    file = os.path.join(room, "tried.csv")
+    now = {"edit_sum": "1", "own_sum": "2", "below_sum": "3", "logic": "l"}
+    write_rows(file, {("small", "good"): dict(zip(COLUMNS, ["small", "good", *now.values(), "2026-12-01", "a goal, with a comma"]))})
     row = rows_in(file)[("small", "good")]
     tally.expect("a row with the present sums", fault_of_row(row, now), None)
     tally.count("no row", "" if "has no row" in fault_of_row(None, now) else "it counts")
     for column in now:
         tally.count("another " + column, "" if fault_of_row({**row, column: "0"}, now) else "it counts")
-    write(crate, "src/lib.rt", SOURCE.replace("half(n) + plain(n)", "plain(n) + half(n)"))
-    tally.expect("a body below that a contract hides", sum_below(os.path.join(room, "crates"), ["small"]), now["below_sum"])
-    tally.count("a body of the crate itself", "" if sum_of_crate(crate) != now["crate_sum"] else "its sum is as before")
-    write(crate, "src/lib.rt", SOURCE.replace("n / 2 }", "n / 3 }"))
-    tally.count("a contract below", "" if sum_below(os.path.join(room, "crates"), ["small"]) != now["below_sum"] else "its sum is as before")
 
 
-class Uses:
-    """A kit of which only the crates below are asked."""
+HOSTILE = (
+    ('let a = "//"; // gone\n', 'let a = "//";\n'),
+    ('let a = "\\"//"; /* gone */ let b = 1;\n', 'let a = "\\"//";   let b = 1;\n'),
+    ('let a = r#"a " // "#; // gone "\n', 'let a = r#"a " // "#;\n'),
+    ('let a = br"\\"; // gone\n', 'let a = br"\\";\n'),
+    ("let a = '\"'; // gone \"\n", "let a = '\"';\n"),
+    ("let a = '\\''; // gone '\n", "let a = '\\'';\n"),
+    ("fn a<'b>(c: &'b u8) {} // it's gone\n", "fn a<'b>(c: &'b u8) {}\n"),
+    ("a /* one /* two */ // */ b\n", "a   b\n"),
+    ('a /* " */ b\n', "a   b\n"),
+    ('let a = "one  \n\n  two"; \n\n\nb\n', 'let a = "one  \n\n  two";\nb\n'),
+    ('// a "quote\nlet b = 1;\n', "let b = 1;\n"),
+    ('let a = "one // two\n  // three"; // gone\n', 'let a = "one // two\n  // three";\n'),
+    ('let a = r##"one "# // two\n\n */ "##; /* gone\n\n */ b\n', 'let a = r##"one "# // two\n\n */ "##;   b\n'),
+    ('let a = "one\\\n  // two";\n', 'let a = "one\\\n  // two";\n'),
+    ("let a = ('é', '\"', '//'); // gone\n", "let a = ('é', '\"', '\n"),
+    ('let for_r = "\\""; // gone\n', 'let for_r = "\\"";\n'),
+    ("a // one /* two\nb */ c\n", "a\nb */ c\n"),
+    ("a / b /* // */ / c\n", "a / b   / c\n"),
+    ("a /* never closed\nb\n", "a\n"),
+)
 
-    uses = {"small": []}
+
+PROOF = "-- gone\na : b -- gone\na--b\n"
+
+
+def comments(tally):
+    for text, wanted in HOSTILE:
+        tally.expect("without comments: %r" % text, without_comments("src/a.rt", text), wanted)
+    tally.expect("a comment in a proof", without_comments("proofs/A.antt", PROOF), "a : b\na--b\n")
+
+
+def code_by_bash(paths):
+    """What the launcher takes for the code of files, by their names."""
+    script = '. "$0/tools/sources.bash" && printf "%s\\0" "$@" | code_of_list'
+    ran = subprocess.run(["bash", "-c", script, TOP, *paths], capture_output=True, text=True, check=True)
+    found = {}
+    for line in ran.stdout.removesuffix("\n").split("\n"):
+        if line.startswith("file "):
+            found[line[len("file ") :]] = lines = []
+        else:
+            lines.append(line[1:] + "\n")
+    return {path: "".join(lines) for path, lines in found.items()}
+
+
+def sums_of_launcher(tally, room):
+    """The launcher and the rows of mutations have one view of what is a comment: in hostile texts and in all sources."""
+    paths = {write(room, "hostile/%d.rt" % number, text): text for number, (text, _) in enumerate(HOSTILE)}
+    paths[write(room, "hostile/a.antt", PROOF)] = PROOF
+    for folder in glob.glob(os.path.join(TOP, "crates", "*", "")):
+        for path in files_of(folder):
+            with open(path, encoding="utf-8") as file:
+                paths[path] = file.read()
+    found = code_by_bash(sorted(paths))
+    for path, text in paths.items():
+        tally.count("the code of " + path, "" if found.get(path, "") == without_comments(path, text) else "the launcher has another: %r" % found.get(path, "")[:300])
 
 
 class Tried:
     """A crate whose edits were tried, with what was said of them."""
 
     def __init__(self, source, edits, refused, wrong):
-        self.kit, self.name, self.source, self.edits = Uses(), "small", source, edits
+        self.name, self.source, self.edits = "small", source, edits
         self.refused, self.wrong, self.checks = refused, wrong, 1
 
 
@@ -165,13 +213,35 @@ def book(tally, room):
     write(source, "src/lib.rt", SOURCE)
     edit = write(top, "checks/edits/small/good.edit", "file: src/lib.rt\nold:     n / 2\nnew:     n / 3\n")
     counted = Counted()
-    kept = Book(top, "l", counted)
+    kept = Book(top, {"small": []}, "l", counted)
     with contextlib.redirect_stdout(io.StringIO()):
-        for refused, wrong, rows in (({edit: "a goal"}, {}, [("small", "good")]), ({}, {edit: "NOT REFUSED"}, [])):
-            trial = Tried(source, [edit], refused, wrong)
-            kept.add(trial, kept.sums_of(trial))
+        for refused, wrong, rows, stale in (({edit: "small::half: a goal"}, {}, [("small", "good")], {}), ({}, {edit: "NOT REFUSED"}, [], {"small": [edit]})):
+            kept.add(Tried(source, [edit], refused, wrong), kept.sources("small"))
             tally.expect("the rows after a try", list(rows_in(kept.path)), rows)
-    tally.expect("what the tries counted", counted.told, [("small/good", ""), ("small/good.edit", "NOT REFUSED")])
+            tally.expect("the stale edits after it", stale_of(kept, {"small": [edit]}), stale)
+        begun = kept.sources("small")
+        write(source, "src/lib.rt", SOURCE.replace("half(n) + plain(n)", "plain(n) + half(n)"))
+        kept.add(Tried(source, [edit], {edit: "small::half: a goal"}, {}), kept.sources("small"))
+        tally.expect("a body that the edit's function does not see", stale_of(kept, {"small": [edit]}), {})
+        kept.add(Tried(source, [edit], {edit: "small::half: a goal"}, {}), begun)
+    told = [("small/good", ""), ("small/good.edit", "NOT REFUSED"), ("small/good", ""), ("small/small", "its texts changed meanwhile")]
+    tally.expect("what the tries counted", counted.told, told)
+    turns(tally, top, kept)
+
+
+def turns(tally, top, kept):
+    """The order of a turn: the stale first, then by the day."""
+    rows, edits = rows_in(kept.path), {}
+    for name, day in (("b", "2026-01-02"), ("c", "2026-01-01")):
+        write(top, "crates/%s/src/lib.rt" % name, SOURCE)
+        edits[name] = [write(top, "checks/edits/%s/good.edit" % name, "file: src/lib.rt\nold:     n / 2\nnew:     n / 3\n")]
+        kept.uses[name] = []
+        row = {"refused_by": "%s::half: a goal" % name}
+        rows[name, "good"] = {"crate": name, "edit": "good", **sums_now(Sources(top, kept.uses), name, edits[name][0], row, "l"), "tried": day, **row}
+    write_rows(kept.path, rows)
+    tally.expect("those tried longest ago", [it for it, _ in turn_of(kept, edits)], ["c", "b"])
+    write(top, "crates/b/src/lib.rt", SOURCE.replace("n / 2 }", "n / 3 }"))
+    tally.expect("the stale first", [it for it, _ in turn_of(kept, edits)], ["b", "c"])
 
 
 def memory(tally, room):
@@ -218,6 +288,8 @@ def main():
         edits(tally, room)
         refusals(tally)
         rows(tally, room)
+        comments(tally)
+        sums_of_launcher(tally, room)
         book(tally, room)
         memory(tally, room)
         costs(tally, room)

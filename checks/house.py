@@ -101,8 +101,8 @@ def faults_of_height(crate, line, heights):
 
 
 def is_test(crate):
-    """Whether the crate is a program of tests, or prints for one."""
-    return crate.endswith("_calls") or crate in ("run_faults", "rx_orders", "test_telling")
+    """Whether the crate is a program of tests."""
+    return crate in ("word_calls", "run_faults", "rx_orders")
 
 
 def main(top):

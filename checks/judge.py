@@ -30,7 +30,7 @@ PERIOD, GROUP = CODE * METAFRAME, LANES * (METAFRAME - 3 - SKIPS)
 ROWS = {"lanes": LANES, "metaframe": METAFRAME, "burst_max": 256, "burst_short": 64}
 # The bits that a dump lacks in front, the metaframe whose Sync word it therefore has first, and the ones in front of each lane.
 CUT, FIRST, SKEWS = 1000, 1, (0, 13, 77, 250)
-# The metaframe that declares the locks: that of the fourth Sync word.
+# The metaframe from which on `gather` writes words: that of the fourth Sync word, which declares the locks.
 DECLARED = FIRST + 3
 LINKS = 12
 COLUMNS = ["bit", "lane", "metaframe", "word", "what", "channel", "packet", "expected", "found", "note"]
@@ -116,17 +116,17 @@ class Case:
 
 def cases_of(sent):
     """The faults that are planted."""
-    words, frames = sent.words, len(sent.words) // GROUP - DECLARED
+    words, frames = sent.words, len(sent.words) // GROUP - FIRST
     crc = sent.of(lambda word: word >> 62 & 1, 40)
     sop = sent.of(lambda word: word >> 61 & 3 == 3, 20)
     end = sent.of(lambda word: word >> 60 & 1 and word >> 57 & 7 not in (0, 7), 12)
     of_each = "%d of %d of lanes 0 to 3" % (LANES * frames, LANES * frames)
     one, flip = "%d of %d" % (frames, frames), place_bit(2, 12, 30) + CODE - 1 - 5
     yield Case("Skip words not scrambled", bug=Bug(skip_plain=True), kinds=["skip"], lines=["skip: %s are right where they are not scrambled" % of_each],
-               rows=[{"what": "skip", "lane": "0", "bit": place_bit(0, DECLARED, 2), "expected": "1E" * 8}])
+               rows=[{"what": "skip", "lane": "0", "bit": place_bit(0, FIRST, 2), "expected": "1E" * 8}])
     yield Case("one bit of a Skip word", bug=Bug(skip_bit=(3, 17)), kinds=["skip"],
                lines=["skip: %s differ in bit 17 alone" % one, "skip: %s are on lane 3 alone" % one, "skip: %s are in every metaframe from 0 to %d" % (one, frames - 1)],
-               rows=[{"what": "skip", "lane": "3", "bit": place_bit(3, DECLARED, 2), "found": "1E1E1E1E1E1C1E1E"}, {"what": "diag", "lane": "3", "metaframe": 0}])
+               rows=[{"what": "skip", "lane": "3", "bit": place_bit(3, FIRST, 2), "found": "1E1E1E1E1E1C1E1E"}, {"what": "diag", "lane": "3", "metaframe": 0}])
     yield Case("a wrong CRC24", words=with_wrong_crc24(words, crc), kinds=["crc"],
                rows=[{"what": "crc", "word": word_of(crc), "bit": bit_of(crc), "expected": "%06X" % (words[crc][1] & 0xFFFFFF), "found": "%06X" % (words[crc][1] & 0xFFFFFF ^ 0x400)}])
     yield Case("BurstShort", burst_short=128, kinds=["short"], rows=[{"what": "short", "expected": "at least 16 words"}])
@@ -138,16 +138,16 @@ def cases_of(sent):
     yield Case("an SOP missing", words=with_changed(words, sop, lambda word: word & ~(1 << 61)), kinds=["open"],
                rows=[{"what": "open", "word": word_of(sop), "bit": bit_of(sop), "expected": "sop=1", "found": "sop=0", "channel": words[sop][1] >> 32 & 255}, {"what": "missing"}])
     yield Case("valid bytes wrong", words=with_changed(words, end, lambda word: word + (1 << 57)), kinds=["missing"], rows=[{"what": "missing"}])
-    for name, bug, told in (("State bits counted", Bug(crc32_counts_state=True), "State bits counted in"), ("not complemented", Bug(crc32_plain=True), "not complemented"),
-                            ("lowest bit first", Bug(crc32_lowest_first=True), "lowest bit first")):
+    for name, bug, told in (("State bits counted", Bug(crc32_counts_state=True), "state-counted"), ("not complemented", Bug(crc32_plain=True), "plain"),
+                            ("lowest bit first", Bug(crc32_lowest_first=True), "bytes-lowest-first")):
         yield Case("CRC32, " + name, bug=bug, kinds=["diag"], lines=["diag: %s are right with another CRC32: %s" % (of_each, told)], rows=[{"what": "diag", "lane": "1", "metaframe": 3}])
-    yield Case("CRC24 not complemented", words=with_crc24_complemented(words), kinds=["crc"], lines=["crc: %s are right with another CRC24: not complemented"], rows=[{"what": "missing"}])
+    yield Case("CRC24 not complemented", words=with_crc24_complemented(words), kinds=["crc"], lines=["crc: %s are right with another CRC24: plain"], rows=[{"what": "missing"}])
     yield Case("a scrambler that runs through", bug=Bug(runs_on=True), lines=["right with a scrambler of this kind: running through Sync and State words"], rows=[{"what": "lost-state"}])
     yield Case("State words reversed", bug=Bug(state_reversed=True), lines=["right with a scrambler of this kind: State words reversed"], rows=[{"what": "state"}])
     yield Case("State words 7 steps on", bug=Bug(state_steps=7), lines=["skip: %s are right with a scrambler of this kind: State words 7 steps on" % of_each], rows=[{"what": "skip"}])
     yield Case("no inversion", bug=Bug(no_inversion=True), kinds=["balance"], lines=["balance=4"], rows=[{"what": "balance", "lane": "0", "expected": "-129 to 129"}])
     yield Case("a health bit", bug=Bug(health=(1, 9)), kinds=["health"], lines=["are on lane 1 alone"],
-               rows=[{"what": "health", "lane": "1", "bit": place_bit(1, 9, METAFRAME - 1), "metaframe": 9 - DECLARED, "expected": "11", "found": "01"}])
+               rows=[{"what": "health", "lane": "1", "bit": place_bit(1, 9, METAFRAME - 1), "metaframe": 9 - FIRST, "expected": "11", "found": "01"}])
     yield Case("a wrong bit", bug=Bug(wrong_bit=(2, 12, 30, 5)), kinds=["diag"], rows=[{"what": "diag", "lane": "2", "bit": place_bit(2, 12, METAFRAME - 1), "note": "right with bit %d of the lane inverted" % (flip + CODE * 3)}])
     yield Case("a header of 11", bug=Bug(header=(1, 10, 20)), kinds=["bad"], rows=[{"what": "bad", "lane": "1", "bit": place_bit(1, 10, 20 + 2 + SKIPS), "found": "11"}])
     yield Case("a wrong Sync word", bug=Bug(sync_wrong=(1, 10)), kinds=["sync"], rows=[{"what": "sync", "lane": "1", "bit": place_bit(1, 10, 0), "expected": "78F678F678F678F6", "found": "78F678F678F678F7"}])
@@ -188,11 +188,15 @@ def check_case(tally, sent, case):
         tally.count("%s, %s" % (case.name, wanted), "" if has_row(rows, wanted) else "no such row")
     if case.kinds is not None:
         tally.expect(case.name + ", kinds that follow from no other", sorted({row["what"] for row in rows if "follows from" not in row["note"]}), case.kinds)
-    check_table(tally, sent, case, rows)
+    check_table(tally, case, rows)
+    judge(folder, "dump.plan", "--no-lead-in")
+    rows = rows_in(folder, "dump.judged.csv")
+    check_table(tally, case, rows)
+    check_told(tally, case, rows, *told_by_commands(folder))
 
 
-def check_table(tally, sent, case, rows):
-    """The rows are in order, name rows that they follow from, and are those that the program's commands tell."""
+def check_table(tally, case, rows):
+    """The rows are in order, and name rows that they follow from."""
     skews = case.skews if not (case.bug.order or case.name == "lanes too far apart") else None
     keys = [(int(row["bit"]) - skews[int(row["lane"])], int(row["lane"])) for row in rows if row["bit"]] if skews else []
     tally.expect(case.name + ", order", keys, sorted(keys))
@@ -205,7 +209,10 @@ def check_table(tally, sent, case, rows):
             if (cause["what"], cause["bit"]) != (named[2], named[3] or "") or cause is row:
                 wrong.append(row)
     tally.expect(case.name + ", named rows", wrong, [])
-    events, faults = told_by_commands(sent.folder)
+
+
+def check_told(tally, case, rows, events, faults):
+    """The rows without a lead-in are those that the program's commands tell."""
     found = {(row["lane"], row["bit"], row["what"]) for row in rows}
     tally.expect(case.name + ", events that are no rows", [event for event in events if event not in found], [])
     in_words = {(row["word"], row["what"], row["channel"]) for row in rows}
@@ -228,6 +235,79 @@ def told_by_commands(folder):
         return events, faults
 
 
+# ---- the first codes of a dump
+
+def check_short(tally, sent):
+    """Dumps of less than two metaframes, which begin in the middle of a code on each lane, and lanes that lie apart: all but the codes at
+    their ends is judged, and nothing is found but a planted fault, however early it is."""
+    folder, draws = sent.folder, random.Random(11)
+    traffic = long_traffic(folder, draws)
+    for metaframe, cuts in ((2048, (70000, 70013, 70700, 70041)), (300, (20033, 20033, 20033, 20033)), (96, (6431, 6000, 6439, 6466))):
+        link, name = Link(LANES, metaframe, SKIPS), "metaframe %d" % metaframe
+        words = traffic[:3 * LANES * (metaframe - 3 - SKIPS)]
+        plan = plan_rows("short", named=False, metaframe=metaframe, deskew=min(31, metaframe // 2 - 1))
+        lanes = [bits[cut:cut + CODE * (metaframe + metaframe // 2)] for bits, cut in zip(send(words, link), cuts)]
+        status, text, rows = judged_of(folder, lanes, plan)
+        tally.expect(name + ", clean", (status, rows), (0, []))
+        told = re.match(r"judged: (\d+) of (\d+) codes \((9\d|100)%\), from bit \d+ on; control words (\d+) of (\d+)\n", text)
+        tally.count(name + ", judged", "" if told and int(told[4]) + 1 == int(told[5]) > 30 else text[:200])
+        for slot in planted_slots(words, link, cuts, draws):
+            wrong = [bits[cut:cut + CODE * (metaframe + metaframe // 2)] for bits, cut in zip(send(with_wrong_crc24(words, slot), link), cuts)]
+            _, _, rows = judged_of(folder, wrong, plan)
+            lane, bit = sent_bit(slot, link)
+            tally.expect("%s, a wrong CRC24 in word %d" % (name, slot), [(row["lane"], row["bit"]) for row in rows if row["what"] == "crc"], [("%d" % lane, "%d" % (bit - cuts[lane]))])
+            tally.expect("%s, word %d, rows that follow from no other" % (name, slot), [row["what"] for row in rows if "follows from" not in row["note"]], ["crc"])
+
+
+def long_traffic(folder, draws):
+    """Words of many packets, without the groups of idles before them."""
+    write_files(folder, {"long.in.%d" % channel: capture(["%d" % draws.randrange(60, 700) for _ in range(150)]) for channel in range(CHANNELS)})
+    write_files(folder, {"long.plan": plan_rows("long").replace(b"sent.in", b"long.in")})
+    run([PROGRAM, "burst", "long.plan"], folder)
+    words = words_of(content(os.path.join(folder, "long.words")))
+    return words[next(slot for slot, (_, word) in enumerate(words) if word >> 62 == 3):]
+
+
+def judged_of(folder, lanes, plan, *more):
+    write_files(folder, {"short.plan": plan, **{"short.lane.%d" % lane: to_bytes(bits) for lane, bits in enumerate(lanes)}})
+    status, text, error = judge(folder, "short.plan", *more)
+    return status, text + error, rows_in(folder, "short.judged.csv")
+
+
+def sent_bit(slot, link):
+    """The lane and its bit at which a sent word begins."""
+    frame, index = divmod(slot, link.lanes * (link.metaframe - 3 - link.skips))
+    return index % link.lanes, CODE * (link.metaframe * frame + 2 + link.skips + index // link.lanes)
+
+
+def planted_slots(words, link, cuts, draws):
+    """Control words of a dump: the third one that it has, and others anywhere."""
+    def is_there(slot):
+        lane, bit = sent_bit(slot, link)
+        return bit >= max(cuts) + CODE and bit - cuts[lane] < CODE * (link.metaframe + link.metaframe // 2 - 90)
+    controls = [slot for slot, (tag, _) in enumerate(words) if tag == CONTROL and is_there(slot)]
+    return [controls[2]] + draws.sample(controls[3:], 2 if link.metaframe < 1000 else 0)
+
+
+def check_without(tally, sent):
+    """Kinds that are left out, by the call and by OUT.judge, with what follows from them."""
+    folder = sent.folder
+    slot = sent.of(lambda word: word >> 62 & 1, 40)
+    write_dump(folder, "left", with_wrong_crc24(sent.words, slot), Bug(health=(1, 9)), plan_rows("left"))
+    status, text, _ = judge(folder, "left.plan", "--without", "crc")
+    tally.expect("--without crc", (status, {row["what"] for row in rows_in(folder, "left.judged.csv")}, "left out: crc=1, span=1" in text), (1, {"health"}, True))
+    write_files(folder, {"left.judge": b"without,health\n"})
+    status, text, _ = judge(folder, "left.plan", "--without", "crc,skip")
+    tally.expect("--without and OUT.judge", (status, rows_in(folder, "left.judged.csv"), "left out: health=" in text), (0, [], True))
+    for content_of, told in ((b"without,health\nwithout,helth\n", "left.judge:2: 'helth' is no kind of findings"), (b"with,skip\n", "left.judge:1: a row is without,KIND")):
+        write_files(folder, {"left.judge": content_of})
+        status, text, error = judge(folder, "left.plan")
+        tally.expect("OUT.judge, %r" % content_of, (status, text, error[:len("judge: " + told)], error.count("\n")), (2, "", "judge: " + told, 1))
+    os.remove(os.path.join(folder, "left.judge"))
+    status, text, error = judge(folder, "left.plan", "--without", "crc,crd")
+    tally.expect("--without a word", (status, text, error[:32], error.count("\n")), (2, "", "judge: --without: 'crd' is no ki", 1))
+
+
 # ---- lanes without a fault
 
 def check_clean(tally, sent):
@@ -239,7 +319,8 @@ def check_clean(tally, sent):
         write_files(folder, {"clean.judged.csv": b"older\n"})
         status, text, error = judge(folder, "clean.plan")
         if number:
-            tally.expect("clean from bit %d" % cut, (status, text, error), (0, "channels: on 0, 2, 3; off 1, as off.local says\nclean.judged.csv rows=0\n", ""))
+            told = re.sub(r"\Ajudged: \d+ of \d+ codes \(99%\), from bit \d+ on; control words \d+ of \d+\n", "", text)
+            tally.expect("clean from bit %d" % cut, (status, told, error), (0, "channels: on 0, 2, 3; off 1, as off.local says\nclean.judged.csv rows=0\n", ""))
             tally.expect("clean from bit %d, table" % cut, content(os.path.join(folder, "clean.judged.csv")).decode(), ",".join(COLUMNS) + "\n")
         else:
             rows = rows_in(folder, "clean.judged.csv")
@@ -417,6 +498,8 @@ def main():
         check_clean(tally, sent)
         for case in cases_of(sent):
             check_case(tally, sent, case)
+        check_short(tally, sent)
+        check_without(tally, sent)
         check_calendars(tally, sent)
         check_missing(tally, sent)
         check_links(tally, sent)

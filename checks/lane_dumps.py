@@ -218,7 +218,7 @@ REFUSED = (
     (["--form", "hex:64"], b"1\n 1@2\n", "d:2: '1@2': '@' is no hexadecimal digit"),
     (["--form", "hex:64", "--columns"], b"1 2\n\n3 4 5\n", "d:3: 3 words, and the lines before have 2"),
     (["--form", "hex:64", "--columns"], b"1,2\n3,,4\n", "d:2: a column without a word"),
-    (["--form", "hex:64", "--columns"], b"1,2\n3,\n", "d:2: a column without a word"),
+    (["--form", "hex:64", "--columns"], b"1,2\n3,\n", "d:2: 1 words, and the lines before have 2"),
     (["--form", "hex:64", "--columns"], b"1 2\n3 z\n", "d:2: 'z': an unknown bit, z"),
     (["--form", "hex:64", "--columns"], b"# none\n", "d: there are no words, so no lanes"),
     (["--form", "bits"], b"0101\n01 2\n", "d:2: '2': '2' is no binary digit"),
@@ -242,8 +242,8 @@ REFUSED = (
     (["--form", "raw", "--order", "a"], b"", "--order a: numbers with commas between are expected"),
     (["--form", "raw", "--invert", "1"], b"", "--invert: there is no lane 1; the last is 0"),
     (["--form", "raw", "--drop", "1,2"], b"", "--drop: 2 numbers, and there are 1 lanes"),
-    (["--form", "raw", "--clock", "c"], b"", "--signal, --clock and --valid are of --form vcd alone"),
-    (["--form", "vcd"], b"", "--form vcd: --clock and a --signal for each lane are needed"),
+    (["--form", "raw", "--clock", "c"], b"", "--signal and --clock are of --form vcd"),
+    (["--form", "vcd"], b"", "--form vcd: --clock and a --signal or a --lane for each lane are needed"),
     (["--form", "hex:64", "--low"], b"", "unrecognized arguments: --low"),
 )
 

@@ -27,10 +27,12 @@ done
 # The wrong bodies are all known as refused, unless a file says otherwise.
 printf '%s\n' 'import os, sys' "print('edits', *sys.argv[2:])" "sys.exit(os.path.exists('$folder/untried'))" >"$tree/checks/edits.py"
 
-# A program that prints who it is, and its words one a line. With the word `limited` it writes past a limit on the size of files.
+# A program that prints who it is, and its words one a line. With the word `limited` it writes past a limit on the size of files,
+# and with `tunables` it prints what glibc is told.
 program_of() { # NAME
   printf '%s\n' '#!/bin/sh' '[ $# -gt 0 ] || { echo usage: none; exit 2; }' \
-    '[ "$1" != limited ] || { ulimit -f 1; head -c 4096 /dev/zero >"$2"; exit; }' "printf '%s\n' '$1' \"\$@\"" "echo odd >&2" 'exit 5'
+    '[ "$1" != limited ] || { ulimit -f 1; head -c 4096 /dev/zero >"$2"; exit; }' \
+    '[ "$1" != tunables ] || { echo "${GLIBC_TUNABLES:-none}"; exit; }' "printf '%s\n' '$1' \"\$@\"" "echo odd >&2" 'exit 5'
 }
 
 # The rt that is tried with: a crate whose source says wrong is not proved. A file `meanwhile` names one that is changed during the build.
@@ -101,9 +103,20 @@ launch without limited "$folder/large"
 holds 'a file beyond the limit on its size: no signal ends the program' "$status" 1
 ln -s "$tree/interlaken" "$folder/link"
 holds 'through a link, with no home' "$(cd / && env -i PATH=/usr/bin:/bin "$folder/link" x 2>/dev/null)" "$(printf 'release\nx')"
+ran 'large pages are asked for' '0 glibc.malloc.hugetlb=1' without tunables
+settings=(GLIBC_TUNABLES=glibc.malloc.arena_max=1)
+ran 'large pages beside another tunable' '0 glibc.malloc.arena_max=1:glibc.malloc.hugetlb=1' without tunables
+settings=(GLIBC_TUNABLES=glibc.malloc.hugetlb=0:glibc.malloc.arena_max=1)
+ran 'large pages as the user set them' '0 glibc.malloc.hugetlb=0:glibc.malloc.arena_max=1' without tunables
 settings=(INTERLAKEN_WHICH=1)
 ran 'which program' "0 $tree/release/interlaken-x86_64-linux" without
 settings=()
+
+# A comment is no change of the sources: the release is run, by its sum and by what --version says.
+printf '%s\n' '// a comment' "$(cat "$tree/crates/low/src/lib.rt")" '/* more */' >"$folder/commented"
+cp "$folder/commented" "$tree/crates/low/src/lib.rt"
+ran 'after a comment' '5 release' without one
+cp -p "$folder/old/crates/low/src/lib.rt" "$tree/crates/low/src/lib.rt"
 
 # What the launcher says itself.
 usage='usage: interlaken COMMAND FILE, or interlaken generate NUMBER PREFIX'
@@ -322,7 +335,7 @@ gate() { # WHAT WANTED
 }
 gate 'a gate' '0 checks: 3 passed, 0 failed, 1 skipped'
 holds 'what rt is asked, and which wrong bodies are tried' "$(last_calls 2)" 'ci jobs=some
-edits turn'
+edits turn --proved .'
 touch "$folder/survivor"
 gate 'a gate with a wrong body that is not refused' '1 checks: 3 passed, 0 failed, 1 skipped'
 rm "$folder/survivor"

@@ -131,7 +131,8 @@ class Check:
         left = files
         for call in calls:
             left = LANES(shlex.split(call), left).files
-        mended = {name: data for name, data in left.items() if name.startswith("x.mended.lane.")}
+        prefix = re.search(r"--out (\S+)", calls[-1])[1] if calls else ""
+        mended = {name: data for name, data in left.items() if name.startswith(prefix + ".lane.")}
         again = probe(mended) if mended else None
         self.tally.count(what + ", mended", "" if again and again.status == 0 and len(mended) == len(files) else
                          "%s: %s" % (calls, again and (again.text[-600:] + again.error)))
@@ -225,6 +226,37 @@ def check_lane_orders(check, link):
                 ["no plan has it, and tools/lanes --drop"])
 
 
+def check_late(check, link):
+    """A lane that is whole metaframes later or earlier than the others, which only the CRC24 shows."""
+    for late in (1, 2, 7, 16, -1, -5):
+        for lane in range(len(link.bits)):
+            behind = [max(0, late) if other == lane else max(0, -late) for other in range(len(link.bits))]
+            bits = [some[1000 + link.period * (abs(late) - own):] for own, some in zip(behind, link.bits)]
+            drops = ",".join("%d" % (link.period * own) for own in behind)
+            told = "skews %s bits, by the CRC24: no plan has it, and tools/lanes --drop %s mends it" % (drops, drops)
+            check.names("%s, lane %d is %d metaframes late" % (link.shape.name, lane, late), bits, [told], wanted=[some[1000 + link.period * abs(late):] for some in link.bits])
+
+
+def check_many_lanes(check):
+    """Any order of up to 24 lanes, by short bursts."""
+    for lanes in (7, 12, 24):
+        shape = Shape("many", lanes, 32, 1, "channel,1,s.pcap\nburst_max,64\nburst_short,32\n")
+        link = Link(check.tally, shape, {"s.pcap": capture(["%dx1" % (20 * lanes)] + ["%dx%d" % (4 * lanes, 40 + number % 90) for number in range(30)])})
+        order = random.Random(lanes).sample(range(lanes), lanes)
+        bits = ["" for _ in order]
+        for place, lane in enumerate(order):
+            bits[lane] = link.bits[place]
+        told = "order of the lanes %s" % ",".join(map(str, order))
+        check.names("%d lanes, %s" % (lanes, told), bits, [told], wanted=link.bits)
+
+
+def check_short_metaframes(check, link):
+    """Metaframes of fewer words than the profile has."""
+    for length in (8, 24, 31):
+        told = "metaframe %d: found %d; the profile has 32 to 8192" % (length, length)
+        check.names(told, make_lanes(link.words, link.shape.lanes, length, link.shape.skips), [told], mends=False)
+
+
 # ---- what senders do
 
 def check_senders(check, link):
@@ -232,17 +264,20 @@ def check_senders(check, link):
     args = (link.words, shape.lanes, shape.metaframe, shape.skips)
     check.tally.expect("%s, lanes made here" % shape.name, make_lanes(*args) == link.bits, True)
     none = "no option of tools/lanes mends it"
-    senders = [(Sender(runs=True), ["scrambler running through Sync and State words"]), (Sender(reverses=True), ["scrambler State words reversed"]),
-               (Sender(plain=True), ["skips %d, not scrambled" % shape.skips]),
-               (Sender(plain=True, stands=True), ["skips %d, not scrambled" % shape.skips, "scrambler standing still in Skip words"]),
-               (Sender(lowest=True), ["CRC32 lowest bit first"]), (Sender(bare=True), ["CRC32 not complemented"]), (Sender(counted=True), ["CRC32 State bits counted in"]),
-               (Sender(zero=True), ["CRC32 start 0"]), (Sender(lowest=True, zero=True, reverses=True), ["CRC32 lowest bit first, start 0", "scrambler State words reversed"])]
-    senders += [(Sender(steps=steps), ["scrambler State words %d steps %s" % (abs(steps), "on" if steps > 0 else "back")]) for steps in (1, 17, 64, -1, -64)]
+    senders = [(Sender(reverses=True), ["scrambler State words reversed"]), (Sender(plain=True), ["skips %d, not scrambled" % shape.skips]),
+               (Sender(plain=True, stands=True), ["skips %d, not scrambled" % shape.skips, "scrambler standing still in Skip words"])]
     for sender, told in senders:
         check.names("%s, %s" % (shape.name, told), make_lanes(*args, sender), ["%s: %s" % (text, none) for text in told], mends=False)
-    for is_bare, start, told in ((True, 0xFFFFFF, "CRC24 not complemented"), (False, 0, "CRC24 start 0"), (True, 0, "CRC24 start 0, not complemented")):
+    both = make_lanes(*args, Sender(lowest=True, zero=True, reverses=True))
+    check.names(shape.name + ", State words reversed and another CRC32", both, ["scrambler State words reversed: " + none, "CRC32 bytes-lowest-first,zeros"], mends=False)
+    adapted = [(Sender(runs=True), "scrambler running through Sync and State words", "--state running"), (Sender(lowest=True), "CRC32 bytes-lowest-first", "--crc32 bytes-lowest-first"),
+               (Sender(bare=True), "CRC32 plain", "--crc32 plain"), (Sender(counted=True), "CRC32 state-counted", "--crc32 state-counted"), (Sender(zero=True), "CRC32 zeros", "--crc32 zeros")]
+    adapted += [(Sender(steps=steps), "scrambler State words %d steps %s" % (abs(steps), "on" if steps > 0 else "back"), "--state %d" % steps) for steps in (1, 17, 58, 64, -1, -64)]
+    for sender, told, option in adapted:
+        check.names("%s, %s" % (shape.name, told), make_lanes(*args, sender), ["%s: tools/lanes adapt %s mends it" % (told, option)])
+    for is_bare, start, told in ((True, 0xFFFFFF, "plain"), (False, 0, "zeros"), (True, 0, "zeros,plain")):
         words = with_crc24(link.words, is_bare, start)
-        check.names("%s, %s" % (shape.name, told), make_lanes(words, *args[1:]), ["%s: %s" % (told, none)], mends=False)
+        check.names("%s, CRC24 %s" % (shape.name, told), make_lanes(words, *args[1:]), ["CRC24 %s: tools/lanes adapt --crc24 %s mends it" % (told, told)])
 
 
 def check_standing(check, link):
@@ -371,6 +406,9 @@ def main():
     check_codes(check, three)
     check_lane_orders(check, three)
     check_lane_orders(check, eight)
+    check_late(check, three)
+    check_many_lanes(check)
+    check_short_metaframes(check, three)
     check_senders(check, three)
     check_standing(check, one)
     check_plans(check, three)

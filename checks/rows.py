@@ -44,15 +44,15 @@ class Row:
     def at(self, part):
         return os.path.join(self.folder, part)
 
-    def prepared(self, program):
+    def prepared(self, program, environment):
         """The run of its first command, whose files are those before; without one nothing changes."""
-        return left_by(program, self.first, self.before) if self.first else Run(0, b"", b"", self.before)
+        return left_by(program, self.first, self.before, environment=environment) if self.first else Run(0, b"", b"", self.before)
 
-    def differences(self, program):
-        first = self.prepared(program)
+    def differences(self, program, environment=None):
+        first = self.prepared(program, environment)
         if first.status != 0:
             return ["status %s of its first command" % first.status]
-        status, text, error, files = left_by(program, self.words, first.files)
+        status, text, error, files = left_by(program, self.words, first.files, environment=environment)
         told = [] if status == self.status else ["status %s and not %d" % (status, self.status)]
         if text != self.text:
             told.append("text %r and not %r" % (text[:400], self.text[:400]))

@@ -106,7 +106,7 @@
  * `dark` do; of the calls on a transmitter `new` and `packet` do. `interlaken_plan_read` and
  * `interlaken_plan_channels` allocate memory, and free it before they return. A receiver keeps room
  * for the longest packet of the plan (`max_packet`) on each channel, so a smaller `max_packet`
- * saves memory.
+ * saves memory. GLIBC_TUNABLES=glibc.malloc.hugetlb=1 has malloc ask for large pages.
  *
  * What a handle keeps in memory, in units of 1,000 bytes. The first three plans have a metaframe of
  * 2,048 words, and the others one of 8,192. Each has the default calendar:
@@ -133,10 +133,10 @@ extern "C" {
 
 /* The version of the program, the library and the formats of files. The shared library has the
  * first number in its name. */
-#define INTERLAKEN_VERSION "1.6.2"
+#define INTERLAKEN_VERSION "1.6.3"
 #define INTERLAKEN_VERSION_MAJOR 1
 #define INTERLAKEN_VERSION_MINOR 6
-#define INTERLAKEN_VERSION_PATCH 2
+#define INTERLAKEN_VERSION_PATCH 3
 
 /* The results of calls. */
 enum interlaken_result {

@@ -185,7 +185,7 @@ same_as_tables() { # WHAT PLAN PIECE
   INTERLAKEN_PROGRAM=$program "$top/tools/slots" "$plan" --faults >slots.csv 2>&1
   # No flow is not a word.
   # shellcheck disable=SC2086
-  ./monitor "$plan" "$out" "$3" lanes,rules,packets,drops,spans $flow >told.txt 2>&1
+  ./monitor "$plan" "$out" "$3" lanes,rules,packets,drops,spans,from_start $flow >told.txt 2>&1
   holds "$what: rules" "$(grep '^rule ' told.txt | LC_ALL=C sort)" "$(awk -F, 'NR == 1 && $0 != "word,rule,channel,lane,metaframe,bit"
     NR > 1 { print "rule", $2, "word", $1 ($3 == "" ? "" : " channel " $3), "lane", $4, "bit", $6 }' slots.csv | LC_ALL=C sort)"
   holds "$what: lanes" "$(grep '^lane ' told.txt | LC_ALL=C sort -s -n -k 2,2)" "$(awk -F, 'NR > 1 { print "lane", $1, "bit", $2, $3 }' "$out.events.csv")"
@@ -244,6 +244,34 @@ open("planted.words", "wb").write(b"".join(data[at : at + 9] for at in range(0, 
     holds "the monitor of $bytes bytes: in time" "$(awk -v limit="$limit" '{ for (i = 1; i < NF; i++) if ($i == "bit" && $(i + 1) < limit) print }' cut.txt)" \
       "$(awk -v limit="$limit" '{ for (i = 1; i < NF; i++) if ($i == "bit" && $(i + 1) < limit) print }' whole.txt)"
   done
+}
+
+# Lanes that begin in the middle of the traffic, of words as they were sent and of changed ones: of the first the monitor tells no rule, and
+# of the others what it tells of the whole lanes, from where both have their locks on.
+try_late_monitor() {
+  local bytes lane from
+  for _ in 1 2 3 4 5 6 7 8; do cat words.words; done >planted.words
+  "$program" stripe planted.plan >/dev/null || gives_up 'stripe of words fails'
+  for bytes in 3001 4444 6100 9217; do
+    for lane in 0 1; do
+      tail -c "+$bytes" planted.lane.$lane >clean.lane.$lane
+      tail -c "+$bytes" again.lane.$lane >late.lane.$lane
+    done
+    holds "the monitor from byte $bytes on, no fault" "$(./monitor again.plan clean 100 rules,lanes | grep -v ' lock$')" ''
+    from=$((8 * (bytes - 1)))
+    ./monitor again.plan late 1 rules,lanes | late_lines 0 >late.txt
+    late_lines "$from" <whole.txt >wanted.txt
+    # Which channels had an open packet is not known of words that came before.
+    holds "the monitor from byte $bytes on" "$(grep -v -e '^rule sop ' -e '^rule open ' late.txt)" "$(grep -v -e '^rule sop ' -e '^rule open ' wanted.txt)"
+    holds "the monitor from byte $bytes on: nothing else" "$(LC_ALL=C comm -23 late.txt wanted.txt)" ''
+  done
+  holds 'rules of lanes that begin late' "$(($(late_lines 24000 <whole.txt | grep -c '^rule ') > 0))" 1
+}
+
+# Lines of the monitor from eight metaframes behind a bit on, by bits that are counted from there, without locks and numbers of words.
+late_lines() { # BIT
+  awk -v first="$1" '!/ lock$/ { for (i = 1; i < NF; i++) { if ($i == "word") $i = $(i + 1) = ""
+    if ($i == "bit" && $(i + 1) >= first + 8 * 32 * 67) { $(i + 1) -= first; print } } }' | LC_ALL=C sort
 }
 
 # All of the installed files, and that no other file is written over or removed.

@@ -187,6 +187,8 @@ static void try_none(void *receiver) {
   want("is_on of none, a number that is none", interlaken_dpi_is_on(receiver, 65536, &u[0]), NO_RECEIVER);
   want("report of none", interlaken_dpi_report(receiver, 0, &n[0], &n[1], &n[2], &n[3], &n[4], &n[5], &n[6], &n[7], &n[8]), NO_RECEIVER);
   want("state of none", interlaken_dpi_lane_state(receiver, 0, &u[0]), NO_RECEIVER);
+  want("plan of none", interlaken_dpi_plan(receiver, &u[0], &u[1], &u[2]), NO_RECEIVER);
+  want("its numbers", u[0] == 0 && u[1] == 0 && u[2] == 0, 1);
   want("place of none", interlaken_dpi_place(receiver, 1, 0, 0, &u[0], &n[0]), NO_RECEIVER);
   want("arrival of none", interlaken_dpi_arrival(receiver, 1, 0, 0, &u[0], &n[0]), NO_RECEIVER);
 }

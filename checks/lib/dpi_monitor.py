@@ -12,13 +12,16 @@ METAFRAMES = 2  # a bug is told in so many
 LANE_BUGS = {1: ("skip", "BAD_SKIP"), 2: ("diag", "BAD_DIAGNOSTIC"), 3: ("health", "HEALTH"), 4: ("balance", "BALANCE"),
              5: ("state", "BAD_STATE"), 6: ("sync", "BAD_SYNC"), 7: ("bad", "BAD_WORD"), 8: ("bad", "BAD_WORD")}
 # What is found if a bug is there from the first word on.
-START_BUGS = {6: "lane 1 bit N: INTERLAKEN_LANE_EVENT_UNFRAMED", 8: "lane 1: no lock", 9: "lane 0 bit N: INTERLAKEN_RULE_CRC"}
-PLAIN_CODES, ERROR_END = 4, 11
+START_BUGS = {6: "lane 1 bit N: INTERLAKEN_LANE_EVENT_UNFRAMED", 8: "lane 1: no lock"}
+PLAIN_CODES, PLAIN_SKIP, DEAD_LANE, WRONG_CRC24, ERROR_END = 4, 1, 8, 9, 11
 # The bugs of words that break a rule, with the rule of `check`, the name of interlaken.h, and whether the rule is on a channel.
 RULE_BUGS = {9: ("crc", "CRC", False), 10: ("crc", "CRC", False), 12: ("max", "MAX", True), 13: ("short", "SHORT", True),
              14: ("calendar", "CALENDAR", False), 15: ("idle", "IDLE", False)}
 # A bench as verilator builds it: lanes, metaframe, Skip words, and bits of each lane at a clock.
 SHAPES = {(2, 32, 1, 1): "obj_monitor", (3, 40, 2, 67): "obj_monitor_other"}
+# Where bursts run, benches begin; and a bug begins once they have their locks.
+FIRST_BURSTS, LAST_BEGIN, BUG_FROM = 8, 14, 22
+BEGINS = 3
 SAYS = re.compile(r"^bug \d+: the first wrong word is on lane (\d+), sent from bit (\d+) on$", re.M)
 FINDS = re.compile(r"^(.*), after (\d+) bits$", re.M)
 PREFIX = re.compile(r"INTERLAKEN_(LANE_EVENT|RULE|DROP|FAULT)_")
@@ -72,12 +75,12 @@ class Monitored:
         rows = [line.split(",") for line in text.split("\n")[1:-1]]
         return [(int(row[3]), int(row[5]), row[1]) for row in rows]
 
-    def found_in_python(self):
+    def found_in_python(self, from_start=False):
         """The first finding in these lanes, a byte of each at a time; None if there is none."""
         from interlaken.monitor import Finding, Monitor
 
         lanes = self.arrived()
-        with Monitor(self.plan.encode(), self.library) as monitor:
+        with Monitor(self.plan.encode(), self.library, from_start) as monitor:
             for at in range(min(map(len, lanes))):
                 for lane, data in enumerate(lanes):
                     monitor.feed(lane, data[at:at + 1])
@@ -93,7 +96,7 @@ class Monitored:
         says, finds = SAYS.search(text), FINDS.search(text)
         self.tally.expect(what + ": status", status != 0, True)
         self.tally.expect(what + ": a finding", finds is not None, True)
-        self.tally.expect(what + ": in Python", self.found_in_python(), finds and PREFIX.sub("", finds[1]))
+        self.tally.expect(what + ": in Python", self.found_in_python("+from_start" in options), finds and PREFIX.sub("", finds[1]))
         sent = (int(says[1]), int(says[2]) + skew_of(int(says[1]))) if says else None
         return sent, finds[1] if finds else "", int(finds[2]) if finds else 0
 
@@ -146,6 +149,44 @@ class Monitored:
             what = "%s, bug %d from the first word on" % (self.what, bug)
             _, found, _ = self.finding(what, "+bug=%d" % bug, "+on=1", "+from=0")
             self.tally.expect(what + ": its finding", re.sub(r"bit \d+", "bit N", found), wanted)
+        # The checksum of the first word cannot be judged if it is not the first that was sent: then the next one is on lane 1.
+        for lane, options in ((1, ()), (0, ("+from_start",))):
+            what = "%s, bug %d from the first word on, %s" % (self.what, WRONG_CRC24, options)
+            _, found, _ = self.finding(what, "+bug=%d" % WRONG_CRC24, "+from=0", *options)
+            self.tally.expect(what + ": its finding", re.sub(r"bit \d+", "bit N", found), "lane %d bit N: INTERLAKEN_RULE_CRC" % lane)
+
+    def try_begin(self, bug, begin):
+        """The bench begins in the middle of the traffic: it finds a bug at the lane and the bit at which one does that saw all."""
+        what = "%s, bug %d, from bit %d on" % (self.what, bug, begin)
+        options = ["+bug=%d" % bug, "+on=1", "+from=%d" % BUG_FROM, "+packets=400"]
+        _, wanted, _ = self.finding(what + ", of all", *options)
+        _, found, _ = self.finding(what, *options, "+begin=%d" % begin)
+        self.tally.expect(what + ": its finding", re.sub(r"(?<= bit )\d+", lambda bit: str(int(bit[0]) + begin), found), wanted)
+
+    def try_begins(self):
+        draw, period = random.Random(4), CODE_BITS * self.metaframe
+        for number in range(BEGINS):
+            begin = draw.randrange(FIRST_BURSTS * period, LAST_BEGIN * period)
+            status, text = self.call("+packets=400", "+begin=%d" % begin, "+bits=%d" % (20 * period))
+            told = re.findall(r"^no finding, (\d+) packets$", text, re.M)
+            self.tally.expect("%s, from bit %d on" % (self.what, begin), (status, len(told), self.found_in_python()), (0, 1, None))
+            self.tally.expect("%s, from bit %d on: packets" % (self.what, begin), int((told or ["0"])[0]) > 0, True)
+        for bug in [bug for bug in [*LANE_BUGS, *RULE_BUGS] if bug not in (PLAIN_CODES, DEAD_LANE)]:
+            self.try_begin(bug, draw.randrange(FIRST_BURSTS * period, LAST_BEGIN * period))
+
+    def try_plan(self):
+        """A plan from a file, findings that are left out, and what is refused."""
+        bug = ["+bug=%d" % PLAIN_SKIP, "+on=1"]
+        of_file, own = (FINDS.search(self.call(*bug, *more)[1]) for more in (["+plan=seen.plan"], []))
+        self.tally.expect(self.what + ": the plan of a file", of_file and of_file[0], own and own[0])
+        status, text = self.call(*bug, "+without=skip,diag")
+        self.tally.expect(self.what + ": left out", (status, re.findall(r"^left out: (\w+)=\d+$", text, re.M), "no finding" in text), (0, ["diag", "skip"], True))
+        with open(self.folder + "/other.plan", "w", encoding="utf-8") as file:
+            file.write(self.plan.replace("lanes,%d" % self.lanes, "lanes,%d" % (self.lanes + 1)))
+        for option, told in (("+plan=other.plan", "the plan has %d lanes, and the device %d" % (self.lanes + 1, self.lanes)), ("+plan=none.plan", "none.plan: it cannot be read"),
+                             ("+without=skip,skips", "there is no kind 'skips'")):
+            status, text = self.call(option)
+            self.tally.expect("%s, %s" % (self.what, option), (status != 0, told in text), (True, True))
 
     def try_all(self):
         status, text = self.call()
@@ -160,6 +201,8 @@ class Monitored:
                 self.try_rule_bug(bug, start)
         self.try_error_end()
         self.try_starts()
+        self.try_begins()
+        self.try_plan()
         draw = random.Random(2)
         for lane in range(self.lanes):
             self.try_flip(lane, draw.randrange(5 * CODE_BITS * self.metaframe, 8 * CODE_BITS * self.metaframe))

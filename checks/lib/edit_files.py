@@ -64,3 +64,7 @@ def edits_in(folder):
 
 def name_of(edit):
     return os.path.basename(edit)[: -len(".edit")]
+
+
+def crates_with_edits(top):
+    return sorted(os.path.basename(it[:-1]) for it in glob.glob(os.path.join(top, "checks", "edits", "*", "")))

@@ -15,7 +15,7 @@ class Function:
     """A function of a source file: its name, where its body begins and ends, and what the body names."""
 
     def __init__(self, path, name, head, body, end, text):
-        self.path, self.name, self.body, self.end = path, name, body, end
+        self.path, self.name, self.head, self.body, self.end = path, name, head, body, end
         self.words = set(WORD.findall(text[body:end]))
         self.shows_code = "ensures" not in text[head:body]
         self.owner = owner_of(text, head)
@@ -41,16 +41,18 @@ def owner_of(text, place):
 
 
 def functions_in(path, text):
-    """The functions of a file in the layout of `rt fmt`: a body ends with a brace in the column of the head."""
+    """The functions of a file in the layout of `rt fmt`: a body ends with a brace in the column of the head, or is `{}` there."""
     found = []
     for head in HEAD.finditer(text):
         indent = head[1].lstrip("\n")
-        end = re.compile(r"^%s\}" % indent, re.M).search(text, head.end())
+        end = re.compile(r"^%s\{?\}" % indent, re.M).search(text, head.end())
         line = text[head.start(2) : text.find("\n", head.start(2))]
         if line.rstrip().endswith("}"):
             opens, closes = text.index("{", head.start(2)), text.find("\n", head.start(2))
         elif end is None or re.compile(r";\s*$").search(line):
             continue
+        elif end[0].endswith("{}"):
+            opens, closes = end.end() - 2, end.end() - 1
         else:
             own = re.compile(r"^%s\{$|\{$" % indent, re.M).search(text, head.start(2), end.start())
             if own is None:

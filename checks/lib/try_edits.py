@@ -1,8 +1,10 @@
-"""Has the prover refuse the wrong bodies of crates, and keeps a row for each in checks/edits/tried.csv.
+"""Has the prover refuse wrong bodies, and keeps a row for each in checks/edits/tried.csv as soon as its crate is done.
 
-    python3 try_edits.py TOP PROVED [--jobs N] CRATE..
+    python3 try_edits.py TOP PROVED [--jobs N] [CRATE..]            all edits of these crates, or of all
+    python3 try_edits.py TOP PROVED [--jobs N] --stale [CRATE..]    those whose rows are not of the present sums
+    python3 try_edits.py TOP PROVED [--jobs N] --turn               these first, then those tried longest ago, until MINUTES are used
 
-PROVED is a checkout in which `rt ci` proved these crates. The edits of a crate are tried in rounds: in one check are those that change
+PROVED is a checkout in which `rt ci` proved these crates and those that they stand on. The edits of a crate are tried in rounds: in one check are those that change
 bodies of functions which do not see each other. The check is of these functions and of what they call. An edit is refused if the check
 says of a function that it changes that a goal of its own is not proved; if it does not say so, the edit is tried alone. Rounds after the
 first use what the first kept; then, at the end, the same functions as they stand have to be proved over it.
@@ -11,8 +13,10 @@ first use what the first kept; then, at the end, the same functions as they stan
 import argparse
 import concurrent.futures
 import glob
+import hashlib
 import os
 import re
+import resource
 import shutil
 import subprocess
 import sys
@@ -23,10 +27,10 @@ HERE = os.path.dirname(os.path.abspath(__file__))
 sys.path[:0] = [os.path.dirname(HERE), os.path.join(HERE, "..", "..", "tools", "lib")]
 
 from build.kit import Kit, below, copy_kept, kit_folder, logic_of
-from lib.edit_files import BadEdit, edits_in, name_of, pairs_of, replaced, text_of
+from lib.edit_files import BadEdit, crates_with_edits, edits_in, name_of, pairs_of, replaced, text_of
 from lib.edit_rounds import Crate, rounds_of
 from lib.tally import Tally
-from lib.tried import rows_in, sum_below, sum_of_crate, sum_of_file, write_rows
+from lib.tried import Sources, code_of, fault_of_row, functions_of, rows_in, sums_now, today, write_rows
 
 VERDICT = re.compile(r"^fn (\S+): (no proof: |not proved)(.*)$")
 ERROR = re.compile(r"^(?:\./)?(proofs/\S+?):\d+:\d+: error: (.*)$")
@@ -35,23 +39,13 @@ HOLLOW = re.compile(r"has no field|is not in scope|has no `|was not admitted")
 SHOWN = 200
 # The status of a check that knows no function of a name.
 NO_FUNCTION = 2
+# A turn of the gate begins no other crate once it has used so much of the processors.
+MINUTES = 10
 
 
 def sources_of(folder):
     paths = glob.glob(os.path.join(folder, "src", "**", "*.rt"), recursive=True)
     return {os.path.relpath(path, folder): text_of(folder, os.path.relpath(path, folder)) for path in paths}
-
-
-def functions_of(edit, crate, texts):
-    """The functions that an edit changes, or None if it changes something else."""
-    found = []
-    for path, old, _ in pairs_of(edit):
-        place = texts.get(path, "").find(old)
-        function = crate.around(path, place + len(old) - len(old.lstrip())) if place >= 0 else None
-        if function is None:
-            return None
-        found.append(function)
-    return found
 
 
 def refusals_in(lines):
@@ -184,23 +178,28 @@ class Trial:
 class Book:
     """The rows of tried.csv, kept as each crate is done, and the count of what was tried."""
 
-    def __init__(self, top, logic, tally):
-        self.top, self.logic, self.tally, self.lock = top, logic, tally, threading.Lock()
+    def __init__(self, top, uses, logic, tally):
+        self.top, self.uses, self.logic, self.tally, self.lock = top, uses, logic, tally, threading.Lock()
         self.path = os.path.join(top, "checks", "edits", "tried.csv")
 
-    def sums_of(self, trial):
-        crates = os.path.join(self.top, "crates")
-        return {"crate_sum": sum_of_crate(trial.source), "below_sum": sum_below(crates, below(trial.kit.uses, trial.name)), "logic": self.logic}
+    def sources(self, crate):
+        """The sources that the crate's refusals may stand on, as they are now."""
+        found = Sources(self.top, self.uses)
+        for name in [crate] + below(self.uses, crate):
+            found.house.crate(name)
+        return found
 
-    def add(self, trial, sums):
+    def add(self, trial, sources):
+        """Adds what a trial found, which began with these sources."""
         with self.lock:
-            rows = rows_in(self.path)
-            if self.sums_of(trial) != sums:
+            rows, now = rows_in(self.path), self.sources(trial.name)
+            if any(now.house.crate(name).texts != room.texts for name, room in list(sources.house.crates.items())):
                 trial.refused, trial.wrong[trial.name] = {}, "its texts changed meanwhile"
             for edit, said in trial.refused.items():
-                name = name_of(edit)
-                rows[trial.name, name] = {"crate": trial.name, "edit": name, "edit_sum": sum_of_file(edit), **sums, "refused_by": said}
-                self.tally.count("%s/%s" % (trial.name, name_of(edit)))
+                name, row = name_of(edit), {"refused_by": said}
+                sums = sums_now(sources, trial.name, edit, row, self.logic)
+                rows[trial.name, name] = {"crate": trial.name, "edit": name, **sums, "tried": today(), **row}
+                self.tally.count("%s/%s" % (trial.name, name))
             for what, why in trial.wrong.items():
                 # What an earlier try said of it no longer counts.
                 rows.pop((trial.name, name_of(what)), None)
@@ -209,29 +208,99 @@ class Book:
             print("%s: %d of %d edits refused, by %d checks" % (trial.name, len(trial.refused), len(trial.edits), trial.checks), flush=True)
 
 
-def try_crate(kit, book, name):
-    source = os.path.join(book.top, "crates", name)
+def try_crate(kit, book, name, edits):
     with tempfile.TemporaryDirectory(prefix="interlaken-edits-") as room:
-        trial = Trial(kit, name, source, edits_in(os.path.join(book.top, "checks", "edits", name)), room)
-        sums = book.sums_of(trial)
+        sources = book.sources(name)
+        trial = Trial(kit, name, os.path.join(book.top, "crates", name), edits, room)
         trial.run()
-    book.add(trial, sums)
+    book.add(trial, sources)
+
+
+def edits_by_crate(top, crates):
+    return {name: edits_in(os.path.join(top, "checks", "edits", name)) for name in crates}
+
+
+def stale_of(book, edits):
+    """By their crates, the edits whose row is absent or not of the present sums."""
+    sources, rows, stale = Sources(book.top, book.uses), rows_in(book.path), {}
+    for crate, paths in edits.items():
+        for edit in paths:
+            row = rows.get((crate, name_of(edit)))
+            if fault_of_row(row, sums_now(sources, crate, edit, row, book.logic) if row else {}):
+                stale.setdefault(crate, []).append(edit)
+    return stale
+
+
+def turn_of(book, edits):
+    """What a turn tries, as pairs of a crate and its edits, in order: those whose rows are stale, then those that were tried longest ago.
+    The sum of the rows, which any change of the sources changes, decides between rows of one day."""
+    rows, stale = rows_in(book.path), stale_of(book, edits)
+    days = {}
+    for (crate, name), row in rows.items():
+        days.setdefault((row["tried"], crate), []).append(name)
+    salt = hashlib.sha256("".join(code for crate in sorted(edits) for _, code in sorted(code_of(os.path.join(book.top, "crates", crate)).items())).encode())
+    order = lambda crate: hashlib.sha256(salt.digest() + crate.encode()).digest()
+    yield from ((crate, stale[crate]) for crate in sorted(stale, key=order))
+    for day, crate in sorted(days, key=lambda it: (it[0], order(it[1]))):
+        left = [it for it in edits.get(crate, []) if name_of(it) in days[day, crate] and it not in stale.get(crate, [])]
+        if left:
+            yield crate, left
+
+
+def minutes_used():
+    used = resource.getrusage(resource.RUSAGE_CHILDREN)
+    return (used.ru_utime + used.ru_stime) / 60
+
+
+def try_all(kit, book, todo, jobs, minutes):
+    """Tries edits crate by crate, so many at once, until so many minutes of the processors are used."""
+
+    def one(crate, edits):
+        if minutes is None or minutes_used() < minutes:
+            try_crate(kit, book, crate, edits)
+
+    with concurrent.futures.ThreadPoolExecutor(jobs) as pool:
+        for done in [pool.submit(one, crate, edits) for crate, edits in todo]:
+            done.result()
+
+
+def other_sources(top, proved, uses, crates):
+    """A crate below these whose sources in the proved checkout are others, or None."""
+    for name in sorted({it for crate in crates for it in [crate] + below(uses, crate)}):
+        if code_of(os.path.join(top, "crates", name)) != code_of(os.path.join(proved, "crates", name)):
+            return name
+    return None
+
+
+def words_given():
+    words = argparse.ArgumentParser()
+    words.add_argument("top", type=os.path.abspath)
+    words.add_argument("proved", type=os.path.abspath)
+    words.add_argument("--jobs", type=int, default=1)
+    words.add_argument("--stale", action="store_true")
+    words.add_argument("--turn", action="store_true")
+    words.add_argument("crates", nargs="*")
+    return words.parse_intermixed_args()
 
 
 def main():
-    words = argparse.ArgumentParser()
-    words.add_argument("top")
-    words.add_argument("proved")
-    words.add_argument("--jobs", type=int, default=1)
-    words.add_argument("crates", nargs="+")
-    given = words.parse_args()
-    kit = Kit(kit_folder(), os.path.abspath(given.proved))
+    given = words_given()
+    kit, tally = Kit(kit_folder(), given.proved), Tally("edits")
     version = subprocess.run(["rt", "version"], capture_output=True, text=True, check=True).stdout
-    book = Book(os.path.abspath(given.top), logic_of(version), Tally("edits"))
-    with concurrent.futures.ThreadPoolExecutor(given.jobs) as pool:
-        for done in [pool.submit(try_crate, kit, book, name) for name in given.crates]:
-            done.result()
-    return book.tally.end()
+    book = Book(given.top, kit.uses, logic_of(version), tally)
+    edits = edits_by_crate(given.top, given.crates or crates_with_edits(given.top))
+    other = other_sources(given.top, given.proved, kit.uses, edits)
+    if other:
+        tally.give_up(given.proved, "its sources of the crate %s are others than those here" % other)
+    if given.turn:
+        todo = list(turn_of(book, edits))
+    else:
+        todo = list((stale_of(book, edits) if given.stale else edits).items())
+    if not todo:
+        print("edits: each row is of the present sums")
+        return 0
+    try_all(kit, book, todo, given.jobs, MINUTES if given.turn else None)
+    return tally.end()
 
 
 if __name__ == "__main__":

@@ -4,10 +4,9 @@
  *
  * PREFIX.lane.0, PREFIX.lane.1, .. are the files of the lanes of PLAN. They come in pieces of PIECE bytes. WHAT names what is asked for,
  * with commas between: of lanes, rules, packets, drops and spans. Each has a line as soon as it is known; of one piece, first lane events,
- * then rules, and then what the receiver returns. If bursts came before all lanes had locked, the first rules may be told falsely.
+ * then rules, and then what the receiver returns. Lanes begin anywhere in the traffic, or with from_start in WHAT at the first word sent.
  *
- * Each row of the file FLOW is a control word of the far end that was verified, as `412,81ffff0000188177`: it counts from word 412 on.
- * Without FLOW all channels are on, and no word breaks the rule `off`. */
+ * Each row of the file FLOW is a verified control word of the far end, and from which word on it counts: `412,81ffff0000188177`. */
 #include "files.h"
 
 struct lane {
@@ -23,8 +22,9 @@ static interlaken_checker checker;
 static interlaken_receiver receiver;
 static interlaken_plan numbers;
 static struct lane lanes[LANES];
-static interlaken_gathered words[2]; /* the last two that were checked, by their numbers; a fault is of one of them */
-static interlaken_gathered gap;      /* the bad word after the last epoch; its kind is NONE if a word has come since */
+static interlaken_gathered words[2]; /* the last two that were checked, by the checker's numbers; a fault is of one of them */
+static interlaken_gathered gap = {.word_kind = INTERLAKEN_WORD_BAD}; /* after the last epoch; its kind is NONE if a word has come since */
+static uint64_t checked, ahead; /* words that the checker has, and of them bad ones before all others */
 static const char *asked;
 static FILE *flow;
 static uint64_t flow_number, flow_word; /* its next row */
@@ -50,11 +50,11 @@ static void next_flow(void) {
 static void check(const interlaken_gathered *word) {
   interlaken_rule_fault fault;
   for (; flow_number <= word->number; next_flow()) must("flow", interlaken_checker_flow(&checker, flow_word));
-  words[word->number % 2] = *word;
+  words[checked++ % 2] = *word;
   must("word", interlaken_checker_word(&checker, word->word_kind, word->word));
   while (must("fault", interlaken_checker_next(&checker, &fault)), fault.rule != INTERLAKEN_RULE_NONE) {
-    if (strstr(asked, "rules") == NULL) continue;
-    printf("rule %s word %" PRIu64, interlaken_rule_text(fault.rule), fault.word);
+    if (strstr(asked, "rules") == NULL || fault.word < ahead) continue;
+    printf("rule %s word %" PRIu64, interlaken_rule_text(fault.rule), fault.word - ahead);
     if (fault.has_channel) printf(" channel %" PRIu32, fault.channel);
     printf(" lane %" PRIu32 " bit %" PRIu64 "\n", words[fault.word % 2].lane, words[fault.word % 2].bit);
   }
@@ -71,7 +71,7 @@ static void take_gathered(void) {
       gap = found, gap.word_kind = INTERLAKEN_WORD_BAD;
       find(&gap.at, &gap.lane, &gap.bit);
     } else if (found.kind == INTERLAKEN_GATHERED_WORD) {
-      if (gap.kind != INTERLAKEN_GATHERED_NONE) check(&gap);
+      if (gap.kind != INTERLAKEN_GATHERED_NONE || checked < ahead) check(&gap);
       gap.kind = INTERLAKEN_GATHERED_NONE;
       find(&found.at, &lane, &bit);
       lanes[lane].late += found.bit - bit;
@@ -129,7 +129,7 @@ int main(int argc, char **argv) {
   struct bytes plan;
   interlaken_refusal why;
   if (argc < 5 || argc > 6 || piece == 0) fail("usage", "monitor PLAN PREFIX PIECE WHAT [FLOW]");
-  plan = load(argv[1]), asked = argv[4];
+  plan = load(argv[1]), asked = argv[4], ahead = strstr(asked, "from_start") == NULL;
   if (argc == 6 && (flow = fopen(argv[5], "r")) == NULL) fail(argv[5], "not read");
   next_flow();
   must_open(argv[1], interlaken_plan_read(plan.at, plan.count, &numbers, &why), &why);

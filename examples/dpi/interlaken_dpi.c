@@ -85,6 +85,7 @@ extern "C" {
 #endif
 
 void *interlaken_dpi_open(const char *plan, unsigned int *cause, unsigned int *row, unsigned int *key);
+int interlaken_dpi_plan(void *receiver, unsigned int *lanes, unsigned int *metaframe, unsigned int *burst_max);
 int interlaken_dpi_close(void *receiver);
 int interlaken_dpi_feed(void *receiver, unsigned int lane, unsigned long long bits, unsigned int count);
 int interlaken_dpi_finish(void *receiver, unsigned int lane);
@@ -234,6 +235,15 @@ void *interlaken_dpi_open(const char *plan, unsigned int *cause, unsigned int *r
   }
   write_refusal(&refusal, cause, row, key);
   return live;
+}
+
+int interlaken_dpi_plan(void *receiver, unsigned int *lanes, unsigned int *metaframe, unsigned int *burst_max) {
+  struct live *live = (struct live *)receiver;
+  int is_open = live != NULL && live->packet != NULL;
+  *lanes = is_open ? live->numbers.lanes : 0;
+  *metaframe = is_open ? live->numbers.metaframe : 0;
+  *burst_max = is_open ? live->numbers.burst_max : 0;
+  return is_open ? INTERLAKEN_DONE : INTERLAKEN_NO_RECEIVER;
 }
 
 int interlaken_dpi_close(void *receiver) {

@@ -9,6 +9,7 @@ packet_source.sv
 transmitter.sv
 lane_wire.sv
 lane_port.sv
+monitored_device.sv
 tb_monitor.sv
 interlaken_dpi.c
 -CFLAGS -I../library/include

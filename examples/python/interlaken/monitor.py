@@ -7,15 +7,15 @@ one stream of findings.
                 print(event)
 
 If bytes arrive live, call `feed` for each lane, and read `events()` after each call. A Finding names its lane and bit, if it has one. The
-other events are the receiver's Packet and Flow. Words are checked from the first group of aligned lanes on: if the device already sends
-bursts then, a reported rule may be explained by the words before. The lanes do not show which channels the far end turns off: pass its
-verified control words to `flow`, or no word breaks the rule OFF.
+other events are the receiver's Packet and Flow. Words are checked from the first group of aligned lanes on, and the lanes may begin
+anywhere in the traffic. The lanes do not show which channels the far end turns off: pass its verified control words to `flow`, or no word
+breaks the rule OFF.
 """
 
 from __future__ import annotations
 
 from collections import deque
-from dataclasses import dataclass
+from dataclasses import dataclass, replace
 from typing import Iterator, Optional, Sequence
 
 from . import (
@@ -90,14 +90,17 @@ class Finding:
 class Monitor:
     """A receiver, an inspector, and a gatherer with a checker of the lanes of a plan. As a context manager it is closed at the end."""
 
-    def __init__(self, plan: bytes, library: str = "libinterlaken.so"):
-        """`plan` is the text of a plan file, and `library` the path of the shared library."""
+    def __init__(self, plan: bytes, library: str = "libinterlaken.so", from_start: bool = False):
+        """`plan` is the text of a plan file, and `library` the path of the shared library. With `from_start` the first word of the lanes is
+        the first that the device sends; otherwise nothing is known of those before."""
         self.plan = Plan(plan, library)
         self.receiver, self.inspector = Receiver(plan, library), Inspector(plan, library)
         self.gatherer, self.checker = Gatherer(plan, library), Checker(plan, library)
         self._held = [b""] * self.plan.lanes  # What the gatherer has not taken of a lane,
         self._finished: set[int] = set()  # the lanes that are finished for it once it has,
-        self._words: dict[int, Optional[Word]] = {}  # the last two words that were checked, by their numbers,
+        self._words: dict[int, Optional[Word]] = {}  # the last two words that were checked, by the checker's numbers,
+        self._checked = 0  # how many it has,
+        self._ahead = 0 if from_start else 1  # the bad words among them before all others,
         self._gap: Optional[GatheredBreak] = None  # and the end of the last epoch, until a word comes.
         self._due: deque[Finding] = deque()
         self._bits: dict[int, _Bits] = {}
@@ -147,21 +150,23 @@ class Monitor:
             self._check(one)
 
     def _check(self, one: Gathered) -> None:
-        """Checks a word. If it begins an epoch after another one, a bad word stands for what is missing between."""
+        """Checks a word. If it begins an epoch, a bad word stands for what is missing before it."""
         if isinstance(one, GatheredBreak):
             self._gap = one
         elif isinstance(one, GatheredWord):
-            if self._gap is not None:
-                self._judge(WordKind.BAD, 0, self._gap.number, None)
+            if self._gap is not None or self._checked < self._ahead:
+                self._judge(WordKind.BAD, 0, None)
             self._gap = None
-            self._judge(one.kind, one.word, one.number, Word(one.lane, one.bit))
+            self._judge(one.kind, one.word, Word(one.lane, one.bit))
 
-    def _judge(self, kind: WordKind, word: int, number: int, at: Optional[Word]) -> None:
+    def _judge(self, kind: WordKind, word: int, at: Optional[Word]) -> None:
+        number = self._checked
         self._words = {number - 1: self._words.get(number - 1), number: at}
+        self._checked += 1
         self.checker.word(kind, word)
         for fault in self.checker.faults():
             if (broken := self._words[fault.word]) is not None:
-                self._due.append(Finding(fault, broken))
+                self._due.append(Finding(replace(fault, word=fault.word - self._ahead), broken))
 
     def feed_bits(self, lane: int, bits: int, count: int) -> bool:
         """Feeds a lane with its next `count` bits: the low bits of a number, the highest first. Up to seven bits wait for the next. False if the ring of

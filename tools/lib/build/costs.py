@@ -44,6 +44,32 @@ def above(uses, name):
     return found
 
 
+def layers_of(path):
+    """The layers of a crates.txt, each a comment with the crates below it."""
+    layers = []
+    with open(path) as file:
+        for line in file:
+            if line.startswith("#"):
+                layers.append((line.lstrip("# ").rstrip(), []))
+            elif line[0].isalpha() and layers:
+                layers[-1][1].append(line.partition(":")[0].split()[0])
+    return [(name, crates) for name, crates in layers if crates]
+
+
+def with_above(uses, costs, name):
+    """The seconds of a processor that a change of a crate costs: its own, and those of the crates above it."""
+    return sum(costs[it]["cpu_seconds"] for it in above(uses, name) | {name} if it in costs)
+
+
+def layer_table(uses, costs, layers):
+    yield "| layer | crates | a change proves, in the mean | processor min | at most |"
+    yield "|---|---|---|---|---|"
+    for layer, crates in layers:
+        minutes = [with_above(uses, costs, name) / 60 for name in crates]
+        proved = sum(1 + len(above(uses, name)) for name in crates) / len(crates)
+        yield "| %s | %d | %.0f crates | %.0f | %.0f, `%s` |" % (layer, len(crates), proved, sum(minutes) / len(minutes), max(minutes), crates[minutes.index(max(minutes))])
+
+
 def table(uses, costs):
     yield "| crate | s | processor s | GB | crates above | with them, processor min |"
     yield "|---|---|---|---|---|---|"
@@ -52,7 +78,7 @@ def table(uses, costs):
         if name in costs:
             cost = costs[name]
             row = ["%.0f" % cost["seconds"], "%.0f" % cost["cpu_seconds"], "%.1f" % (cost["peak_mb"] / 1000)]
-        with_them = sum(costs[it]["cpu_seconds"] for it in higher | {name} if it in costs) / 60
+        with_them = with_above(uses, costs, name) / 60
         yield "| " + " | ".join(["`%s`" % name] + row + ["%d" % len(higher), "%.0f" % max(with_them, 1)]) + " |"
 
 

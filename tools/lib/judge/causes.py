@@ -7,7 +7,7 @@ from judge.frames import Frames
 from probe.frames import descrambled
 from probe.lanes import MOST_BYTES, is_most, probe_lane, share_of
 from probe.stream import columns_of, order_of, skews_of
-from probe.variants import RIGHT, Scrambler, crc32_variant, is_next, scrambler_of
+from probe.variants import MOST_STEPS, RIGHT, Scrambler, crc32_variant, is_next, scrambler_of, steps_on
 from reading.intervals import listed
 from reading.metaframes import SKIP
 from reading.plans import CODE
@@ -18,6 +18,7 @@ OF_VARIANT = {"skip": "right where they are %s", "diag": "right with another CRC
 OF_STATE = ("state", "lost-state", "skip", "diag")  # what a scrambler that runs otherwise makes wrong
 SCRAMBLED, TRIED = 8, 400  # metaframes by which a scrambler is chosen, and findings that are tried by it
 FEW = 3  # so many findings make a row
+STATE_DIGITS = 15
 FEW_WRONG = 8  # checksums for which the order of lanes is tried
 
 
@@ -34,7 +35,9 @@ def causes_of(run, findings):
         yield from order_lines(run, what, own)
         if what in ("skip", "sync"):
             yield from difference_lines(what, own)
-        if what == "calendar":
+        if what == "state":
+            yield from state_lines(own)
+        if what == "calendar" and not are_resets(own):
             found = calendars.common(run, {finding.word for finding in own if finding.channel is None and not finding.note})
             if found:
                 yield "calendar: %d of %d are right %s" % found
@@ -72,7 +75,7 @@ def scramblers_of(run, findings):
     wrong = Counter(finding.lane for finding in findings if finding.what in ("state", "lost-state") or finding.what == "skip" and not finding.variant)
     lanes = sorted(lane for lane, count in wrong.items() if count >= FEW)
     for number in lanes:
-        frames = list(Frames(run.lanes[number], run.locks[number], run.plan).from_bit(run.locks[number].firsts[0], SCRAMBLED))
+        frames = list(Frames(run.lanes[number], run.locks[number], run.plan).from_bit(run.firsts[number], SCRAMBLED))
         if len(frames) > 1:
             scrambler, fits, tried = scrambler_of(frames)
             if scrambler is not None and scrambler != Scrambler() and 2 * fits > tried:
@@ -103,16 +106,61 @@ def is_right_by(frames, finding, scrambler, plan):
     """Whether the word of a finding is right by a scrambler."""
     lock = frames.locks.lock_at(finding.bit)
     begin = finding.bit - (finding.bit - lock.first) % plan.period
-    around = list(frames.from_bit(begin - plan.period, 2)) if begin >= plan.period else []
-    if len(around) < 2:
-        return False
-    before, here = around
     if finding.what in ("state", "lost-state"):
-        return is_next(before, here, scrambler)
+        around = list(frames.from_bit(begin - plan.period, 2)) if begin >= plan.period else []
+        return len(around) == 2 and is_next(*around, scrambler)
+    here = next(frames.from_bit(begin, 1), None)
+    if here is None:
+        return False
     words = descrambled(here, scrambler)
     if finding.what == "skip":
         return words[(finding.bit - begin) // CODE] == SKIP
     return crc32_variant(words) == RIGHT
+
+
+# ---- State words
+
+def state_lines(own):
+    """How State words of a lane differ from those of its register: some steps on or back, or another lane's."""
+    told = [finding for finding in own if is_state(finding.expected) and is_state(finding.found)]
+    by_steps, exchanged = {}, {}
+    for finding in told[:TRIED]:
+        other = other_lane(finding, told)
+        if other is not None:
+            exchanged.setdefault(tuple(sorted((finding.lane, other))), finding)
+            continue
+        steps = steps_between(int(finding.expected, 16), int(finding.found, 16))
+        if steps:
+            by_steps.setdefault((finding.lane, steps), []).append(finding)
+    for (lane, other), finding in exchanged.items():
+        yield "state: lanes %d and %d are exchanged from bit %d of lane %d on" % (lane, other, finding.bit - CODE, finding.lane)
+    for (lane, steps), findings in by_steps.items():
+        words = "State word at bit %d of lane %d is" if len(findings) == 1 else "State words from bit %d of lane %d on are"
+        yield "state: the " + words % (findings[0].bit, lane) + " %d step%s %s" % (abs(steps), "s" * (abs(steps) > 1), "on" if steps > 0 else "back")
+
+
+def is_state(text):
+    return isinstance(text, str) and len(text) == STATE_DIGITS and all(digit in "0123456789ABCDEF" for digit in text)
+
+
+def other_lane(finding, told):
+    """The lane whose State word, sent at about the same time, a lane has in place of its own; or None."""
+    return next((one.lane for one in told if one.lane != finding.lane and one.expected == finding.found and one.found == finding.expected), None)
+
+
+def steps_between(state, found):
+    """How many steps on, or back, a state is from another, or 0."""
+    on = back = state
+    for steps in range(1, MOST_STEPS + 1):
+        on, back = steps_on(on, 1), steps_on(back, -1)
+        if found in (on, back):
+            return steps if found == on else -steps
+    return 0
+
+
+def are_resets(own):
+    """Whether most findings of the calendar are of a reset bit, which then are the cause and not the flow bits."""
+    return 2 * sum(str(finding.expected).startswith("reset=") for finding in own) > len(own)
 
 
 # ---- the order of lanes

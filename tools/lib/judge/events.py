@@ -23,7 +23,7 @@ def of_lane(run, number):
     frames.tries = MOST_TRIED // len(run.lanes)
     locks = run.locks[number]
     for bit, event in run.events[number]:
-        if event == LOCK:
+        if event == LOCK or bit < run.begins[number]:
             continue
         lock = locks.lock_at(bit)
         finding = Finding(event, bit=bit, lane=number, metaframe=run.places.metaframe_of(number, bit))
@@ -94,7 +94,10 @@ def tell_diagnostic(finding, frames, frame):
     finding.is_mended = found == frame.crc(is_mended=True)
     bit = None if finding.is_mended else inverted_bit(frame)
     if bit is not None:
-        finding.note = "right with bit %d of the lane inverted" % bit
+        finding.noted_bit, finding.note = bit, "right with bit %d of the lane inverted" % bit
+        place = (bit - frame.begin) // CODE
+        if (bit - frame.begin) % CODE == 0:
+            finding.note += ", the inversion bit of word %d of the metaframe: that word came complemented" % place
     elif not finding.is_mended and frames.tries > 0:
         frames.tries -= len(frame.codes)
         finding.variant = crc32_variant([word.word for word in frame.words])

@@ -1,5 +1,7 @@
 """The faults of words as findings: where the word stands on its lane, what was expected, and what was found."""
 
+from bisect import bisect_left
+
 from judge.calendars import told_by_word
 from judge.findings import Finding
 from probe.variants import crc24_variant
@@ -52,7 +54,31 @@ def fault_findings(run):
             if rule == "crc":
                 finding.variant = crc24_variant(words.bytes_of(words.before(word), word), run.stream.word(word))
             found.append(finding)
+    tell_ends(words, found)
     return found
+
+
+def tell_ends(words, found):
+    """Notes of bursts of which no end came, and of those that may be another channel's."""
+    by_channel = {}
+    for slot, count, channel in words.stream.bursts:
+        by_channel.setdefault(channel, []).append((slot, slot + 1 + count))
+    opened = [finding for finding in found if finding.what == "open"]
+    for finding in found:
+        if finding.what != "sop":
+            continue
+        own = by_channel.get(finding.channel, [])
+        at = bisect_left(own, (finding.word, 0)) - 1
+        if at < 0:
+            continue
+        last, end = own[at]
+        other = next((one for one in opened if last < one.word < finding.word and one.channel != finding.channel), None)
+        if other is not None and other.note is None:
+            other.note = "it may be a burst of channel %d, which is open and has none before its next SOP" % finding.channel
+        elif end < words.stream.count:
+            ending = Finding("")
+            place_finding(words.run, ending, end)
+            finding.note = "the burst before on channel %d, which ends at bit %d of lane %d, has no EOP" % (finding.channel, ending.bit, ending.lane)
 
 
 def crc_told(words, word):

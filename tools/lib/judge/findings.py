@@ -4,12 +4,13 @@ import csv
 import io
 
 COLUMNS = ("bit", "lane", "metaframe", "word", "what", "channel", "packet", "expected", "found", "note")
-OWN = ("cause", "place", "last", "variant", "is_mended")
+OWN = ("number", "noted_bit", "cause", "place", "first", "last", "variant", "is_mended")
 
 
 class Finding:
-    """A row of the table. `cause` is the finding that it follows from, or None; `place` its own in the table once that is in order;
-    `last` the last word of a span or a packet; `variant` the known way in which a sender makes it so, or None; `is_mended` is true of a
+    """A row of the table. `word` counts as in `Run`, and `number` as in the words that `gather` writes. `noted_bit` is the bit
+    that its note names, or None. `cause` is the finding that it follows from, or None; `place` its own in the table once that is in order;
+    `first` the first word of a packet, and `last` the last of a span or a packet; `variant` the known way in which a sender makes it so, or None; `is_mended` is true of a
     wrong CRC32 that is right of the Sync and Skip words as they should be."""
 
     __slots__ = COLUMNS + OWN
@@ -33,7 +34,7 @@ class Finding:
 
     def fields(self):
         """The fields of its row."""
-        return [value_of(getattr(self, column)) for column in COLUMNS[:-1]] + [self.full_note()]
+        return [value_of(getattr(self, "number" if column == "word" else column)) for column in COLUMNS[:-1]] + [self.full_note()]
 
 
 FIRST_LINE = 2  # after the heading

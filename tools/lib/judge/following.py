@@ -14,6 +14,7 @@ DAMAGE = ("bad", "state", "diag")
 # What a receiver does not trust a stretch of words for.
 UNTRUSTED = ("bad", "crc", "control", "data", "end")
 HEADER_BLOCK = 64
+SEARCHED, BLOCK, MOST_SLIPS = 1 << 24, 1 << 20, 32  # bits behind a slip in which others are looked for, of a part of it, and slips of a lane
 
 
 class Following:
@@ -89,8 +90,7 @@ class Following:
         if new is None:
             return
         old = last_sync(lane, lock, new, period)
-        shift = (new - old) % period
-        shift -= period if 2 * shift > period else 0
+        shift = shift_of(old, new, period)
         struck = [finding for finding in findings if old <= finding.bit < (after.first if after else lane.count) and finding.what != "balance"]
         if shift and struck:
             self.slips.append((number, old, new, slip_text(shift)))
@@ -98,6 +98,7 @@ class Following:
             struck[0].cause = None
             for finding in struck[1:]:
                 finding.cause = finding.cause or struck[0]
+            self.slips += further_slips(number, lane, new, after.first if after else lane.count, period)
 
     def first_sync_of(self, lane, after, lock):
         """The first of the Sync words that stand a metaframe apart before the one that declares a lock."""
@@ -206,8 +207,8 @@ class Following:
         for span in self.lost.spans:
             span.cause = self.cause_of_span(span)
         for drop in self.lost.drops:
-            drop.cause = self.span_at(drop.word, drop.last) or self.rule_at(drop.last) or self.rule_at(drop.word)
-        drops = {(drop.channel, drop.word): drop for drop in self.lost.drops}
+            drop.cause = self.span_at(drop.first, drop.last) or self.rule_at(drop.last) or self.rule_at(drop.first)
+        drops = {(drop.channel, drop.first): drop for drop in self.lost.drops}
         for missing in self.lost.missing:
             first, last = missing.last if isinstance(missing.last, tuple) else (missing.word, missing.last)
             if not missing.found:
@@ -236,7 +237,7 @@ class Following:
 
     def drop_in(self, channel, first, last):
         """The first drop of a channel between these words, or None."""
-        return next((drop for drop in self.lost.drops if drop.channel == channel and drop.word is not None and first < drop.word < last), None)
+        return next((drop for drop in self.lost.drops if drop.channel == channel and drop.first is not None and first < drop.first < last), None)
 
     def rule_at(self, word):
         return next(iter(self.by_word.get(word, ())), None)
@@ -253,6 +254,26 @@ def last_sync(lane, lock, new, period):
     while old > lock.first and not (old + CODE <= new and is_sync(lane, old)):
         old -= period
     return old
+
+
+def shift_of(old, new, period):
+    """By how many bits a Sync word is later than whole metaframes after another."""
+    shift = (new - old) % period
+    return shift - period if 2 * shift > period else shift
+
+
+def further_slips(number, lane, old, end, period):
+    """The slips of a lane between a Sync word and a bit, by the Sync words there that are not whole metaframes apart."""
+    found = []
+    for begin in range(old, min(end, old + SEARCHED), BLOCK):
+        bits = bits_of(bytes(lane.data[begin // 8:(begin + BLOCK + CODE) // 8 + 1]))
+        for new in (begin // 8 * 8 + place for place in sync_words(bits)):
+            if old < new < end:
+                shift = shift_of(old, new, period)
+                if shift:
+                    found.append((number, old, new, slip_text(shift)))
+                old = new
+    return found[:MOST_SLIPS]
 
 
 def slip_text(shift):

@@ -6,11 +6,11 @@ from functools import lru_cache
 from probe import frames as probing_frames
 from probe.variants import after, jump
 from reading.checksums import CRC32
+from reading.conventions import Crc32Rule, wrong_bits
 from reading.metaframes import CONTROL, DIAGNOSTIC_MARK, HALF, SKIP, STATE, STATE_BITS, STATE_MARK, SYNC, key_after
 from reading.plans import CODE
 
 SYNC_PLACE, STATE_PLACE, FIRST_SKIP = 0, 1, 2
-POLYNOMIAL = CRC32.after(0, b"\1")  # what the last bit of a message adds
 # So many words are descrambled in a call; the findings after them have no expected values.
 MOST_WORDS = 1500000
 FEW_TURNS = 40
@@ -130,20 +130,7 @@ def inverted_bit(frame):
 @lru_cache(maxsize=1)
 def place_by_syndrome(length):
     """By what it adds to the CRC32 of a metaframe of so many words, the bit of it that is wrong."""
-    places, step = {}, POLYNOMIAL  # the remainder of a power of two by the polynomial
-    for place in range(length - 1, -1, -1):
-        whole = 0
-        for bit in range(64):
-            # The CRC32's own place tells it as it stands; the state is not covered.
-            is_own, is_covered = place == length - 1 and bit < 32, place != STATE_PLACE or bit >= STATE_BITS
-            adds = 1 << bit if is_own else step if is_covered else 0
-            if adds:
-                places.setdefault(adds, CODE * place + CODE - 1 - bit)
-            whole, step = whole ^ adds, after_bit(step)
-        places.setdefault(whole, CODE * place)
+    places = {}
+    for adds, place, bit in wrong_bits(Crc32Rule(), length):
+        places.setdefault(adds, CODE * place + (0 if bit is None else CODE - 1 - bit))
     return places
-
-
-def after_bit(register):
-    """A remainder by the polynomial of the CRC32, times two."""
-    return register << 1 & HALF ^ (POLYNOMIAL if register >> 31 else 0)

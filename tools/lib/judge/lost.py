@@ -12,6 +12,7 @@ from probe.lanes import MOST_BYTES, mend_of, probe_lane, said_of
 from reading.files import Record
 from reading.plans import CODE
 
+SENDER = "sender"
 NO_FINDING = ("start", "end")  # spans of the ends of a dump
 # A packet as the words have it, whether it is right or not; its bytes; and the piece that a receiver made of it.
 Seen = namedtuple("Seen", "first last data piece")
@@ -45,14 +46,22 @@ class Lost:
             place_finding(self.run, finding, first)
         elif after is not None:
             place_finding(self.run, finding, after)
-        finding.note = "words %d to %d" % (first, finding.last - 1) if first < finding.last - 1 else "word %d" % first
+        finding.note = self.words_told(first, finding.last - 1)
         return finding
+
+    def words_told(self, first, last):
+        """Words by their numbers among those that `gather` writes; if it does not write the first, how many there are."""
+        if self.run.number_of(first) is None:
+            return "%d word%s" % (last + 1 - first, "s" * (last > first))
+        numbers = self.run.number_of(first), self.run.number_of(last)
+        return "words %d to %d" % numbers if first < last else "word %d" % numbers[0]
 
     # ---- drops
 
     def drop_finding(self, piece):
-        finding = Finding("dropped", channel=piece.channel, found=piece.why, last=piece.last)
-        place_finding(self.run, finding, piece.first)
+        """The finding of a drop is at its first word; if the sender says that the packet is wrong, at the word that says so."""
+        finding = Finding("dropped", channel=piece.channel, found=piece.why, first=piece.first, last=piece.last)
+        place_finding(self.run, finding, piece.last if piece.why == SENDER else piece.first)
         return finding
 
     def others(self):

@@ -3,6 +3,7 @@
 from collections import namedtuple
 
 from picture.svg import COLOURS, Picture, channel_colours
+from judge.findings import Finding
 from judge.frames import Frames
 from reading.metaframes import role_of_payload
 from reading.plans import CODE
@@ -33,16 +34,25 @@ class Around:
 
     def picture(self, finding):
         """The picture of a finding that has a bit."""
-        lanes, word = self.run.plan.lanes, self.word_of(finding)
+        lanes = self.run.plan.lanes
+        finding, told = self.zoomed(finding), "%s at bit %d of lane %d" % (finding.what, finding.bit, finding.lane)
+        word = self.word_of(finding)
         rows = [("lane %d" % lane, list(self.lane_cells(lane, finding))) for lane in range(lanes)]
         if word is not None:
             rows.append(("words", list(self.word_cells(word))))
         picture = Picture(LEFT + WIDTH * (BEFORE + AFTER) + 8, TOP + ROW * len(rows) + 4)
         x = LEFT + WIDTH * BEFORE
-        picture.box(x - 2, 2, WIDTH + 2, TOP + ROW * len(rows) - 2, COLOURS["span"], "%s at bit %d of lane %d" % (finding.what, finding.bit, finding.lane))
+        picture.box(x - 2, 2, WIDTH + 2, TOP + ROW * len(rows) - 2, COLOURS["span"], told)
         for number, (name, cells) in enumerate(rows):
             self.draw_row(picture, TOP + ROW * number, name, cells)
         return picture
+
+    def zoomed(self, finding):
+        """What is drawn around: the finding, or the word of the bit that its note names."""
+        if finding.noted_bit is None:
+            return finding
+        begin = finding.noted_bit - (finding.noted_bit - self.run.locks[finding.lane].lock_at(finding.bit).first) % CODE
+        return Finding(finding.what, bit=begin, lane=finding.lane)
 
     def draw_row(self, picture, top, name, cells):
         picture.text(8, top + 16, name)
@@ -68,12 +78,12 @@ class Around:
     def lane_cells(self, lane, finding):
         """The words of a lane that were sent with those around a finding."""
         middle = finding.bit - self.skews[finding.lane] + self.skews[lane]
-        first, lock = middle - CODE * BEFORE, self.run.locks[lane].lock_at(max(middle, 0))
+        first, lock = middle - CODE * BEFORE, self.run.locks[lane].lock_at(max(middle, self.run.begins[lane]))
         if lock is None:
             return
         begin = first + (lock.first - first) % CODE
         for bit in range(begin, middle + CODE * AFTER - CODE // 2, CODE):
-            if bit < lock.first or bit + CODE > self.run.lanes[lane].count:
+            if bit < max(lock.first, self.run.begins[lane]) or bit + CODE > self.run.lanes[lane].count:
                 continue
             frame, place = self.frames[lane].of(bit)
             if frame is not None and place < len(frame.words):
@@ -101,7 +111,9 @@ class Around:
         for at in range(max(0, word - BEFORE), min(stream.count, word + AFTER)):
             role = KINDS[stream.kinds[at]]
             text = "burst %d" % self.run.plan.channel_of(stream.word(at)) if role == "burst" else role
-            yield Cell(at - word + BEFORE, role, text, "word %d: %s %016X" % (at, role, stream.word(at)), self.at_word.get(at, ()))
+            number = self.run.number_of(at)
+            name = "word" if number is None else "word %d" % number
+            yield Cell(at - word + BEFORE, role, text, "%s: %s %016X" % (name, role, stream.word(at)), self.at_word.get(at, ()))
 
 
 def shortened(told):

@@ -2,19 +2,21 @@
 
 from collections import namedtuple
 
+from lanes.recipes import recipes_of
 from reading.bit_orders import bits_reversed, bytes_swapped, in_order
 from reading.ending import Options
 from reading.plans import CODE, PLAN
 
 HEX67, HEX, BITS, RAW, VCD = "hex67", "hex", "bits", "raw", "vcd"
-MOST_WIDTH = 256
+MOST_WIDTH, MOST_OF_RECIPE = 256, 8192
+RADICES = ("hex", "bin", "dec", "signed")
 HEADER = 3  # bits of a code before its payload
 OF_CODES = ("payload_reversed", "payload_bytes_swapped", "headers_swapped")
 
 # What the options come to. `form` is one of those above, and `width` the bits of a word, None if each signal of a VCD has its own;
 # `order` has for each lane the number of its dump, or None; `inverted` are the numbers of lanes, and `drops` by lane the bits left out.
 Settings = namedtuple("Settings", "is_export form width columns lowest_first bytes_swapped payload_reversed payload_bytes_swapped headers_swapped "
-                      "order inverted drops signals clock valid out overwrite files")
+                      "order inverted drops signals clock valid recipes texts radix out overwrite files")
 
 
 def parser_of():
@@ -34,25 +36,45 @@ def parser_of():
     parser.add_argument("--invert", metavar="I,J,..", help="lanes whose bits are complemented")
     parser.add_argument("--drop", metavar="A,B,..", help="for lane 0, 1, .. the bits that are left out in front")
     parser.add_argument("--signal", action="append", default=[], metavar="NAME", help="vcd: the vector of a lane, once for each lane")
+    parser.add_argument("--lane", action="append", default=[], metavar="RECIPE", help="hex67, hex:W, vcd: how a lane's word is put together of named columns or signals")
+    parser.add_argument("--lanes", metavar="N", help="the one --lane is that of so many lanes, with %% for the number of each")
+    parser.add_argument("--radix", choices=RADICES, help="--lane: the form of the numbers; hex, or what the table says, if it is not named")
     parser.add_argument("--clock", metavar="NAME", help="vcd: the signal whose changes from 0 to 1 sample")
-    parser.add_argument("--valid", metavar="NAME", help="vcd: the signal that is 1 while words are sampled")
+    parser.add_argument("--valid", metavar="NAME", help="vcd, --lane: the signal or column that is 1 while words count")
     return parser
 
 
 def settings_of(words):
     parser = parser_of()
     given = parser.parse_intermixed_args(words)
-    form, width = form_of(parser, given.form)
+    form, width = form_of(parser, given.form, MOST_OF_RECIPE if given.lane else MOST_WIDTH)
+    recipes = recipes_in(parser, given)
+    given.columns = given.columns or bool(recipes) and form != VCD
     must_fit(parser, given, form, width)
     numbers = {name: numbers_of(parser, name, getattr(given, name)) for name in ("order", "invert", "drop")}
     for name in ("order", "invert"):
         if len(set(numbers[name] or ())) < len(numbers[name] or ()):
             parser.error("--%s %s: a number stands twice" % (name, getattr(given, name)))
     return Settings(given.action == "export", form, width, given.columns, given.lowest_first, given.bytes_swapped, *(getattr(given, name) for name in OF_CODES),
-                    numbers["order"], set(numbers["invert"] or ()), numbers["drop"] or [], given.signal, given.clock, given.valid, given.out, given.overwrite, given.files)
+                    numbers["order"], set(numbers["invert"] or ()), numbers["drop"] or [], given.signal, given.clock, given.valid, recipes, given.lane, given.radix, given.out, given.overwrite, given.files)
 
 
-def form_of(parser, text):
+def recipes_in(parser, given):
+    """The recipes of lanes, or none."""
+    if not given.lane:
+        if given.lanes or given.radix:
+            parser.error("--lanes and --radix are of --lane")
+        return []
+    if given.action == "export" or given.form.partition(":")[0] not in (HEX67, HEX, VCD):
+        parser.error("--lane is of import in the forms hex67, hex:W and vcd")
+    if given.signal:
+        parser.error("--lane and --signal: one of them says what a lane is")
+    if given.lanes is not None and not (given.lanes.isascii() and given.lanes.isdigit() and 1 <= int(given.lanes) <= PLAN["lanes"].most):
+        parser.error("--lanes %s: a number from 1 to %d" % (given.lanes[:40], PLAN["lanes"].most))
+    return recipes_of(given.lane, given.lanes and int(given.lanes))
+
+
+def form_of(parser, text, most_width):
     """The form and the width of its words."""
     name, colon, width = text.partition(":")
     if text == HEX67:
@@ -61,8 +83,8 @@ def form_of(parser, text):
         return text, {BITS: 1, RAW: 8, VCD: None}[text]
     if name not in (HEX, RAW) or not colon:
         parser.error("--form %s: the forms are hex67, hex:W, bits, raw, raw:W and vcd" % text)
-    if not (width.isascii() and width.isdigit() and 1 <= int(width) <= MOST_WIDTH):
-        parser.error("--form %s: W is a number from 1 to %d" % (text, MOST_WIDTH))
+    if not (width.isascii() and width.isdigit() and 1 <= int(width) <= most_width):
+        parser.error("--form %s: W is a number from 1 to %d" % (text, most_width))
     return name, int(width)
 
 
@@ -84,13 +106,13 @@ def must_fit(parser, given, form, width):
 
 def must_be_signals(parser, given, form):
     if form != VCD:
-        if given.signal or given.clock or given.valid:
-            parser.error("--signal, --clock and --valid are of --form vcd alone")
+        if given.signal or given.clock or given.valid and not given.lane:
+            parser.error("--signal and --clock are of --form vcd, --valid of that and of --lane")
         return
     if given.action == "export":
         parser.error("--form vcd: there is no export of this form; tools/waves writes waves")
-    if not given.signal or not given.clock:
-        parser.error("--form vcd: --clock and a --signal for each lane are needed")
+    if not (given.signal or given.lane) or not given.clock:
+        parser.error("--form vcd: --clock and a --signal or a --lane for each lane are needed")
     if len(given.files) > 1:
         parser.error("--form vcd: one dump has all lanes, and here are %d" % len(given.files))
 

@@ -10,6 +10,8 @@ HEX, BINARY = b"0123456789abcdefABCDEF", b"01"
 COMMENT, AT, PREFIX = re.compile(rb"(?:#|//)[^\n]*"), re.compile(rb"^@[^\n]*", re.MULTILINE), re.compile(rb"(?<![0-9A-Za-z])0[xX](?=[0-9a-zA-Z])")
 LONE = re.compile(rb"(?<![0-9A-Za-z_])_|_(?![0-9A-Za-z_])")
 LONE_SEPARATOR = re.compile(rb"^[ \t]*[,;]|[,;][ \t]*(?:[,;]|$)", re.MULTILINE)
+EMPTY_END = re.compile(rb"(?<=[^,;\s])[ \t]*[,;][,; \t]*$", re.MULTILINE)
+NO_NAME = HEX + b"xXzZ?_-+."
 SEPARATORS = bytes.maketrans(b",;", b"  ")
 SHOWN = 40
 
@@ -66,9 +68,13 @@ class Text:
         wanted = None
         for line, piece in self.pieces(may_cut=False):
             piece = self.cleaned(line, piece)
+            if b'"' in piece:
+                piece = piece.replace(b'"', b"")
             if b"," in piece or b";" in piece:
-                piece = self.separated(line, piece)
+                piece = self.separated(line, EMPTY_END.sub(b"", piece))
             rows = rows_in(piece)
+            if line == 1:
+                leave_out_heading(rows)
             wanted = wanted or next((len(row) for row in rows if row), None)
             if not set(map(len, rows)) <= {0, wanted}:
                 self.refuse_count(line, rows, wanted, "the lines before have %d" % (wanted or 0))
@@ -161,6 +167,16 @@ class Text:
             for word in row:
                 if int(word, 16) >> width:
                     self.refuse(line + place, "%s: a word of %d bits, and %d is the most" % (shown_word(word), int(word, 16).bit_length(), width))
+
+
+def leave_out_heading(rows):
+    """Makes a first line of names blank, and one that begins with `Radix` after it. A word with an unknown bit is no name."""
+    place = next((place for place, row in enumerate(rows) if row), None)
+    if place is not None and any(word.translate(None, NO_NAME) for word in rows[place]):
+        rows[place] = []
+        place = next((place for place, row in enumerate(rows) if row), None)
+        if place is not None and rows[place][0].lower().startswith(b"radix"):
+            rows[place] = []
 
 
 def rows_in(piece):

@@ -4,13 +4,16 @@ import os
 import re
 
 from probe.lanes import CRC_WORDS, MOST_BYTES, NO_OPTION, Share, is_most, lines_of, mend_of, probe_lane, said_of, share_of
-from probe.mends import import_of, mends_of
+from probe.mends import adapt_of, import_of, lane_name, mends_of
 from probe.plan_rows import differences, rows_of, settings_of
+from probe.late import late_of
 from probe.stream import DATA, columns_of, order_of, skews_of, stream_of
 from probe.variants import RIGHT
 from reading.ending import Options
 from reading.files import Folder, Refused, shown_name
+from reading.intervals import listed
 from reading.kinds import read_plan
+from reading.lane_names import in_order as by_number
 from reading.plans import CODE, PLAN
 from reading.writing import Outputs, must_be_free
 
@@ -30,11 +33,11 @@ def options_of(words):
 
 
 def in_order(names):
-    """The names of lane files by their numbers, and their prefix; as they are, with None, if they are not those of lanes from 0 on."""
+    """The names of lane files by their numbers, and their prefix; with None, if they are not those of lanes from 0 on."""
     found = [NAMED.fullmatch(name) for name in names]
     if all(found) and len({match[1] for match in found}) == 1 and sorted(int(match[2]) for match in found) == list(range(len(names))):
         return sorted(names, key=lambda name: int(NAMED.fullmatch(name)[2])), found[0][1]
-    return names, None
+    return by_number(names), None
 
 
 class Probe:
@@ -43,6 +46,7 @@ class Probe:
     def __init__(self, folder, names, prefix, plan):
         self.names, self.plan, self.texts, self.problems = names, plan, [], []
         self.skews = self.stream = self.settings = None
+        self.late = False
         self.order, self.drops = list(range(len(names))), None
         self.findings = self.probe_lanes(folder)
         known = [finding for finding in self.findings if finding.frames]
@@ -51,9 +55,13 @@ class Probe:
         self.say_lanes()
         self.say_stream()
         self.is_named = prefix is not None
-        self.mends = mends_of(self.findings, names, self.order, self.drops, (prefix or OTHER_NAME) + ".mended")
+        out = prefix or OTHER_NAME
+        self.mends = mends_of(self.findings, names, self.order, self.drops, out + ".mended")
+        out += ".mended" if self.problems and self.mends else ""
+        adapted = adapt_of(self.findings, self.stream, [lane_name(out, lane) for lane in range(len(names))] if self.mends else names, out + ".adapted")
+        if adapted:
+            self.mends, out = self.mends + [adapted], out + ".adapted"
         if known:
-            out = (prefix or OTHER_NAME) + (".mended" if self.problems and self.mends else "")
             self.settings = settings_of(self.findings, None if self.drops else self.skews, self.stream, self.is_whole(folder), out)
         self.compare()
 
@@ -73,6 +81,11 @@ class Probe:
         if not self.columns[0]:
             return
         found, self.share = order_of(self.columns)
+        if not (found and is_most(self.share)) and not self.are_quiet():
+            late = late_of(self.findings, self.skews)
+            if late:
+                self.skews, self.columns, found, self.share = late
+                self.late = True
         self.found_order = found if found and is_most(self.share) else None
         if self.found_order:
             self.order = self.found_order.lanes
@@ -92,11 +105,12 @@ class Probe:
             self.problems.append("%s: %s" % (text.split(": ")[0], problem))
 
     def say_lanes(self):
-        places = {lane: place for place, lane in enumerate(self.order)}
+        places, told = {lane: place for place, lane in enumerate(self.order)}, []
         for number, (name, finding) in enumerate(zip(self.names, self.findings)):
             self.texts.append("lane %d, %s" % (number, shown_name(name)))
             self.texts += ["  " + line for line in lines_of(finding, places[number])]
-            self.problems += ["lane %d: %s: %s" % (number, said.text.split(": ")[0], mend_of(said.mend, places[number])) for said in said_of(finding) if said.mend]
+            told += [(number, "%s: %s" % (without_bits(said.text.split(": ")[0]), mend_of(said.mend, places[number]))) for said in said_of(finding) if said.mend]
+        self.problems += by_lanes(told)
         metaframes = sorted({finding.found.metaframe for finding in self.findings if finding.frames})
         if len(metaframes) > 1:
             self.say("lanes with metaframes of %s words" % " and ".join(map(str, metaframes)), NO_OPTION)
@@ -134,7 +148,7 @@ class Probe:
     def say_skews(self):
         behind = [self.skews.behind[lane] for lane in self.order]
         metaframe = self.findings[0].found.metaframe
-        text = "skews %s bits, within a metaframe: deskew %d" % (",".join(map(str, behind)), max(1, self.skews.deskew))
+        text = "skews %s bits, %s: deskew %d" % (",".join(map(str, behind)), "by the CRC24" if self.late else "within a metaframe", max(1, self.skews.deskew))
         if 2 * self.skews.deskew >= metaframe or self.skews.deskew > 4095:
             self.drops = self.skews.behind
             self.say(text, "no plan has it, and tools/lanes --drop %s mends it" % ",".join(map(str, behind)))
@@ -150,7 +164,7 @@ class Probe:
         if not is_most(share):
             self.say("no CRC24 of those known fits: %s" % share_of(share, "control words"), "not found")
         else:
-            self.say("CRC24 %s: %s" % (self.stream.variant, share_of(share, "control words")), None if self.stream.variant == RIGHT else NO_OPTION)
+            self.say("CRC24 %s: %s" % (self.stream.variant, share_of(share, "control words")), None if self.stream.variant == RIGHT else "tools/lanes adapt --crc24 %s mends it" % self.stream.variant)
 
     def say_words(self):
         words, stream = self.stream.calendar_words, self.stream
@@ -159,6 +173,10 @@ class Probe:
                 "control word" if words == 1 else "%d control words" % words, 16 * words, share_of(Share(stream.resets[words], sum(stream.resets.values())), "distances")))
         else:
             self.texts.append("calendar: no two Reset Calendar")
+        if stream.has_idle_fields:
+            self.say("idle words with a channel or SOP bit: %d of %d idle words" % (stream.idles_filled, stream.idles), "tools/lanes adapt --idle-fields clear mends it")
+        if stream.has_other_use:
+            self.say("multiple-use bits are used for something else than channels: %d of %d idle words" % (stream.idles_used, stream.idles), "tools/lanes adapt --multi-use clear mends it")
         channels = ["%d (%d bursts)" % pair for pair in sorted(stream.channels.items())]
         self.texts.append("channels%s: %s" % (", wide" if stream.is_wide else "", ", ".join(channels) or "no burst"))
         if stream.greatest:
@@ -179,6 +197,19 @@ class Probe:
             yield "nothing has to be changed"
         if self.settings and not self.is_named and not self.mends:
             yield "the lanes of the plan: " + import_of("--form raw", self.settings.out, self.names)
+
+
+def without_bits(text):
+    """What is said of a lane without the bits at which it begins, which differ from lane to lane."""
+    return text.split(", codes begin")[0]
+
+
+def by_lanes(told):
+    """What is said of lanes, (lane, text), those of one text together."""
+    lanes = {}
+    for lane, text in told:
+        lanes.setdefault(text, []).append(lane)
+    return ["lane%s %s: %s" % ("s" * (len(own) > 1), listed(own), text) for text, own in lanes.items()]
 
 
 def give_plan(rows, name):

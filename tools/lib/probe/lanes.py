@@ -5,14 +5,18 @@ from collections import Counter, namedtuple
 from probe.frames import descrambled, frames_of
 from probe.search import ORDERS, PAYLOADS, search
 from probe.variants import NOT_SCRAMBLED, RIGHT, Scrambler, crc32_variant, is_next, scrambler_of
+from reading.conventions import CRC32_GROUPS, Crc32Rule, rule_of
 from reading.bit_orders import COMPLEMENT, reordered
 from reading.metaframes import CONTROL, SKIP, STATE_BITS, STATE_MARK
-from reading.plans import CODE
+from reading.plans import CODE, PLAN
 
 MOST_SKIPS = 4
+LEAST, MOST = PLAN["metaframe"].least, PLAN["metaframe"].most
 MOST_BYTES = 1 << 20  # of a lane that are looked at
 CRC_WORDS = 8192  # in which variants of the CRC32 are counted
-NO_OPTION = "no option of tools/lanes mends it"
+CRC32_TRIED = 5  # metaframes by which a variant is chosen
+NO_OPTION, ADAPTED = "no option of tools/lanes mends it", ("--state", "--crc32", "--crc24", "--idle-fields", "--multi-use")
+SHORT = "found "  # and how long a metaframe is
 
 # So many of so many.
 Share = namedtuple("Share", "fits tried")
@@ -73,14 +77,15 @@ def skips_of(frames, words):
 
 def crc32_of(frames, words):
     """The variant of CRC32 that fits most metaframes, or None, and its share of those that were tried."""
-    few = words[:max(2, CRC_WORDS // len(words[0]))]
-    names = Counter(crc32_variant(frame) for frame in few)
-    name, count = names.most_common(1)[0]
-    if name is None and len(names) > 1:
-        name, count = names.most_common(2)[1]
-    if name != RIGHT:
-        return (name if 2 * count > len(few) else None), Share(count if name else 0, len(few))
-    return name, Share(count + sum(crc32_variant(frame) == RIGHT for frame in words[len(few):]), len(words))
+    few = words[:max(2, min(CRC32_TRIED, CRC_WORDS // len(words[0])))]
+    names = Counter(name for name in map(crc32_variant, few) if name is not None)
+    if not names or 2 * names.most_common(1)[0][1] < len(few):
+        return None, Share(names.most_common(1)[0][1] if names else 0, len(few))
+    name = names.most_common(1)[0][0]
+    rule = Crc32Rule() if name == RIGHT else rule_of(Crc32Rule, CRC32_GROUPS, name)[0]
+    tried = words if name == RIGHT else words[:max(2, CRC_WORDS // len(words[0]))]
+    count = sum(crc32_variant(frame, rule) is not None for frame in tried)
+    return (name if 2 * count > len(tried) else None), Share(count, len(tried))
 
 
 # ---- what is said
@@ -113,7 +118,7 @@ def said_of(finding):
         yield Said("first Sync word at bit %d, and no whole metaframe: %s" % (found.first, share_of(found.syncs, "Sync words")), "not found")
         return
     yield Said("metaframe %d, codes begin at bit %d, first Sync word at bit %d: %s" % (found.metaframe, found.first % CODE, found.first, share_of(found.syncs, "Sync words")),
-               None if is_most(found.syncs) else "not found")
+               "found %d; the profile has %d to %d" % (found.metaframe, LEAST, MOST) if found.metaframe < LEAST else None if is_most(found.syncs) else "not found")
     yield from said_of_skips(finding)
     yield from said_of_scrambler(finding)
     yield said_of_crc32(finding)
@@ -134,7 +139,8 @@ def said_of_scrambler(finding):
         yield Said("no scrambler of those known fits: %s" % share_of(finding.scrambler_share, "metaframes"), "not found")
         return
     name = finding.scrambler.name()
-    yield Said("scrambler %s: %s, %s" % (name, share_of(finding.scrambler_share, "metaframes"), share_of(finding.states, "State words")), None if name == RIGHT else NO_OPTION)
+    yield Said("scrambler %s: %s, %s" % (name, share_of(finding.scrambler_share, "metaframes"), share_of(finding.states, "State words")),
+               None if name == RIGHT else finding.scrambler.adapted() or NO_OPTION)
     if not is_most(finding.states):
         yield Said("State words are not those of the register before: %s are" % share_of(finding.states, "State words"), NO_OPTION)
 
@@ -143,7 +149,7 @@ def said_of_crc32(finding):
     text = "CRC32 %s: %s" % (finding.crc32, share_of(finding.crc32_share, "Diagnostic words"))
     if finding.crc32 is None:
         return Said("no CRC32 of those known fits: %s" % share_of(finding.crc32_share, "Diagnostic words"), "not found")
-    return Said(text, None if finding.crc32 == RIGHT else NO_OPTION)
+    return Said(text, None if finding.crc32 == RIGHT else "--crc32 " + finding.crc32)
 
 
 def lines_of(finding, number):
@@ -153,8 +159,10 @@ def lines_of(finding, number):
 
 def mend_of(mend, number):
     """What is said of a mend for a lane."""
-    if mend in (NO_OPTION, "not found"):
+    if mend in (NO_OPTION, "not found") or mend.startswith(SHORT):
         return mend
+    if mend.startswith(ADAPTED):
+        return "tools/lanes adapt %s mends it" % mend
     return "tools/lanes %s mends it" % (mend % number if "%d" in mend else mend)
 
 

@@ -3,6 +3,7 @@
 import shlex
 
 from probe.search import ORDERS, PAYLOADS
+from probe.variants import RIGHT
 from reading.plans import CODE
 
 
@@ -42,6 +43,35 @@ def through_codes(founds, order, form, options, payload, out, names):
     return [import_of(form + options, codes, names),
             "tools/lanes export --form hex67 --columns --out %s %s" % (shlex.quote(codes), " ".join(map(shlex.quote, lanes))),
             import_of("%s --columns" % payload, out, [codes])]
+
+
+def adapt_of(findings, stream, names, out):
+    """The call that adapts lanes of another convention, or None if nothing is to be adapted, or lanes need different options."""
+    own = {tuple(lane_options(finding)) for finding in findings if finding.frames}
+    if len(own) != 1 or not all(map(can_be_read, findings)):
+        return None
+    options = [*own.pop(), *(stream.adapted() if stream else ())]
+    if not options:
+        return None
+    return "tools/lanes adapt %s --out %s %s" % (" ".join(options), shlex.quote(out), " ".join(map(shlex.quote, names)))
+
+
+def can_be_read(finding):
+    """Whether `lanes adapt` can read the words of a lane."""
+    scrambler = finding.scrambler
+    return bool(finding.frames) and scrambler is not None and (scrambler.name() == RIGHT or scrambler.adapted() is not None)
+
+
+def lane_options(finding):
+    """The options of `lanes adapt` that mend a lane."""
+    if finding.scrambler is not None and finding.scrambler.adapted():
+        yield finding.scrambler.adapted()
+    if finding.crc32 not in (None, RIGHT):
+        yield "--crc32 " + finding.crc32
+
+
+def lane_name(out, lane):
+    return "%s.lane.%d" % (out, lane)
 
 
 def import_of(options, out, names):

@@ -9,7 +9,7 @@ from reading.metaframes import SYNC
 from reading.plans import CODE
 
 REVERSED_WITHIN, SWAPPED_WITHIN = (8, 16, 20, 32, 40, 64, 66, 67, 80), (16, 32, 64)
-LEAST_METAFRAME, MOST_METAFRAME = 32, 8192
+LEAST_METAFRAME, MOST_METAFRAME = 5, 8192
 LONGEST = CODE * MOST_METAFRAME // 8  # bytes of the longest metaframe
 SHORT = 2 * LONGEST + 2 * CODE  # bytes in which a Sync word is looked for in every order
 LEAST_FRAMES = 5  # metaframes of a lane that are looked at if it has so many

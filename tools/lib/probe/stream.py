@@ -14,6 +14,7 @@ DATA = 1
 PARTS, PART_WORDS, LEAST_ROWS = 2, 2048, 16  # by so many parts of so many words orders are told apart
 EARLY = 16  # checksums after which an order of which none fits is given up
 ENTRIES = 16  # of a control word
+FEW_IDLES = 8
 
 # An order of lanes: what is said of it, and for each place the lane that stands there.
 LaneOrder = namedtuple("LaneOrder", "said lanes")
@@ -35,10 +36,11 @@ def skews_of(findings):
     return Skews(behind, -(-max(behind) // CODE))
 
 
-def columns_of(findings, skews):
+def columns_of(findings, skews, lates=None):
     """By lane its payload words, (header, word), from the first metaframe that all lanes have: one of each lane makes a row."""
     period, skips = CODE * findings[0].found.metaframe, findings[0].skips or 1
     begins = [(finding.found.first - behind) // period for finding, behind in zip(findings, skews.behind)]
+    begins = [begin - late for begin, late in zip(begins, lates or [0] * len(begins))]
     late = [max(begins) - begin for begin in begins]
     count = max(0, min(len(finding.frames) - after for finding, after in zip(findings, late)))
     return [payload_of(finding, range(after, after + count), skips) for finding, after in zip(findings, late)]
@@ -124,7 +126,59 @@ def order_of(columns):
             best, best_share = order, share
         if share.fits and 20 * share.fits >= 19 * share.tried:
             break
+    if parts and not 2 * best_share.fits > best_share.tried:
+        lanes = order_by_short_bursts(columns)
+        share = score(parts, lanes) if lanes else best_share
+        if share.fits > best_share.fits:
+            return LaneOrder("", lanes), share
     return best, best_share
+
+
+# ---- the order of lanes by short bursts
+
+MOST_CONTROLS = 6000  # control words that are tried
+
+
+def order_by_short_bursts(columns):
+    """The order of lanes in which control words stand behind bursts of one data word: each tells of two lanes that follow one another, and
+    whether a row ends between them. None if they do not tell all."""
+    edges, tried = Counter(), 0
+    for row in range(1, len(columns[0])):
+        for lane, column in enumerate(columns):
+            header, word = column[row]
+            if header != CONTROL or crc24_variant(b"", word) is not None:
+                continue
+            tried += 1
+            edges.update((other, lane, is_row) for other, is_row in befores(columns, row, lane, word))
+        if tried > MOST_CONTROLS:
+            break
+    return chain_of(edges, len(columns))
+
+
+def befores(columns, row, lane, word):
+    """The lanes whose data word, in a row or the one before, a control word has the CRC24 of."""
+    for other, column in enumerate(columns):
+        for at in (row, row - 1) if other != lane else (row - 1,):
+            header, data = column[at]
+            if header == DATA and crc24_variant(data.to_bytes(8, "big"), word) is not None:
+                yield other, at == row - 1
+
+
+def chain_of(edges, count):
+    """The order of so many lanes by pairs of which one follows the other; or None. The last is that behind which a row ends."""
+    after, ends = {}, Counter()
+    for (lane, other, is_row), times in edges.items():
+        if is_row:
+            ends[lane, other] += times
+        elif times > after.get(lane, (0, 0))[0]:
+            after[lane] = times, other
+    firsts = [pair[1] for pair, _ in ends.most_common(1)] or sorted(set(range(count)) - {other for _, other in after.values()})
+    lanes = firsts[:1]
+    while lanes and len(lanes) < count and lanes[-1] in after and after[lanes[-1]][1] not in lanes:
+        lanes.append(after[lanes[-1]][1])
+    if len(lanes) == count - 1:
+        lanes += set(range(count)) - set(lanes)
+    return lanes if len(lanes) == count else None
 
 
 # ---- the words
@@ -139,11 +193,35 @@ class Words:
         self.variant = variant
         self.crc24, self.channels, self.resets = Counter(), Counter(), Counter()
         self.is_wide, self.greatest, self.least, self.last_off = False, 0, None, None
-        self.idles_used = 0
+        self.idles = self.idles_used = self.idles_filled = self.idles_held = 0
+        self.last_channel = None
         self.data, self.is_known, self.is_burst = [], False, False
         self.burst_at, self.since_reset = None, None
         for slot, (header, word) in enumerate(words):
             self.take(slot, header, word)
+        if self.has_other_use:
+            self.is_wide, wide, self.channels = False, self.channels, Counter()
+            for channel, count in wide.items():
+                self.channels[channel & 255] += count
+
+    @property
+    def has_other_use(self):
+        """Whether the multiple-use bits are no channel numbers, since most idle words have some of them, too."""
+        return 2 * self.idles_used > self.idles
+
+    @property
+    def has_idle_fields(self):
+        """Whether idle words have a channel or SOP bit by a convention, and not by a fault: many do, or they have the last burst's channel."""
+        return self.idles_filled >= FEW_IDLES and (5 * self.idles_filled >= self.idles or 10 * self.idles_held >= 9 * self.idles_filled)
+
+    def adapted(self):
+        """The options of `lanes adapt` that mend these words."""
+        if self.variant != RIGHT:
+            yield "--crc24 " + self.variant
+        if self.has_idle_fields:
+            yield "--idle-fields clear"
+        if self.has_other_use:
+            yield "--multi-use clear"
 
     def take(self, slot, header, word):
         if header == DATA:
@@ -174,8 +252,11 @@ class Words:
         self.calendar(word)
         if self.is_burst:
             self.burst(slot, word)
-        elif word >> 24 & 255:
-            self.idles_used += 1
+        else:
+            self.idles += 1
+            self.idles_used += word >> 24 & 255 != 0
+            self.idles_filled += word >> 61 & 1 or word >> 32 & 255 != 0
+            self.idles_held += word >> 61 & 1 == 0 and word >> 32 & 255 == self.last_channel != 0
 
     def burst(self, slot, word):
         if self.burst_at is not None:
@@ -183,6 +264,7 @@ class Words:
             self.least = between if self.least is None else min(self.least, between)
         self.burst_at = slot
         self.is_wide = self.is_wide or word >> 24 & 255 != 0
+        self.last_channel = word >> 32 & 255
         self.channels[word >> 32 & 255 | (word >> 24 & 255) << 8] += 1
 
     def calendar(self, word):

@@ -1,25 +1,23 @@
 """The known ways in which senders differ from the profile: in CRC24, CRC32, scrambler and Skip words.
 
-A function of one item returns the name of what fits: RIGHT, the changes that make it fit with commas between, or None if nothing
-known fits. The caller counts.
+A function of one item returns the name of what fits: RIGHT, what differs with commas between, or None if nothing known fits. Checksums
+have the names that `lanes adapt` takes. The caller counts.
 """
 
 from collections import namedtuple
 from functools import lru_cache
-from itertools import product
 
-from reading.checksums import CRC24, CRC32
+from reading.checksums import CRC24
+from reading.conventions import crc24_rule_of, crc32_rule_of
 from reading.metaframes import CONTROL, DIAGNOSTIC_MARK, HALF, SKIP, STATE, STATE_BITS, key_after
 
 RIGHT = "right"
-NOT_COMPLEMENTED, START_0 = "not complemented", "start 0"
-LOWEST_FIRST, STATE_COUNTED = "lowest bit first", "State bits counted in"
 NOT_SCRAMBLED = "not scrambled"
 STATE_REVERSED, RUNS_THROUGH = "State words reversed", "running through Sync and State words"
 STANDS_IN_SKIPS = "standing still in Skip words"
+WORD_STEPS = 64  # of the register in a word
 MOST_STEPS = 64  # State words are tried from so many steps back to so many steps on
 TRIED = 6  # metaframes by which a scrambler is chosen
-REVERSED_BYTES = bytes(int(format(byte, "08b")[::-1], 2) for byte in range(256))
 RESERVED = (1 << 24) - 1  # of the Diagnostic word, bits 57:34 shifted down
 
 
@@ -32,40 +30,22 @@ def named(changes):
 def crc24_variant(data, word):
     """How bits 23:0 of a control word follow from the bytes of the data words before it and from itself."""
     covered = data + (word >> 24 << 24).to_bytes(8, "big")
-    for changes, start in (((), CRC24.ones), ((START_0,), 0)):
-        found = kind_of_end(word & CRC24.ones, CRC24.after(start, covered), CRC24.ones)
-        if found is not None:
-            return named(changes + found)
-    return None
+    found = word & CRC24.ones
+    if CRC24.of(covered) == found:
+        return RIGHT
+    rule = crc24_rule_of(covered, found)
+    return None if rule is None else rule.name() or RIGHT
 
 
-def crc32_variant(words):
+def crc32_variant(words, rule=None):
     """How bits 31:0 of a metaframe's Diagnostic word follow from its words: their payloads, descrambled, from Sync to Diagnostic. The
-    State word has its 58 bits as they were sent."""
-    for changes in sorted(product((None, LOWEST_FIRST), (None, STATE_COUNTED), (None, START_0)), key=lambda these: sum(map(bool, these))):
-        found = kind_of_end(words[-1] & HALF, crc32_register(words, *map(bool, changes)), HALF)
-        if found is not None:
-            return named(tuple(filter(None, changes)) + found)
-    return None
-
-
-def kind_of_end(checksum, register, ones):
-    """No change if a checksum is the complement of a register, NOT_COMPLEMENTED if it is the register itself, or None."""
-    if checksum == register ^ ones:
-        return ()
-    return (NOT_COMPLEMENTED,) if checksum == register else None
-
-
-def crc32_register(words, is_lowest_first, counts_state, starts_at_0):
-    """The register of a CRC32 after a metaframe, by these changes."""
-    state = words[1] if counts_state else words[1] >> STATE_BITS << STATE_BITS
-    covered = b"".join(word.to_bytes(8, "big") for word in (words[0], state, *words[2:-1], words[-1] & ~HALF))
-    start = 0 if starts_at_0 else CRC32.ones
-    if not is_lowest_first:
-        return CRC32.after(start, covered)
-    # The bytes lowest bit first are those whose bits are reversed, and so is what comes of them.
-    register = CRC32.after(start, covered.translate(REVERSED_BYTES))
-    return int.from_bytes(register.to_bytes(4, "little").translate(REVERSED_BYTES), "big")
+    State word has its 58 bits as they were sent. Only one rule is tried if it is given."""
+    covered = b"".join(word.to_bytes(8, "big") for word in (words[0], words[1] >> STATE_BITS << STATE_BITS, *words[2:-1], words[-1] & ~HALF))
+    states, found = words[1] & STATE, words[-1] & HALF
+    if rule is not None:
+        return (rule.name() or RIGHT) if rule.of(covered, states) == found else None
+    found = crc32_rule_of(covered, states, found)
+    return None if found is None else found.name() or RIGHT
 
 
 # ---- the scrambler
@@ -100,6 +80,14 @@ class Scrambler(namedtuple("Scrambler", "is_reversed steps runs plain stands", d
         on = ["State words %d steps %s" % (abs(steps), "on" if steps > 0 else "back")] if steps else []
         return named([RUNS_THROUGH] * self.runs + [STATE_REVERSED] * self.is_reversed + on + [STANDS_IN_SKIPS] * self.stands)
 
+    def adapted(self):
+        """The option of `lanes adapt` that mends it, or None."""
+        if self.is_reversed or self.plain or self.stands or not (self.runs or self.steps):
+            return None
+        if self.runs:
+            return "--state running" if self.steps == -MOST_STEPS else None
+        return "--state %d" % self.steps
+
     def start(self, carried):
         """The state with which the word after a State word begins that carries this one."""
         return steps_on(reversed_state(carried) if self.is_reversed else carried, -self.steps)
@@ -107,12 +95,15 @@ class Scrambler(namedtuple("Scrambler", "is_reversed steps runs plain stands", d
 
 @lru_cache(maxsize=None)
 def jump(words):
-    """The states that come so many words after each state of one bit: those of a sum of bits are their sums."""
+    """The states that come so many words after each state of one bit, or before it if the number is below 0: those of a sum of bits
+    are their sums."""
     if words == 0:
         return tuple(1 << bit for bit in range(STATE_BITS))
-    half = jump(words // 2)
+    half = jump(words // 2 if words > 0 else -(-words // 2))
     images = tuple(after(half, image) for image in half)
-    return tuple(key_after(image)[1] for image in images) if words % 2 else images
+    if words % 2 == 0:
+        return images
+    return tuple(key_after(image)[1] if words > 0 else steps_on(image, -WORD_STEPS) for image in images)
 
 
 def after(images, state):

@@ -54,10 +54,15 @@ def must_be_free(names, overwrite):
 
 def must_have_no_lanes(prefix, overwrite):
     """Lanes of a prefix are one interface, so that none of another may be there, whatever its number."""
+    must_be_free(lanes_above(prefix, 0), overwrite)
+
+
+def lanes_above(prefix, first):
+    """The lane files of a prefix that are there, from a number on."""
     folder, name = os.path.split(prefix)
     pattern = re.compile(re.escape(name) + r"\.lane\.\d+")
     try:
         found = sorted((other for other in os.listdir(folder or ".") if pattern.fullmatch(other)), key=lambda other: int(other.rsplit(".", 1)[1]))
     except OSError as error:
         raise Refused("%s: %s" % (shown_name(prefix), error.strerror)) from None
-    must_be_free([os.path.join(folder, other) for other in found], overwrite)
+    return [os.path.join(folder, other) for other in found if int(other.rsplit(".", 1)[1]) >= first]

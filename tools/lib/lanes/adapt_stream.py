@@ -1,0 +1,81 @@
+"""The CRC24 of lanes that are adapted: it covers words of all of them, so their metaframes are taken together."""
+
+from reading.conventions import Crc24Rule
+from reading.metaframes import SKIP
+
+CRC24_BITS = (1 << 24) - 1
+MOST_SKIPS = 4
+
+
+def origins_of(firsts, period):
+    """For each lane the bit at which metaframe 0 begins, so that they lie as near together as they can."""
+    phases = sorted({first % period for first in firsts})
+    begin = max(zip(phases, [phases[-1] - period] + phases[:-1]), key=lambda pair: pair[0] - pair[1])[0]
+    return [begin + (first - begin) % period for first in firsts]
+
+
+def parts_together(lanes):
+    """The metaframes of lanes in the order in which they were sent, with their CRC24 and fields done: (lane, part)."""
+    period = lanes[0].lane.period
+    origins = origins_of([next(lane.lane.runs()).first for lane in lanes], period)
+    sources = [lane.parts() for lane in lanes]
+    current = [next(source, None) for source in sources]
+    stream = Stream(lanes[0].changes.crc24)
+    while any(current):
+        numbers = [None if part is None else (part.codes.bit - origin + period // 2) // period for part, origin in zip(current, origins)]
+        number = min(number for number in numbers if number is not None)
+        parts = [part if number == its else None for part, its in zip(current, numbers)]
+        for lane, part in zip(lanes, parts):
+            if part is not None:
+                lane.clear_fields(part)
+        stream.take(lanes, parts)
+        for place, (lane, part) in enumerate(zip(lanes, parts)):
+            if part is not None:
+                yield lane, part
+                current[place] = next(sources[place], None)
+
+
+class Stream:
+    """Takes the words of metaframes of all lanes in the order of the stream."""
+
+    def __init__(self, rule):
+        self.rule, self.covered, self.is_known = rule, [], False
+        self.skips = None
+
+    def take(self, lanes, parts):
+        length = max(part.length for part in parts if part is not None)
+        if self.skips is None:
+            self.skips = next((skips_of(part) for part in parts if part is not None and part.is_whole), None)
+        for place in range(2 + (self.skips or 1), length - 1):
+            for lane, part in zip(lanes, parts):
+                self.word(lane, part, place)
+
+    def word(self, lane, part, place):
+        """A word of the stream; nothing is known behind one that is bad or not there."""
+        if part is None or not part.codes.has(place) or part.is_bad(place):
+            self.is_known = False
+        elif part.codes.headers[place - part.codes.first] == "01":
+            self.covered.append(part.word(place).to_bytes(8, "big"))
+        else:
+            if self.is_known:
+                self.control(lane, part, place)
+            self.covered, self.is_known = [], True
+
+    def control(self, lane, part, place):
+        word = part.word(place)
+        new, data = part.words.get(place, word) >> 24 << 24, b"".join(self.covered)
+        wrong = word & CRC24_BITS ^ self.rule.of(data + (word >> 24 << 24).to_bytes(8, "big"))
+        new |= Crc24Rule().of(data + new.to_bytes(8, "big")) ^ wrong
+        if new != word:
+            part.words[place] = new
+        lane.count("--crc24", not wrong)
+        if wrong or lane.tells_all:
+            lane.tell(part.codes.bit_of(place), "crc24", "%06X" % (word & CRC24_BITS), "%06X" % (new & CRC24_BITS))
+
+
+def skips_of(part):
+    """How many Skip words a metaframe has, at least one."""
+    count = 0
+    while count < MOST_SKIPS and part.word(2 + count) == SKIP:
+        count += 1
+    return max(1, count)
