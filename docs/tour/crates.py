@@ -24,13 +24,13 @@ BOXES = [
     (250, 240, 226, 128, GREEN, "The way between", [("link_replay", "damage of lanes, accidents"), ("link_laws", "delivery, of bits")], "lane_damage retransmit duplex oob_flow"),
     (488, 240, 226, 128, GREEN, "Receiving end", [("lane_lock", "locks, found and lost"), ("rx_end", "bytes of lanes to events"), ("reassembly", "fault spans and packets")],
      "rx_front deskew live_checker lane_events live_inspector lane_words live_gatherer fault_spans event_model"),
-    (726, 240, 222, 128, BLUE, "Files and rows", [("link_plan", "the rows of plans"), ("lk_outside", "files and output")],
-     "pcap_files csv_rows plan_errors duplex_plan resend_events link_cases words_files word_text"),
-    (12, 380, 936, 46, YELLOW, "Laws on both ends", [("delivery_laws", "packets that meet no fault span arrive")], "rule_laws duplex_model"),
+    (726, 240, 222, 128, BLUE, "Files and rows", [("link_plan", "the rows of plans"), ("lk_outside", "files and output"), ("word_rules", "the rules of check")],
+     "pcap_files csv_rows plan_errors duplex_plan resend_events link_cases words_files word_text rule_laws"),
+    (12, 380, 936, 46, YELLOW, "Laws on both ends", [("delivery_laws", "packets that meet no fault span arrive")], "duplex_model"),
     (12, 438, 460, 100, YELLOW, "Definitions", [("stream_model", "what is sent"), ("receive_model", "what is received"), ("lane_model", "what a lane carries"),
                                                 ("lock_model", "when a lane is locked")], "epoch_model"),
-    (488, 438, 460, 100, GREEN, "Codecs", [("control_words", "control words and their CRC24"), ("metaframe", "framing, Diagnostic words"), ("coding_67b", "codes and bits"),
-                                           ("word_rules", "the rules of check")], "lk_crc crc32_runs calendar scrambler58 lane_striper phase_finder"),
+    (488, 438, 460, 100, GREEN, "Codecs", [("control_words", "control words and their CRC24"), ("metaframe", "framing, Diagnostic words"), ("coding_67b", "codes and bits")],
+     "lk_crc crc32_runs calendar scrambler58 lane_striper phase_finder"),
     (12, 550, 936, 46, GREY, "Base", [("lk_base", "words, places, limits")], "word_list lk_index_lists cell_pool report_model"),
 ]
 
