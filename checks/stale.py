@@ -51,6 +51,8 @@ class Row:
         path, self.old, _ = next(iter(pairs_of(edit)))
         self.path, self.file = path, self.texts[path]
         self.name = self.functions[0].name
+        # The functions that the edit changes, and the one that refuses it.
+        self.refusing = {it.name for it in self.functions} | {said.split(": ")[0].split("::")[-1]}
         self.at = self.file.find(self.old)
 
     def sums(self, house):
@@ -138,7 +140,7 @@ class Row:
         bodies = []
         for path, text in self.sources.house.crate(crate).texts.items():
             for it in functions_in(path, text) if path.startswith("src/") else []:
-                if not it.shows_code and it.end > it.body + 1 and not (crate == self.crate and (it.name in (self.name, self.said.split(": ")[0].split("::")[-1]))):
+                if not it.shows_code and it.end > it.body + 1 and not (crate == self.crate and it.name in self.refusing):
                     bodies.append((path, text.find("\n", it.body) + 1))
         for path, place in self.some(bodies):
             yield "the body of another function", crate, path, marked(self.sources.house.crate(crate).texts[path], place)
