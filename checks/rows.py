@@ -44,7 +44,7 @@ class Row:
     def at(self, part):
         return os.path.join(self.folder, part)
 
-    def prepared(self, program, environment):
+    def prepared(self, program, environment=None):
         """The run of its first command, whose files are those before; without one nothing changes."""
         return left_by(program, self.first, self.before, environment=environment) if self.first else Run(0, b"", b"", self.before)
 
