@@ -1,4 +1,4 @@
-"""What checks/tables.sh does, with the program and the repository as its words."""
+"""What checks/tables.sh does, with the repository as its word."""
 
 import os
 import random
@@ -12,7 +12,7 @@ from lib.machine import patience
 from lib.runs import content, write_files
 from lib.tally import Tally
 
-TOP = os.path.abspath(sys.argv[2])
+TOP = os.path.abspath(sys.argv[1])
 LANES, ROWS, SECONDS, MUTATED = 3, 200, 60, 30
 
 
