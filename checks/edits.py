@@ -43,7 +43,7 @@ def fault_of_text(edit, crate):
 
 
 def waiting_in(top):
-    """The crates of checks/edits/untried.txt: rows of them may be stale, since a session ended before all were tried. A release by
+    """The crates of checks/edits/untried.txt: rows of them may be stale, since not all were tried after the last change. A release by
     tools/release waits for them."""
     path = os.path.join(top, "checks", "edits", "untried.txt")
     if not os.path.exists(path):
