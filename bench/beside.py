@@ -15,7 +15,7 @@ import sys
 import tempfile
 from dataclasses import dataclass, field
 
-from cases import PLAIN_SIZE, RUNS, count_in, make_ready, needed_for, write_inputs
+from cases import PLAIN_SIZE, RUNS, SHAPES, count_in, make_ready, needed_for, write_inputs
 from measure import measured, row
 
 TOP = os.path.dirname(os.path.dirname(os.path.abspath(__file__)))
@@ -108,13 +108,13 @@ def fault_in(earlier, now):
 class Table:
     """The rows of one table, which counts those that were measured and those with a fault."""
 
-    def __init__(self, sides, commands):
-        self.sides, self.commands = sides, commands
+    def __init__(self, sides, commands, runs):
+        self.sides, self.commands, self.runs = sides, commands, runs
         self.measured, self.faults = 0, []
 
     def fill(self, measure, figures):
         """Prints a row for each run of the commands. What only another run needs is run and not measured."""
-        for run in needed_for(self.commands):
+        for run in needed_for(self.commands, self.runs):
             if run.command in self.commands:
                 a, b, result = self.judged(run, measure)
                 row("`%s`" % run.command, run.of, *figures(run, a, b), result)
@@ -185,12 +185,12 @@ def shown(number, form):
     return "" if number is None else form % number
 
 
-def table(programs, commands, megabytes, size, fill):
+def table(programs, asked, megabytes, size, fill):
     """A table in folders of its own."""
     with tempfile.TemporaryDirectory(prefix="beside.") as one, tempfile.TemporaryDirectory(prefix="beside.") as other:
         for folder in (one, other):
             write_inputs(folder, megabytes, size)
-        made = Table([Side(programs[0], one), Side(programs[1], other)], commands)
+        made = Table([Side(programs[0], one), Side(programs[1], other)], asked.commands, asked.runs)
         fill(made)
         return made
 
@@ -201,10 +201,10 @@ def tables(asked, programs):
         if asked.what != "seconds" and shutil.which("valgrind"):
             megabytes = min(asked.megabytes, COUNTED_MB)
             print("\nInstructions for each unit, %d MB in packets of %d bytes:\n" % (megabytes, size), flush=True)
-            yield table(programs, asked.commands, megabytes, size, lambda made: made.counts(size == PLAIN_SIZE))
+            yield table(programs, asked, megabytes, size, lambda made: made.counts(size == PLAIN_SIZE and asked.runs is RUNS))
         if asked.what != "instructions":
             print("\nProcessor seconds, %d MB in packets of %d bytes:\n" % (asked.megabytes, size), flush=True)
-            yield table(programs, asked.commands, asked.megabytes, size, lambda made: made.seconds(asked.turns))
+            yield table(programs, asked, asked.megabytes, size, lambda made: made.seconds(asked.turns))
 
 
 def program_of(name, room):
@@ -263,6 +263,8 @@ def asked_for():
     parser.add_argument("megabytes", metavar="MEGABYTES", type=positive, nargs="?", default=100, help="size of the capture; default 100")
     parser.add_argument("size", metavar="SIZE", type=positive, nargs="*", help="lengths of packets in bytes; default 1514 and 64")
     parser.add_argument("--commands", metavar="NAME,..", type=commands_in, default=every, help="only these commands")
+    parser.add_argument("--shapes", dest="runs", action="store_const", const=SHAPES, default=RUNS,
+                        help="links of 64 and 1,024 channels, of 64 lanes, and with a dark lane or one of noise")
     parser.add_argument("--instructions", dest="what", action="store_const", const="instructions", help="no seconds")
     parser.add_argument("--seconds", dest="what", action="store_const", const="seconds", help="no instructions")
     parser.add_argument("--turns", metavar="N", type=positive, default=5, help="runs of each program for the seconds; default 5")

@@ -1,7 +1,7 @@
 #!/usr/bin/env bash
 # This program beside an earlier one, on one computer: instructions, seconds, peak memory, and whether both write the same.
 #
-#     bench/beside.sh [--commands NAME,..] [--instructions|--seconds] EARLIER [MEGABYTES [SIZE..]]
+#     bench/beside.sh [--shapes] [--commands NAME,..] [--instructions|--seconds] EARLIER [MEGABYTES [SIZE..]]
 #
 # --help says what each argument is. No part of the gate.
 set -eu

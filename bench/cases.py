@@ -1,11 +1,12 @@
 """What is measured: runs of each command, and the inputs that they read.
 
 The link has 8 lanes and a metaframe of 2,048 words. Channels, if there are many, share the bytes of the capture evenly. What does not read
-the capture has a size of its own: `generate`, `duplex`, `resend`, `oobwrite`, `oobread`. All inputs are written into a folder that the
-caller has made for them.
+the capture has a size of its own: `generate`, `duplex`, `resend`, `oobwrite`, `oobread`. SHAPES has links of other shapes. All inputs are
+written into a folder that the caller has made for them.
 """
 
 import os
+import random
 import re
 from dataclasses import dataclass
 
@@ -15,6 +16,9 @@ from make_capture import write_capture
 LINK = "lanes,8\nmetaframe,2048\nwarmup,5\n"
 PLAN = LINK + "channel,0,a.pcap\n"
 WIDE, NARROW = 1000, 256
+SOME, MOST = 64, 1024
+# The lane that is dark or of noise, if one is.
+REPLACED = 3
 # One bit of a lane is inverted, so the link counts its accidents.
 SCHEDULE = "flip,3,1000000\n"
 # A queue of two ends is drained by a word in each slot, and each end sends all the time.
@@ -29,6 +33,10 @@ FILES = {
     "m.plan": "lanes,8\nmetaframe,1999\nchannel,0,a.pcap\nout,m\n",
     "w.plan": LINK + "wide,1\n" + "".join("channel,%d,w.pcap\n" % (65 * n) for n in range(WIDE)) + "out,w\n",
     "n.plan": LINK + "".join("channel,%d,n.pcap\n" % n for n in range(NARROW)) + "out,n\n",
+    "c.plan": LINK + "".join("channel,%d,c.pcap\n" % n for n in range(SOME)) + "out,c\n",
+    "k.plan": LINK + "wide,1\n" + "".join("channel,%d,k.pcap\n" % n for n in range(MOST)) + "out,k\n",
+    "l.plan": "lanes,64\nmetaframe,2048\nwarmup,5\nchannel,0,a.pcap\nout,l\n",
+    "dark.plan": PLAN + "out,dark\n", "noise.plan": PLAN + "out,noise\n",
     "e.plan": "lanes,1\nmetaframe,32\nwarmup,4\nchannel,0,e.pcap\nout,e\n", "e.csv": ENDS,
     "r.plan": PLAN + "window,255\nevents,r.events\nout,r\n", "r.events": EVENTS, "s.plan": STATUS, "s.local": "4194288,1,off\n",
 }
@@ -97,14 +105,33 @@ OTHERS = [
 RUNS = ON_CAPTURE + OTHERS
 
 
-def needed_for(commands):
+def runs_of(of, plan, commands):
+    """The runs of a plan: `join` reads the words of `burst`, and `receive` and `gather` the lanes of `send`."""
+    burst, send = ("burst", plan), ("send", plan)
+    reads = {"join": (burst,), "receive": (send,), "gather": (send,), "inspect": (send,)}
+    return [Run(of, (command, plan), reads.get(command, ()), burst) for command in commands]
+
+
+# Links of other shapes. `receive` comes before `gather`, which writes over the words.
+WHOLE, LANES = ("burst", "join", "send", "receive", "gather", "link"), ("burst", "send", "receive", "gather", "inspect")
+KINDS = {"a dark lane of 8": "dark", "a lane of noise of 8": "noise"}
+SHAPES = [
+    *runs_of("64 channels", "c.plan", WHOLE),
+    *runs_of("1,024 channels", "k.plan", WHOLE),
+    *runs_of("64 lanes", "l.plan", WHOLE),
+    *[run for of, kind in KINDS.items() for run in runs_of(of, kind + ".plan", LANES)],
+]
+
+
+def needed_for(commands, runs=None):
     """The runs of these commands and the runs that these need, in order."""
-    wanted = {run.arguments for run in RUNS if run.command in commands}
-    for run in reversed(RUNS):
+    runs = runs or RUNS
+    wanted = {run.arguments for run in runs if run.command in commands}
+    for run in reversed(runs):
         if run.arguments in wanted:
             wanted.update(run.reads)
             wanted.update([run.counted] if isinstance(run.counted, tuple) else [])
-    return [run for run in RUNS if run.arguments in wanted]
+    return [run for run in runs if run.arguments in wanted]
 
 
 def count_in(text):
@@ -115,15 +142,31 @@ def count_in(text):
 
 def write_inputs(folder, megabytes, size):
     # Two ends carry eight bytes in a slot at most.
-    for name, part in (("a.pcap", megabytes), ("w.pcap", megabytes / WIDE), ("n.pcap", megabytes / NARROW), ("e.pcap", 8)):
+    shares = {"a.pcap": 1, "w.pcap": WIDE, "n.pcap": NARROW, "c.pcap": SOME, "k.pcap": MOST}
+    for name, part in [(name, megabytes / share) for name, share in shares.items()] + [("e.pcap", 8)]:
         write_capture(os.path.join(folder, name), part, size)
     for name, text in FILES.items():
         with open(os.path.join(folder, name), "w") as file:
             file.write(text)
 
 
+def replaced_lane(kind, length):
+    """The bytes of a lane that is dark, or else of noise."""
+    return bytes(length) if kind == "dark" else random.Random(1).randbytes(length)
+
+
+def replace_lane(kind, folder):
+    """Puts a dark lane or one of noise, of the same length, in the place of a lane of the plan of this name."""
+    name = os.path.join(folder, "%s.lane.%d" % (kind, REPLACED))
+    length = os.path.getsize(name) if os.path.exists(name) else 0
+    with open(name, "wb") as file:
+        file.write(replaced_lane(kind, length))
+
+
 def make_ready(run, folder):
-    """Writes what a run reads besides the inputs and the outputs of earlier runs: the first words of the words file."""
+    """Writes what a run reads besides the inputs and the outputs of earlier runs: the first words of the words file, or a lane."""
+    if run.of in KINDS and run.reads == (("send", run.arguments[1]),):
+        replace_lane(KINDS[run.of], folder)
     words = os.path.join(folder, "a.pcap.words")
     if run.arguments != LIST or not os.path.exists(words):
         return

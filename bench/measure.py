@@ -8,15 +8,12 @@ md5sum on the same capture in the same run; what does not read the capture has n
 """
 
 import os
-import random
 import subprocess
 import sys
 import tempfile
 
-from cases import ON_CAPTURE, RUNS, make_ready, write_inputs
+from cases import ON_CAPTURE, REPLACED, RUNS, make_ready, replaced_lane, write_inputs
 
-# The lane that `receive` gets another in place of. One of `m.plan` has another metaframe, so it gives word locks and no lock.
-REPLACED = 3
 TIMES = 3
 
 
@@ -36,9 +33,10 @@ def least(words, folder):
 def lane_in_place(kind, folder, length):
     """The bytes of a lane of this kind."""
     if kind == "of another metaframe":
+        # It gives word locks and no lock.
         with open(os.path.join(folder, "m.lane.%d" % REPLACED), "rb") as file:
             return (file.read(length) * 2)[:length]
-    return bytes(length) if kind == "dark" else random.Random(1).randbytes(length)
+    return replaced_lane(kind, length)
 
 
 def lanes_table(program, megabytes, size):

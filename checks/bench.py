@@ -11,7 +11,7 @@ PROGRAM, TOP = os.path.abspath(sys.argv[1]), os.path.abspath(sys.argv[2])
 BENCH = os.path.join(TOP, "bench")
 sys.path.append(BENCH)
 
-from cases import RUNS, needed_for
+from cases import RUNS, SHAPES, needed_for
 from lib.tally import Tally
 
 BESIDE = os.path.join(BENCH, "beside.sh")
@@ -71,8 +71,8 @@ def every_command(tally):
     with open(os.path.join(TOP, "tools", "commands.txt"), encoding="utf-8") as file:
         named = {line.split("|")[0] for line in file if not line.startswith("#")}
     tally.expect("the commands that are measured", {run.command for run in RUNS}, named)
-    order = [run.arguments for run in RUNS]
-    for place, run in enumerate(RUNS):
+    order = [run.arguments for run in RUNS + SHAPES]
+    for place, run in enumerate(RUNS + SHAPES):
         early = all(order.index(it) < place for it in run.reads)
         tally.count("what is read by " + " ".join(run.arguments), "" if early else "it is written later")
     needed = [" ".join(run.arguments) for run in needed_for({"gather"})]
@@ -106,6 +106,15 @@ def seconds(tally, folder):
     found = itself(tally, folder, 64, "seconds", "--seconds", "--turns", "1")
     told = all(re.fullmatch(r"\d+\.\d\d", row[name]) for row in found for name in ("s earlier", "s now"))
     tally.count("the seconds", "" if told else str(found))
+
+
+def shapes(tally, folder):
+    """Each link of another shape has a row, without a fault, and with its peak."""
+    status, text, error = beside(["--shapes", *SECONDS, "receive", PROGRAM, "1", "64"], folder)
+    tally.expect("links of other shapes", (status, error), (0, ""))
+    found = rows(text)
+    tally.expect("the shapes", [row["of"] for row in found], [run.of for run in SHAPES if run.command == "receive"])
+    tally.count("their peaks", "" if all(float(row["peak MB now"]) > 1 for row in found) else str(found))
 
 
 def wrong_programs(tally, room, folder):
@@ -148,6 +157,7 @@ def main():
         every_command(tally)
         instructions(tally, folder)
         seconds(tally, folder)
+        shapes(tally, folder)
         wrong_programs(tally, room, folder)
         missing_tools(tally, room, folder)
         wrong_arguments(tally, folder)

@@ -36,7 +36,7 @@ def words_of(data):
 
 
 class Draw:
-    """A link, its words, a convention, a fault, the form of the dump, and the bits of each lane that it lacks in front."""
+    """A link, its words, a convention, a fault, the form of the dump, and the bits of each lane that it lacks in front and at the end."""
 
     def __init__(self, number, folder):
         draws = random.Random(number)
@@ -49,6 +49,10 @@ class Draw:
         self.cuts = [cut + draws.randrange(200) for _ in range(lanes)]
         self.fault = self.drawn_fault(draws, draws.choice(FAULTS))
         self.form = FORMS[number % len(FORMS)]
+        if draws.random() < 0.25:
+            # Only framing words of the first metaframe are missing, or none.
+            self.cuts = [period * draws.randrange(3) + CODE * draws.randrange(3 + self.link.skips)] * lanes
+        self.end = draws.randrange(2 * CODE)  # bits that are missing at the end of each lane
         if is_of_codes(self.form):
             self.cuts = [cut // CODE * CODE for cut in self.cuts]
 
@@ -73,7 +77,7 @@ class Draw:
     def judged(self, convention, name, form="lane files"):
         """What judge finds of the lanes of a convention that come in a form: after the import, and the call that probe names. The rows that
         follow from no other, and what went wrong."""
-        lanes = [bits[cut:] for bits, cut in zip(send(self.words, self.link, convention, self.fault), self.cuts)]
+        lanes = [bits[cut:len(bits) - self.end] for bits, cut in zip(send(self.words, self.link, convention, self.fault), self.cuts)]
         imported = self.imported(lanes, name, form)
         if imported:
             return None, imported

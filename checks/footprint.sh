@@ -1,5 +1,5 @@
 #!/usr/bin/env bash
-# Measures the stack and the memory of calls of the C library, and compares them with the header: the stack of each `new` and of all other
+# Measures the stack and the memory of calls of the C library, and compares them with include/manual.txt: the stack of each `new` and of all other
 # calls, and the memory that each handle keeps. Runs each command of the program in the stack that README says. Needs an archive as
 # checks/clib.sh does.
 set -u
@@ -10,23 +10,23 @@ wants_archive
 folder=$(mktemp -d)
 trap 'rm -rf "$folder"' EXIT
 cd "$folder" || exit 1
-header=$top/include/interlaken.h
+page=$top/include/manual.txt
 cc -std=c99 -D_POSIX_C_SOURCE=200809L -Wall -Wextra -Werror -pedantic -O1 "-I$top/include" -o footprint "$top/checks/clib/footprint.c" "$archive" -pthread ||
   gives_up 'the driver is not compiled'
 
-# The text of the header's first comment, as one line.
-said=$(sed -n '1,/\*\//{ s/^ \* \{0,1\}//; p; }' "$header" | paste -sd ' ')
+# The text of the page, as one line.
+said=$(paste -sd ' ' "$page")
 
-# The KiB in the header's sentence that fits.
+# The KiB in the page's sentence that fits.
 limit() { # PATTERN
   sed -nE "s/.*$1 up to ([0-9]+) KiB.*/\1/p" <<<"$said"
 }
 of_new=$(limit 'Each `new` with a plan, [^.]* use')
 of_others=$(limit 'All other calls use')
-[ -n "$of_new" ] && [ -n "$of_others" ] || gives_up 'the header says no KiB of stack'
+[ -n "$of_new" ] && [ -n "$of_others" ] || gives_up 'the page says no KiB of stack'
 
-write_plan() { # LANES CHANNELS MAX_PACKET METAFRAME
-  printf 'lanes,%d\nmax_packet,%d\nmetaframe,%d\nwide,%d\n' "$1" "$3" "$4" "$(($2 > 256))"
+write_plan() { # LANES CHANNELS WIDE METAFRAME MAX_PACKET
+  printf 'lanes,%d\nwide,%d\nmetaframe,%d\nmax_packet,%d\n' "$1" "$3" "$4" "$5"
   seq -f 'channel,%.0f' 0 $(($2 - 1))
   echo 'out,o'
 }
@@ -39,10 +39,9 @@ fits() { # CALL KIB PLAN
 }
 
 rows=0
-while read -r lanes channels most kept; do
-  metaframe=$((rows < 3 ? 2048 : 8192))
+while read -r lanes channels wide metaframe most kept; do
   rows=$((rows + 1))
-  write_plan "$lanes" "$channels" "$most" "$metaframe" >"$rows.plan"
+  write_plan "$lanes" "$channels" "$wide" "$metaframe" "$most" >"$rows.plan"
   found=()
   for handle in receiver transmitter inspector checker gatherer; do
     fits "$handle" "$of_new" "$rows.plan"
@@ -54,8 +53,8 @@ while read -r lanes channels most kept; do
   fits plan_read "$of_new" "$rows.plan"
   fits plan_channels "$of_new" "$rows.plan"
   fits damage "$of_others" "$rows.plan"
-done < <(sed -nE 's/^ \* +([0-9]+) +([0-9]+) +([0-9]+)(( +[0-9]+){5})$/\1 \2 \3 \4/p' "$header")
-holds 'rows of memory in the header' "$rows" 5
+done < <(grep -xE '( +[0-9]+){10}' "$page")
+holds 'rows of memory in the page' "$rows" 6
 fits calls "$of_others" 1.plan
 fits calls "$of_others" 2.plan
 fits calls "$of_others" "$top/examples/wide.plan"

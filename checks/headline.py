@@ -13,7 +13,7 @@ TOP = os.path.abspath(sys.argv[1])
 TOOL = os.path.join(TOP, "tools", "headline")
 # The most lines without comments that somebody must read who wants to know what the theorem says, and the receiver's part of them. The
 # grammar of words and plans is not among them.
-MOST_LINES, MOST_PERCENT = 1260, 40
+MOST_LINES, MOST_PERCENT = 1068, 40
 COUNT = re.compile(r"(\d+) definitions, (\d+) lines without comments")
 SHARE = re.compile(r"(\d+) lines, (\d+) %, are the receiver's")
 HEAD = re.compile(r"^\[(\d+)\] (\S+)   (crates/\S+):(\d+)$", re.M)

@@ -1,6 +1,10 @@
 """Runs the program on each row of rows/, and compares what it leaves and says with what the row holds.
 
-    python3 rows.py PROGRAM [ROW..]
+    python3 rows.py PROGRAM [--texts] [ROW..]
+
+--texts runs the model of model/ in place of the program. If its status and files are those of a row, it writes what it prints into the
+row's text: after a change of a line of text, no row has to be written by hand. A row with another status or other files stays, and counts
+as failed.
 
 A row is a folder:
 
@@ -21,6 +25,7 @@ import os
 import sys
 
 from lib.captures import capture
+from lib.modeled import left_by_model
 from lib.runs import SECONDS, Run, content, files_in, left_by
 from lib.tally import Tally
 
@@ -77,6 +82,19 @@ class Row:
         return told
 
 
+    def take_text(self):
+        """Takes what the model prints as the text of the row, or says why not."""
+        first = left_by_model(self.first, self.before) if self.first else Run(0, b"", b"", self.before)
+        status, text, _, files = left_by_model(self.words, first.files)
+        if first.status != 0 or status != self.status or self.differing(first.files, files):
+            return "the model ends with status %d, and with other files or another status than the row" % status
+        if text != self.text:
+            with open(self.at("text"), "wb") as file:
+                file.write(text)
+            print("%s: its text is new" % self.name)
+        return ""
+
+
 def large_line(name, data, like):
     """The line of a large file, with as many of its first bytes as another line has."""
     first = data[:len(like.split()[2]) // 2]
@@ -85,10 +103,13 @@ def large_line(name, data, like):
 
 def main():
     program, names = os.path.abspath(sys.argv[1]), sys.argv[2:]
+    texts = "--texts" in names
+    names = [name for name in names if name != "--texts"]
     tally = Tally("rows")
     for name in names or sorted(os.listdir(ROWS)):
         if os.path.isfile(os.path.join(ROWS, name, "words")):
-            tally.count(name, "; ".join(Row(name).differences(program)))
+            row = Row(name)
+            tally.count(name, row.take_text() if texts else "; ".join(row.differences(program)))
         else:
             tally.count(name, "there is no such row")
     return tally.end()

@@ -1369,6 +1369,15 @@ static void try_gatherer_finish(struct gathering *k) {
   if (k->fed[lane] < joined_count[lane]) k->cut = 1;
 }
 
+/* The next word or break, or the end. */
+static void took_gathered(struct gathering *k, const interlaken_gathered *next) {
+  want("something of a gatherer", k->has && !k->ended && next->kind >= INTERLAKEN_GATHERED_WORD && next->kind <= INTERLAKEN_GATHERED_ENDED);
+  if (next->kind == INTERLAKEN_GATHERED_ENDED) want("the end of lanes that are finished", k->over[0] && k->over[1]), k->ended = 1;
+  if (next->kind == INTERLAKEN_GATHERED_WORD) look_at_word(next);
+  if (!k->cut) want("the next word or break", k->given < gathered_count && same_gathered(next, &gathered_of[k->given]));
+  k->given++;
+}
+
 /* Returns whether something was returned. */
 static int try_gatherer_next(struct gathering *k) {
   static interlaken_gathered nothing;
@@ -1380,12 +1389,23 @@ static int try_gatherer_next(struct gathering *k) {
     want("nothing while a lane lacks bytes", !k->has || k->ended || !k->over[0] || !k->over[1]);
     return 0;
   }
-  want("something of a gatherer", k->has && !k->ended && next.kind <= INTERLAKEN_GATHERED_ENDED);
-  if (next.kind == INTERLAKEN_GATHERED_ENDED) want("the end of lanes that are finished", k->over[0] && k->over[1]), k->ended = 1;
-  if (next.kind == INTERLAKEN_GATHERED_WORD) look_at_word(&next);
-  if (!k->cut) want("the next word or break", k->given < gathered_count && same_gathered(&next, &gathered_of[k->given]));
-  k->given++;
+  took_gathered(k, &next);
   return 1;
+}
+
+/* Many calls of `next` at once. What lies behind the last of them stays. */
+static void try_gatherer_words(struct gathering *k) {
+  static interlaken_gathered many[300], nothing;
+  size_t room = below(4) == 0 ? below(4) : below(300), count = 99, at;
+  uint32_t result;
+  memset(many, 0xa5, sizeof many);
+  nothing = many[0];
+  result = interlaken_gatherer_words(&k->gatherer, room == 0 ? NULL : many, room, &count);
+  want("gatherer words", result == (uint32_t)(k->has ? INTERLAKEN_DONE : INTERLAKEN_NO_GATHERER));
+  want("as many words as there is room for", count <= room && (k->has || count == 0));
+  for (at = 0; at < count && at < room; at++) took_gathered(k, &many[at]);
+  for (; at < room; at++) want("no word behind the last", same_gathered(&many[at], &nothing));
+  if (count < room && k->has) want("no word is left", !try_gatherer_next(k));
 }
 
 static void try_gatherer_report(struct gathering *k) {
@@ -1441,6 +1461,7 @@ static void gatherer_sequence(void) {
       case 3: if (below(30) == 0) try_gatherer_finish(&one); break;
       case 4: case 5: try_gatherer_report(&one); break;
       case 6: case 7: while (try_gatherer_next(&one)) continue; break;
+      case 8: case 9: case 10: case 11: try_gatherer_words(&one); break;
       default: if (below(2)) try_gatherer_feed(&one); else try_gatherer_next(&one); break;
     }
     want("no allocation but of gatherer new", allocations == before);

@@ -385,7 +385,7 @@ try_pages() { # PREFIX
       holds "what groff says of interlaken($page)" "$(groff -man -ww -z -Tutf8 "$1/share/man/man$page/interlaken.$page" 2>&1)" ''
   done
   # The header may declare a call without a line of its own for the result.
-  holds 'calls of interlaken(3)' "$(sed -n 's/^\.SS \(interlaken_[a-z_]*\)$/\1/p' "$1/share/man/man3/interlaken.3" | LC_ALL=C sort)" \
+  holds 'calls of interlaken(3)' "$(grep '^\.SS interlaken_' "$1/share/man/man3/interlaken.3" | grep -oE 'interlaken_[a-z_]+' | LC_ALL=C sort)" \
     "$(grep -oE '^[a-z].*\binterlaken_[a-z_]+\(' "$include/interlaken.h" | grep -oE 'interlaken_[a-z_]+\(' | tr -d '(' | LC_ALL=C sort)"
   holds 'commands of interlaken(1)' "$(grep -c '^\\fB[a-z]*\\fR \\fI' "$1/share/man/man1/interlaken.1")" "$(grep -vc '^#' "$top/tools/commands.txt")"
   holds 'completion' "$(bash -c '

@@ -1,5 +1,9 @@
 """The part of checks/conventions.sh on examples/dpi/lane_adapt.sv: it makes of the codes of a lane what `tools/lanes adapt` makes of them,
-bit for bit. The codes are those of a drawn convention with drawn faults, from anywhere behind a State word on."""
+bit for bit. The codes are those of a drawn convention with drawn faults, from anywhere behind a State word on.
+
+The module knows the state of no word before its first Sync word, so all codes before it have to pass as they come. `lanes adapt` knows it
+from the State words behind. It rewrites a CRC32 there if only framing words are missing in front, and no bit if a payload word is, too.
+"""
 
 import os
 import random
@@ -22,7 +26,7 @@ def drawn(draws):
     link = Link(1, draws.randrange(32, 50), draws.randrange(1, 5))
     plain = Convention()
     convention = Convention.drawn(draws)._replace(start24=plain.start24, end24=plain.end24, idle=False, multi=False)
-    if convention.state == "running":
+    if str(convention.state).startswith("running"):
         convention = convention._replace(state=draws.choice([0, -64, 64]))
     kind = draws.choice(FAULTS)
     return link, convention, Fault(kind, (0, draws.randrange(4, METAFRAMES - 1)) if kind != "none" else None)
@@ -72,6 +76,11 @@ def meant(code):
     return number & (1 << 66) - 1 ^ ((1 << 64) - 1 if number >> 66 else 0)
 
 
+def differing_in(codes, others):
+    """The numbers of the codes that mean another word."""
+    return [at for at, (one, other) in enumerate(zip(codes, others)) if meant(one) != meant(other)]
+
+
 def try_adapter(tally, top, folder, number):
     if not shutil.which("iverilog"):
         tally.not_tried("iverilog", "iverilog", "lane_adapt")
@@ -81,15 +90,24 @@ def try_adapter(tally, top, folder, number):
     payloads = METAFRAMES * (link.metaframe - 3 - link.skips)
     words = [(draws.choice((DATA, CONTROL)), draws.getrandbits(64)) for _ in range(payloads)]
     codes = [format(int(code, 2), "017x") for code in Lane(0, link, convention, fault).codes(words)]
-    # From behind a State word on, and in half of the draws a word is missing, too.
-    codes = codes[draws.randrange(2, link.metaframe):]
+    # From behind a State word on; in half of the draws a word is missing, too.
+    missing = draws.randrange(2, link.metaframe)
+    codes = codes[missing:]
     if draws.random() < 0.5:
         del codes[5 * link.metaframe + draws.randrange(link.metaframe)]
     what = "lane_adapt, draw %d, %s, %s, %s" % (number, link, convention, fault)
-    found, wanted = through_bench(top, folder, link, convention, codes), through_tool(top, folder, convention, codes)
+    found, framing = through_bench(top, folder, link, convention, codes), max(0, 3 + link.skips - missing)
+    # Without framing words and one payload word in front the tool rewrites nothing before the first Sync word.
+    wanted = codes[:framing] + through_tool(top, folder, convention, codes[framing:])
+    before = link.metaframe - missing
+    tally.count(what + ": as they come before the first Sync word", "" if found[:before] == wanted[:before] == codes[:before] else "codes differ")
+    if framing and fault.kind != "bit":
+        # Of all words the tool rewrites one more, the Diagnostic word before the first Sync word.
+        differing = differing_in(found, through_tool(top, folder, convention, codes))
+        tally.count(what + ": the tool's Diagnostic word before it", "" if set(differing) <= {before - 1} else "the words %s differ" % differing[:5])
     if fault.kind == "bit":
         # The tool writes what a wrong bit adds to the profile's CRC32, for which the module would need a whole metaframe more.
-        differing = [at for at, (one, other) in enumerate(zip(found, wanted)) if meant(one) != meant(other)]
+        differing = differing_in(found, wanted)
         tally.count(what + ": only a CRC32", "" if len(differing) <= 1 else "the words %s differ" % differing[:5])
         return
     first = next((at for at, (one, other) in enumerate(zip(found, wanted)) if one != other), None)

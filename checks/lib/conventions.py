@@ -19,11 +19,12 @@ ORDERS, FIELDS = ("highest-first", "bytes-lowest-first", "word-lowest-first"), (
 
 class Convention(namedtuple("Convention", "state order field start end counted diagnostic start24 end24 idle multi", defaults=(
         0, "highest-first", "number", "ones", "complemented", "state-zeroed", "diagnostic-counted", "ones", "complemented", False, False))):
-    """What a sender does otherwise than the profile: `state` is the steps of its State words, or `running`."""
+    """What a sender does otherwise than the profile: `state` is the steps of its State words, or `running`, or `running,0` if such a State word has the
+    state of the word after it."""
 
     @classmethod
     def drawn(cls, draws):
-        return cls(draws.choice([0, "running", 58, draws.randrange(-64, 65)]), draws.choice(ORDERS), draws.choice(FIELDS), draws.choice(("ones", "zeros")),
+        return cls(draws.choice([0, "running", "running,0", 58, draws.randrange(-64, 65)]), draws.choice(ORDERS), draws.choice(FIELDS), draws.choice(("ones", "zeros")),
                    draws.choice(("complemented", "plain")), draws.choice(("state-zeroed", "state-counted")), draws.choice(("diagnostic-counted", "diagnostic-left-out")),
                    *draws.choice((("ones", "complemented"), ("zeros", "complemented"), ("ones", "plain"), ("zeros", "plain"))), draws.random() < 0.5, draws.random() < 0.5)
 
@@ -122,12 +123,14 @@ class Lane:
             yield from self.metaframe(turn, words[begin:begin + payloads])
 
     def metaframe(self, turn, words):
-        is_running = self.convention.state == "running"
+        is_running = str(self.convention.state).startswith("running")
         if is_running:
             self.state = steps(self.state, 64)
         carried = self.state if is_running else steps(self.state, self.convention.state)
         if is_running:
             self.state = steps(self.state, 64)
+        if self.convention.state == "running,0":
+            carried = self.state
         yield self.code(CONTROL, SYNC ^ (1 if self.is_struck("sync", turn) else 0))
         yield self.code(CONTROL, 0b001010 << 58 | carried ^ (1 << 20 if self.is_struck("state", turn) else 0))
         covered = [SYNC, 0b001010 << 58 | (carried if self.convention.counted == "state-counted" else 0)] + [SKIP] * self.link.skips + [word for _, word in words]

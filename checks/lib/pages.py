@@ -78,8 +78,8 @@ def faults_of(row, text, known):
 
 
 def texts_in(top):
-    """The pages and headers by their paths."""
-    paths = glob.glob(os.path.join(top, "**", "*.md"), recursive=True) + glob.glob(os.path.join(top, "include", "*.h"))
+    """The pages and headers, with the text of interlaken(3), by their paths."""
+    paths = glob.glob(os.path.join(top, "**", "*.md"), recursive=True) + glob.glob(os.path.join(top, "include", "*.*"))
     texts = {}
     for path in paths:
         with open(path, encoding="utf-8") as file:

@@ -118,21 +118,29 @@ static void put_word(uint32_t kind, uint64_t number, uint64_t told) {
   batch[waiting].number = number, batch[waiting].kind = kind, waiting++, count++;
 }
 
-/* Takes up to so many words and breaks: 0 if none is left. */
-static int take_gathered(interlaken_gatherer *gatherer, uint64_t most, FILE *out) {
+static void put_gathered(const interlaken_gathered *found, FILE *out) {
   static interlaken_gathered gap; /* a break, after which no word has come */
-  interlaken_gathered found;
-  for (; most > 0; most--) {
-    must("next", interlaken_gatherer_next(gatherer, &found));
-    if (found.kind == INTERLAKEN_GATHERED_NONE || found.kind == INTERLAKEN_GATHERED_ENDED) return 0;
-    if (gap.kind != INTERLAKEN_GATHERED_NONE) put_word(INTERLAKEN_WORD_BAD, 0, gap.number);
-    gap.kind = INTERLAKEN_GATHERED_NONE;
-    if (found.kind == INTERLAKEN_GATHERED_WORD) {
-      put_word(found.word_kind, found.word, found.number);
-    } else {
-      gap = found;
-      fprintf(out, "%" PRIu64 ",%" PRIu64 ",%" PRIu32 ",%s\n", found.number, found.at.group, found.at.index, interlaken_fault_text(found.why));
-    }
+  if (found->kind == INTERLAKEN_GATHERED_ENDED) return;
+  if (gap.kind != INTERLAKEN_GATHERED_NONE) put_word(INTERLAKEN_WORD_BAD, 0, gap.number);
+  gap.kind = INTERLAKEN_GATHERED_NONE;
+  if (found->kind == INTERLAKEN_GATHERED_WORD) {
+    put_word(found->word_kind, found->word, found->number);
+  } else {
+    gap = *found;
+    fprintf(out, "%" PRIu64 ",%" PRIu64 ",%" PRIu32 ",%s\n", found->number, found->at.group, found->at.index, interlaken_fault_text(found->why));
+  }
+}
+
+/* Takes up to so many words and breaks, in random pieces: 0 if none is left. */
+static int take_gathered(interlaken_gatherer *gatherer, uint64_t most, FILE *out) {
+  static interlaken_gathered found[600];
+  size_t room, count, at;
+  for (; most > 0; most -= count) {
+    room = 1 + (size_t)drawn(sizeof found / sizeof *found);
+    if (room > most) room = (size_t)most;
+    must("words", interlaken_gatherer_words(gatherer, found, room, &count));
+    for (at = 0; at < count; at++) put_gathered(&found[at], out);
+    if (count < room) return 0;
   }
   return 1;
 }

@@ -22,6 +22,7 @@ use Rattle.c_parts.specs.Reports.{as_report, no_report}
 use Rattle.c_parts.specs.declared.refusal.Refusal.{Refusal}
 use Rattle.c_parts.specs.declared.report.Report.{Report}
 use Rattle.c_gatherer.specs.Codes.{misuse_code}
+use Rattle.c_gatherer.specs.Many.{GivesMany}
 use Rattle.c_gatherer.specs.Shown.{shown}
 use Rattle.c_gatherer.specs.declared.gathered.CGathered.{CGathered}
 
@@ -91,6 +92,11 @@ Finishes old new lane code = OnHeld (code ≡ no_gatherer) (λ (s t : BitGathere
 abbrev pub GivesNext : Option BitGatherer → Option BitGatherer → ℕ → CGathered → Type 0
 GivesNext old new code given =
     OnHeld ((code ≡ no_gatherer) × (given ≡ shown None)) (λ (s t : BitGatherer). (result : Option Gathered) × IsNext s.lanes t.lanes result × (code ≡ done) × (given ≡ shown result) × (t.parts ≡ s.parts)) old new
+
+-- many calls of `next` at once; none is asked where there is no room
+abbrev pub GivesNexts : Option BitGatherer → Option BitGatherer → List CGathered → List CGathered → ℕ → ℕ → Type 0
+GivesNexts old new before after code count =
+    OnHeld ((code ≡ no_gatherer) × (count ≡ 0) × (after ≡ before)) (λ (s t : BitGatherer). GivesMany s.lanes t.lanes before after count × (code ≡ done) × (t.parts ≡ s.parts)) old new
 
 abbrev pub Reports : Option BitGatherer → Option BitGatherer → ℕ → ℕ → Report → Type 0
 Reports old new lane code report =

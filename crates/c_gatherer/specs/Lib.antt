@@ -1,3 +1,4 @@
 pub mod Codes
+pub mod Many
 pub mod Held
 pub mod Shown

@@ -3,12 +3,13 @@ ghost use Rattle.std.specs.Prelude.{◌≡◌, IfOk, IfErr};
 ghost use Rattle.c_bits.specs.Bits.{no_parts};
 ghost use Rattle.c_parts.specs.Refusals.{IsRefused};
 ghost use Rattle.c_parts.specs.Reports.{no_report};
-ghost use Rattle.c_gatherer.specs.Held.{Feeds, FeedsBits, FeedsCompleted, FeedsWhole, Finishes, FinishesWhole, Frees, GivesCode, GivesCount, GivesNext, GivesReport, IsMade, IsOfPlan, Makes, Reports};
+ghost use Rattle.c_gatherer.specs.Held.{Feeds, FeedsBits, FeedsCompleted, FeedsWhole, Finishes, FinishesWhole, Frees, GivesCode, GivesCount, GivesNext, GivesNexts, GivesReport, IsMade, IsOfPlan, Makes, Reports};
 
 use crate::bit_gatherer::BitGatherer;
 use crate::codes::misuse_code;
 use crate::gathered::{CGathered, shown};
 use crate::handle::GathererHandle;
+use crate::many::give_many;
 use c_bits::MOST_BITS;
 use c_parts::codes::{DONE, IN_USE, NO_GATHERER, OUT_OF_RANGE, PART_BYTE, plan_code};
 use c_parts::refusal::{Refusal, no_refusal, refusal_of};
@@ -220,6 +221,25 @@ pub fn next(alloc: Global, gatherer: &mut GathererHandle, given: &mut CGathered)
     let next = there.lanes.next();
     gatherer.put(there);
     *given = shown(next);
+    DONE
+}
+
+/// Writes words and breaks and the end, as `next` writes each: as many as there is room for, or up to the first none. Writes how many
+/// these are. It is `DONE` or `NO_GATHERER`.
+pub fn words(
+    alloc: Global,
+    gatherer: &mut GathererHandle,
+    out: &mut [CGathered],
+    count: &mut usize,
+) -> u32
+    ensures { GivesNexts gatherer.old.at.gatherer gatherer.new.at.gatherer out.old out.new result count.new }
+{
+    *count = 0;
+    let Some(mut there) = gatherer.take(alloc) else {
+        return NO_GATHERER;
+    };
+    *count = give_many(&mut there.lanes, out);
+    gatherer.put(there);
     DONE
 }
 

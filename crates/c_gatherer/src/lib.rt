@@ -7,7 +7,8 @@ mod calls;
 mod codes;
 mod gathered;
 mod handle;
+mod many;
 
-pub use calls::{feed, feed_bits, finish, free, new, next, report};
+pub use calls::{feed, feed_bits, finish, free, new, next, report, words};
 pub use gathered::CGathered;
 pub use handle::GathererHandle;

@@ -14,6 +14,7 @@ use Rattle.link_commands.specs.Delivery.{AllUndamaged, DeliversAll, captured_on,
 use Rattle.link_commands.specs.Linked.{IsLinkedBy}
 use Rattle.link_commands.proofs.CleanLanes.{undamaged_by}
 use Rattle.link_commands.proofs.CleanRuns.{clean_kept}
+use Rattle.link_commands.proofs.Delivers.{clean_counts}
 use Rattle.link_commands.proofs.NoneCounted.{within_by}
 use Rattle.case_commands.specs.Asked.{asked}
 use Rattle.case_commands.specs.PremisesMet.{CleanCaseMeets, CleanCasesMeet, clean_case, clean_number, clean_reading, four_bytes}
@@ -60,7 +61,7 @@ module _ (prefix : List ℕ) where
       is_linked = h;
       undamaged = whole stream;
       within = near;
-      none = all.none;
+      none = clean_counts (clean_reading prefix) stream o h (whole stream) near;
       kept = clean_kept (clean_reading prefix) stream o h (whole stream) near;
       sent = sent;
       arrives = all.captures 0 listed ∙ ap (λ (packets : List (List ℕ)). Some (capture_bytes 1 packets)) sent;

@@ -41,7 +41,7 @@ pub record CleanCaseMeets (prefix : List ℕ) : Type 0 where
   pub is_linked : IsLinkedBy (clean_reading prefix) stream linked
   pub undamaged : AllUndamaged (clean_reading prefix).reading.plan.settings (clean_reading prefix).schedule stream
   pub within : IsWithinDepth (clean_reading prefix).reading.plan.settings (clean_reading prefix).schedule.skews
-  pub none : is_linked.over.counts ≡ no_accidents
+  pub none : is_linked.counts ≡ no_accidents
   pub kept : LosesNoLock is_linked.reports
   pub sent : bytes_of (sent_on (clean_reading prefix) stream is_linked.over 0) ≡ four_bytes ∷ []
   pub arrives : content_of linked.files (capture_name (clean_reading prefix).reading.plan.out 0) ≡ Some (capture_bytes 1 (four_bytes ∷ []))

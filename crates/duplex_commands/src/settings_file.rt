@@ -14,7 +14,9 @@ use std::alloc::Global;
 
 /// The settings in the file of this name. They are refused exactly where the file is absent, has more than 1,048,576 bytes, or
 /// its rows are refused, unless the store fails or memory runs out. The files are as they were.
+// why: its frame, of a csv reader, is gone before the plan is read.
 #[tactic(auto, unfolding(crate::specs::Reading::settings_in))]
+#[inline(never)]
 pub fn read_settings_file<S: Store>(
     alloc: Global,
     store: &mut S,

@@ -22,22 +22,22 @@ module _ (out : List ℕ) (items : List Aligned) (broken : Bool) (was now : Opti
 
   -- ---- words
 
-  module _ (group index : ℕ) (words : List RxWord) (some : 1 ≤ length words) where
-    words_are : before ++ words ≡ gathered_words (items ++ words_from group index words)
-    words_are = sym (words_run items group index words some ∙ ap (λ (ws : List RxWord). ws ++ words) same_before)
+  module _ (group index : ℕ) (words : List RxWord) (some : 1 ≤ length words) (run : List Aligned) (is : run ≡ words_from group index words) where
+    words_are : before ++ words ≡ gathered_words (items ++ run)
+    words_are = sym (ap (λ (xs : List Aligned). gathered_words (items ++ xs)) is ∙ words_run items group index words some ∙ ap (λ (ws : List RxWord). ws ++ words) same_before)
 
-    rows_are : places items ≡ places (items ++ words_from group index words)
-    rows_are = sym (places_run items group index words some)
+    rows_are : places items ≡ places (items ++ run)
+    rows_are = sym (ap (λ (xs : List Aligned). places (items ++ xs)) is ∙ places_run items group index words some)
 
     -- the word between was to be given first
-    pub run_cut : (why : Stop) → IsStopped out before (places items) why was now → IsCutShort out (items ++ words_from group index words) why was now
+    pub run_cut : (why : Stop) → IsStopped out before (places items) why was now → IsCutShort out (items ++ run) why was now
     run_cut why h = same_stopped out (before ++ words) _ (places items ++ []) _ why was now words_are (append-nil (places items) ∙ rows_are) (stopped_more out before words (places items) [] was now why h)
 
-    pub run_gathers : {T : Type 0} (result : Result T Stop) (g : Gathered) → g.epochs ≡ epochs_in items → g.broken ≡ false → Puts out (before ++ words) (places items) result g.files was now → Gathers out (items ++ words_from group index words) result g was now
+    pub run_gathers : {T : Type 0} (result : Result T Stop) (g : Gathered) → g.epochs ≡ epochs_in items → g.broken ≡ false → Puts out (before ++ words) (places items) result g.files was now → Gathers out (items ++ run) result g was now
     run_gathers (Ok t) g epochs unbroken h = record {
       files = same_put out (before ++ words) _ (places items) _ g.files was now words_are rows_are h;
-      epochs = epochs ∙ sym (epochs_run items group index words some);
-      broken = unbroken ∙ sym (broken_run items group index words some);
+      epochs = epochs ∙ sym (ap (λ (xs : List Aligned). epochs_in (items ++ xs)) is ∙ epochs_run items group index words some);
+      broken = unbroken ∙ sym (ap (λ (xs : List Aligned). ends_broken false (items ++ xs)) is ∙ broken_run items group index words some);
     }
     run_gathers (Err why) g epochs unbroken h = same_stopped out (before ++ words) _ (places items) _ why was now words_are rows_are h
 

@@ -1,6 +1,7 @@
 -- What other crates cite.
 pub mod Gathers
 -- What this crate alone cites.
+mod FrontWords
 mod Stops
 mod Tables
 mod Examples

@@ -116,6 +116,14 @@ items_part out items rest was now h = (cut_more out items rest stop.OutOfMemory 
 
 -- ---- the same, as calls give it
 
+-- the room for bytes changed, and nothing else
+pub same_files : (out : List ℕ) (words : List RxWord) (rows : List PlaceRow) (f g : GatheredFiles) (was now : Option Files) → g.outputs ≡ f.outputs → g.words ≡ f.words → HasPut out words rows f was now → HasPut out words rows g was now
+same_files out words rows f g was now e d h = record {
+  names = ap open_names e ∙ h.names;
+  given = subst (λ (os : List Open). IsOpen os (contents_of words rows) was now) (sym e) h.given;
+  count = d ∙ h.count;
+}
+
 module _ (out : List ℕ) (words other : List RxWord) (rows further : List PlaceRow) (was now : Option Files) (e : words ≡ other) (f : rows ≡ further) where
   pub same_puts : {T : Type 0} (result : Result T Stop) (g : GatheredFiles) → Puts out words rows result g was now → Puts out other further result g was now
   same_puts (Ok t) g h = same_put out words other rows further g was now e f h

@@ -1,17 +1,13 @@
 -- What is taken of a front and gathered.
-use Rattle.std.proofs.Common.{◌≡◌, ℕ, Bool, true, false, List, [], ◌∷◌, ◌++◌, take, sym, ap, ◌∙◌, subst, Option, Ok}
+use Rattle.std.proofs.Common.{◌≡◌, ℕ, Bool, true, false, List, [], ◌∷◌, ◌++◌, length, take, sym, ap, ◌∙◌, subst, arith, Option, Ok}
+use Rattle.std.proofs.lemmas.List.{take_all}
 use Rattle.lk_base.specs.Link.{Settings}
-use Rattle.lk_base.specs.Positions.{words_from}
-use Rattle.lk_base.specs.declared.position.Pos.{Pos}
 use Rattle.lk_base.specs.declared.word.Aligned.{Aligned}
-use Rattle.lk_base.specs.declared.word.RxWord.{RxWord}
 use Rattle.lk_outside.specs.Files.{Files}
 use Rattle.event_model.specs.Fed.{Fed}
 use Rattle.rx_front.specs.Standing as front
 use Rattle.rx_front.specs.Standing.{GivesItem, Progress}
 use Rattle.rx_front.specs.States.{State}
-use Rattle.rx_front.specs.Waiting.{words_in}
-use Rattle.rx_front.proofs.Waiting.{words_first}
 use Rattle.run_stops.specs.declared.stop.Stop.{Stop}
 use Rattle.gather_commands.specs.declared.gathered.Gathered.{Gathered}
 use Rattle.gather_commands.specs.declared.gatherer.Gatherer.{Gatherer}
@@ -21,19 +17,19 @@ use Rattle.gather_commands.proofs.Firsts.{cut_off, items_come_first, words_come_
 
 -- ---- words
 
-module _ (out : List ℕ) (s : Settings) (fed : List Fed) (was : Option Files) (v : State) (items : List Aligned) (t : Progress) (st : front.Stands v s fed items t) (at : Pos) (words : List RxWord) (is : v.waiting ≡ words_from at.group at.index (words_in v.waiting)) (count : ℕ) (same : words ≡ take count (words_in v.waiting)) where
-  run_is : take count v.waiting ≡ words_from at.group at.index words
-  run_is = ap (λ (xs : List Aligned). take count xs) is ∙ words_first count at.group at.index (words_in v.waiting) ∙ ap (λ (ws : List RxWord). words_from at.group at.index ws) (sym same)
+module _ (out : List ℕ) (s : Settings) (fed : List Fed) (was : Option Files) (v : State) (items : List Aligned) (t : Progress) (st : front.Stands v s fed items t) (count : ℕ) (all : count ≡ length v.waiting) where
+  all_taken : take count v.waiting ≡ v.waiting
+  all_taken = take_all count v.waiting (omega (arith, all))
 
-  pub words_cut : (why : Stop) (now : Option Files) → IsCutShort out (items ++ words_from at.group at.index words) why was now → IsCutOff out s fed why was now
-  words_cut why now h = cut_off out s fed (items ++ words_from at.group at.index words) why was now (subst (λ (xs : List Aligned). ComeFirst s fed (items ++ xs)) run_is (words_come_first v count s fed items t st)) h
+  pub words_cut : (why : Stop) (now : Option Files) → IsCutShort out (items ++ v.waiting) why was now → IsCutOff out s fed why was now
+  words_cut why now h = cut_off out s fed (items ++ v.waiting) why was now (subst (λ (xs : List Aligned). ComeFirst s fed (items ++ xs)) all_taken (words_come_first v count s fed items t st)) h
 
-  pub words_taken : (w : Gatherer) (now : Option Files) → front.Stands w.front s fed (items ++ take count v.waiting) t → IsGathered out (items ++ words_from at.group at.index words) w.gathered was now → IsGathering out s fed w was now
+  pub words_taken : (w : Gatherer) (now : Option Files) → front.Stands w.front s fed (items ++ take count v.waiting) t → IsGathered out (items ++ v.waiting) w.gathered was now → IsGathering out s fed w was now
   words_taken w now stands gathered = record {
     items = items ++ take count v.waiting;
     progress = t;
     stands = stands;
-    gathered = subst (λ (xs : List Aligned). IsGathered out (items ++ xs) w.gathered was now) (sym run_is) gathered;
+    gathered = subst (λ (xs : List Aligned). IsGathered out (items ++ xs) w.gathered was now) (sym all_taken) gathered;
   }
 
 -- ---- an item

@@ -7,14 +7,18 @@ ghost use Rattle.run_shell.specs.Writing.{Writes};
 ghost use Rattle.lane_words.specs.declared.places.PlaceRow.{PlaceRow as Row};
 ghost use Rattle.gather_commands.specs.Table.{finished_outcome, gathered_names};
 ghost use Rattle.lane_words.specs.Gathered.{own_rows, own_words};
+ghost use Rattle.lane_words.specs.WordsFile.{rx_words_file};
+ghost use Rattle.rx_front.specs.Waiting.{words_in};
 ghost use Rattle.gather_commands.specs.Growing.{HasPut, Puts, PutsNew};
 
+use crate::front_words::front_bytes;
 use crate::table::{heading, row_bytes};
 use lane_words::{PlaceRow, words_bytes};
 use lk_base::{Aligned, OutOfMemory, Pos, RxWord};
 use lk_outside::Store;
 use run_shell::{Finished, Outputs, words_name};
 use run_stops::Stop;
+use rx_front::Front;
 use std::alloc::{AllocError, Global};
 
 // The places of the outputs in the order of creation.
@@ -84,7 +88,37 @@ impl GatheredFiles {
             Puts out (before ++ words.now) rows result self.new was (S.files store.new) }
     {
         words_bytes(&mut self.bytes, words)?;
-        self.words = counted(self.words, words.len())?;
+        self.put_made(alloc, store, words.len())
+    }
+
+    /// Gives the words that wait in the front to the words file. A count that finds no room in 64 bits is reported as out of memory.
+    pub fn put_front<S: Store>(
+        &mut self,
+        alloc: Global,
+        store: &mut S,
+        front: &Front,
+    ) -> Result<(), Stop>
+        requires count { S.faults store.old < 2 ^ 60 }
+        requires has { (out : List ℕ) × (before : List Received) × (rows : List Row) × (was : Option Files) × HasPut out before rows self.old was (S.files store.old) }
+        ensures cause { StopCount result (S.faults store.old) (S.faults store.new) }
+        ensures puts { (out : List ℕ) (before : List Received) (rows : List Row) (was : Option Files) → HasPut out before rows self.old was (S.files store.old) →
+            Puts out (before ++ words_in front.now.waiting) rows result self.new was (S.files store.new) }
+    {
+        // proof: as many words wait as items
+        front.at();
+        front_bytes(&mut self.bytes, front)?;
+        self.put_made(alloc, store, front.len())
+    }
+
+    // Gives the words file as many words, whose bytes are made.
+    fn put_made<S: Store>(&mut self, alloc: Global, store: &mut S, count: usize) -> Result<(), Stop>
+        requires count { S.faults store.old < 2 ^ 60 }
+        requires has { (out : List ℕ) × (before : List Received) × (rows : List Row) × (was : Option Files) × HasPut out before rows self.old was (S.files store.old) }
+        ensures cause { StopCount result (S.faults store.old) (S.faults store.new) }
+        ensures puts { (out : List ℕ) (before more : List Received) (rows : List Row) (was : Option Files) → HasPut out before rows self.old was (S.files store.old) →
+            self.old.bytes.items ≡ rx_words_file more → count ≡ length more → Puts out (before ++ more) rows result self.new was (S.files store.new) }
+    {
+        self.words = counted(self.words, count)?;
         self.outputs.put(alloc, store, WORDS, &self.bytes)
     }
 

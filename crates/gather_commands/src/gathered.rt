@@ -1,7 +1,5 @@
 //! Items of aligned lanes, whose words and places are given to the files one after another.
 ghost use Rattle.std.specs.Prelude.{◌≡◌, ◌<◌, ◌≤◌, ◌+◌, ◌^◌, ◌++◌, [], ◌∷◌, ℕ, Bool, List, Option, IfOk, OnOk, length, cond};
-ghost use Rattle.lk_base.specs.Positions.{words_from};
-ghost use Rattle.lk_base.specs.declared.position.Pos.{Pos as Place};
 ghost use Rattle.lk_base.specs.declared.word.Aligned.{Aligned as Item};
 ghost use Rattle.lk_base.specs.declared.word.RxWord.{RxWord as Received};
 ghost use Rattle.lk_outside.specs.Files.{Files};
@@ -18,6 +16,7 @@ use lk_base::{Aligned, OutOfMemory, RxWord};
 use lk_outside::Store;
 use run_shell::Finished;
 use run_stops::Stop;
+use rx_front::Front;
 use std::alloc::Global;
 
 // Whether an epoch ends with the item.
@@ -84,24 +83,25 @@ impl Gathered {
         })
     }
 
-    /// These words come next, one or more, one after another from some place of a group on. A count that finds no room in 64 bits
-    /// is reported as out of memory.
-    pub fn add_words<S: Store>(
+    /// The words that wait in the front come next, one or more. A count that finds no room in 64 bits is reported as out of memory.
+    pub fn add_front<S: Store>(
         &mut self,
         alloc: Global,
         store: &mut S,
-        words: &[RxWord],
+        front: &Front,
     ) -> Result<(), Stop>
         requires count { S.faults store.old < 2 ^ 60 }
-        requires some { 1 ≤ length words.now }
+        requires some { 1 ≤ length front.now.waiting }
         requires has { (out : List ℕ) × (items : List Item) × (was : Option Files) × IsGathered out items self.old was (S.files store.old) }
         ensures cause { StopCount result (S.faults store.old) (S.faults store.new) }
-        ensures gathers { (out : List ℕ) (items : List Item) (was : Option Files) (at : Place) → IsGathered out items self.old was (S.files store.old) →
-            Gathers out (items ++ words_from at.group at.index words.now) result self.new was (S.files store.new) }
+        ensures gathers { (out : List ℕ) (items : List Item) (was : Option Files) → IsGathered out items self.old was (S.files store.old) →
+            Gathers out (items ++ front.now.waiting) result self.new was (S.files store.new) }
     {
+        // proof: the words stand one after another from some place on
+        front.at();
         put_between(alloc, store, &mut self.files, self.broken)?;
         self.broken = false;
-        self.files.put_words(alloc, store, words)
+        self.files.put_front(alloc, store, front)
     }
 
     /// This item comes next. A count that finds no room in 64 bits is reported as out of memory.

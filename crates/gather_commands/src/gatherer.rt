@@ -1,39 +1,19 @@
 //! The front of a receiver, whose items are gathered.
-ghost use Rattle.std.specs.Prelude.{◌≡◌, ◌<◌, ◌≤◌, ◌^◌, [], true, false, ℕ, List, Option, Ok, OnOk, length, take};
+ghost use Rattle.std.specs.Prelude.{◌≡◌, ◌<◌, ◌≤◌, ◌^◌, [], true, false, ℕ, List, Option, Ok, OnOk, length};
 ghost use Rattle.lk_base.specs.Link.{Settings};
 ghost use Rattle.lk_base.specs.declared.word.Aligned.{Aligned as Item};
 ghost use Rattle.lk_outside.specs.Files.{Files};
 ghost use Rattle.event_model.specs.Fed.{Fed};
 ghost use Rattle.rx_front.specs.Standing.{items_left, weight};
-ghost use Rattle.rx_front.specs.Waiting.{words_in};
 ghost use Rattle.run_stops.specs.Stops.{StopCount};
 ghost use Rattle.gather_commands.specs.Taking.{Begins, IsGathering, HasShown, TakesAll, TakesNext, TakesShown, TakesSome};
 
 use crate::gathered::Gathered;
-use lk_base::{Link, RxWord, head};
+use lk_base::Link;
 use lk_outside::Store;
 use run_stops::Stop;
 use rx_front::Front;
 use std::alloc::Global;
-
-// The greatest number of words that are taken at once.
-const MOST: usize = 64;
-
-// Copies the first of the words that wait in the front, as many as there is room for. Returns their number.
-fn copy_words(front: &Front, block: &mut [RxWord; 64]) -> usize
-    ensures some { 1 ≤ length front.now.waiting → 1 ≤ result }
-    ensures most { result ≤ length front.now.waiting }
-    ensures fits { result ≤ 64 }
-    ensures words { take result block.new ≡ take result (words_in front.now.waiting) }
-{
-    // proof: as many words wait as items
-    front.at();
-    let count = front.len().min(MOST);
-    for place in 0..count {
-        block[place] = front.word(place);
-    }
-    count
-}
 
 /// The front of a receiver of the lanes of a link, and what was gathered of the items that were taken of it. No item is kept.
 #[derive(Drop)]
@@ -62,7 +42,7 @@ impl Gatherer {
         Ok(Gatherer { front, gathered })
     }
 
-    // Takes the first of the words that wait, one or more.
+    // Takes the words that wait, one or more.
     fn take_words<S: Store>(&mut self, alloc: Global, store: &mut S) -> Result<(), Stop>
         requires count { S.faults store.old < 2 ^ 60 }
         requires some { 1 ≤ length self.old.front.waiting }
@@ -73,12 +53,8 @@ impl Gatherer {
         ensures fewer { OnOk result (items_left self.new.front < items_left self.old.front) }
         ensures weight { weight self.new.front ≡ weight self.old.front }
     {
-        // proof: the words stand one after another from some place on
-        self.front.at();
-        let mut block = [RxWord::Bad; MOST];
-        let count = copy_words(&self.front, &mut block);
-        self.gathered.add_words(alloc, store, head(&block, count))?;
-        self.front.pass(count);
+        self.gathered.add_front(alloc, store, &self.front)?;
+        self.front.pass(self.front.len());
         Ok(())
     }
 

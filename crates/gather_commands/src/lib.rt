@@ -5,6 +5,7 @@
 #![tactic(auto)]
 
 mod files;
+mod front_words;
 mod gather;
 mod gathered;
 mod gatherer;

@@ -7,7 +7,7 @@ use Rattle.run_shell.specs.Outcome.{Outcome, IsAnswer}
 use Rattle.run_shell.specs.Run.{Found, Settles}
 use Rattle.link_laws.specs.CleanLaw.{HaveOwnLocks as LawOnOwnLocks}
 use Rattle.link_commands.specs.Linked.{IsLinked, IsLinkedBy}
-use Rattle.link_commands.proofs.Delivers.{never_when_off}
+use Rattle.link_commands.proofs.Delivers.{clean_counts, counts_blocks, lists_spans, never_when_off}
 use Rattle.case_commands.specs.Asked.{Asked}
 use Rattle.case_commands.specs.Generate.{behind_case, reading_for}
 use Rattle.case_commands.proofs.CaseDelivers.{case_delivers, case_sends_all, case_spans_narrow, case_tells_missing, clean_case_delivers}
@@ -16,7 +16,7 @@ use Rattle.interlaken.specs.declared.request.Request.TheVariants.{Generate}
 use Rattle.interlaken.specs.Request.{request_of}
 use Rattle.interlaken.specs.Meanings.{meaning_by as meaning_for}
 use Rattle.interlaken.specs.Run.{OutcomeOf}
-use Rattle.interlaken.specs.CaseDelivery.{CaseMissingAreTold, CasesDeliver, CasesDeliverClean, CasesLock, CasesSendAll, CaseSpansAreNarrow, CasesWhenOn, OfCases}
+use Rattle.interlaken.specs.CaseDelivery.{CaseMissingAreTold, CasesCountBlocks, CasesCountNone, CasesDeliver, CasesDeliverClean, CasesListSpans, CasesLock, CasesSendAll, CaseSpansAreNarrow, CasesWhenOn, OfCases}
 use Rattle.interlaken.proofs.CleanLocks.{clean_locks}
 use Rattle.interlaken.proofs.Told.{asked_for, is_answered, told}
 
@@ -37,10 +37,19 @@ module _ (words : List (List ℕ)) (status : Status) (u : Files) (x y : Option F
         }
 
   delivers_at : CasesDeliver words u status x y
-  delivers_at = of_cases _ (λ a stream o h none. case_delivers a stream o h none)
+  delivers_at = of_cases _ (λ a stream o h passing. case_delivers a stream o h passing)
 
   clean_at : CasesDeliverClean words u status x y
   clean_at = of_cases _ (λ a stream o h whole within. clean_case_delivers a stream o h whole within)
+
+  spans_at : CasesListSpans words u status x y
+  spans_at = of_cases _ (λ a stream o h. lists_spans (reading_for a) stream o h)
+
+  blocks_at : CasesCountBlocks words u status x y
+  blocks_at = of_cases _ (λ a stream o h. counts_blocks (reading_for a) stream o h)
+
+  none_at : CasesCountNone words u status x y
+  none_at = of_cases _ (λ a stream o h whole within. clean_counts (reading_for a) stream o h whole within)
 
   lock_at : LawOnOwnLocks → CasesLock words u status x y
   lock_at law = of_cases _ (λ a stream o h whole within. clean_locks law (reading_for a) stream o h whole within)
@@ -63,6 +72,15 @@ module _ (words : List (List ℕ)) (status : Status) (x y : Option Files) (found
 
   pub run_cases_deliver_clean : IfSome x (λ files. CasesDeliverClean words files status x y)
   run_cases_deliver_clean = told (λ u z. CasesDeliverClean words u status z y) words status x y (λ u f s. clean_at words status u x y f s) found settled
+
+  pub run_cases_list_spans : IfSome x (λ files. CasesListSpans words files status x y)
+  run_cases_list_spans = told (λ u z. CasesListSpans words u status z y) words status x y (λ u f s. spans_at words status u x y f s) found settled
+
+  pub run_cases_count_blocks : IfSome x (λ files. CasesCountBlocks words files status x y)
+  run_cases_count_blocks = told (λ u z. CasesCountBlocks words u status z y) words status x y (λ u f s. blocks_at words status u x y f s) found settled
+
+  pub run_cases_count_none : IfSome x (λ files. CasesCountNone words files status x y)
+  run_cases_count_none = told (λ u z. CasesCountNone words u status z y) words status x y (λ u f s. none_at words status u x y f s) found settled
 
   pub run_cases_lock : LawOnOwnLocks → IfSome x (λ files. CasesLock words files status x y)
   run_cases_lock law = told (λ u z. CasesLock words u status z y) words status x y (λ u f s. lock_at words status u x y f s law) found settled

@@ -16,7 +16,7 @@ use Rattle.link_laws.specs.CleanLaw.{HaveOwnLocks as LawOnOwnLocks}
 use Rattle.link_commands.specs.Linked.{IsLinked, IsLinkedBy, IsSentBy}
 use Rattle.link_commands.specs.Delivery.{DeliversAll, DeliversUnmet}
 use Rattle.link_commands.proofs.AllSent.{sends_all}
-use Rattle.link_commands.proofs.Delivers.{clean_delivers, delivers, never_when_off}
+use Rattle.link_commands.proofs.Delivers.{clean_counts, clean_delivers, counts_blocks, delivers, lists_spans, never_when_off}
 use Rattle.link_commands.proofs.Lacks.{lacks_a_packet}
 use Rattle.link_commands.proofs.Missed.{tells_missing}
 use Rattle.link_commands.proofs.Narrow.{narrow_spans}
@@ -27,43 +27,33 @@ use Rattle.interlaken.specs.Request.{request_of}
 use Rattle.interlaken.specs.Meanings.{meaning_by as meaning_for}
 use Rattle.interlaken.specs.Run.{OutcomeOf}
 use Rattle.interlaken.specs.Answered.{IsAnswered}
-use Rattle.interlaken.specs.Delivery.{AreWritten, Delivers, DeliversClean, HeldLacksAPacket, LinksLock, LinksWhenOn, MissingAreTold, OfLinks, OfSent, SendsAllPackets, SpansAreNarrow}
+use Rattle.interlaken.specs.Delivery.{AreWritten, CountsAllBlocks, CountsNone, Delivers, DeliversClean, HeldLacksAPacket, LinksLock, ListsAllSpans, LinksWhenOn, MissingAreTold, OfLinks, OfSent, SendsAllPackets, SpansAreNarrow}
 use Rattle.interlaken.proofs.CleanLocks.{clean_locks}
+use Rattle.interlaken.proofs.LinkWords.{answers, asks_link}
 use Rattle.interlaken.proofs.Written.{written}
 use Rattle.interlaken.proofs.Told.{asked_for, is_answered, told}
 
 -- ---- files by name
 
 -- what the first of them finds, the second finds too
-abbrev Keeps : (List ℕ → Option (List ℕ)) → (List ℕ → Option (List ℕ)) → Type 0
+abbrev pub Keeps : (List ℕ → Option (List ℕ)) → (List ℕ → Option (List ℕ)) → Type 0
 Keeps f g = (q bytes : List ℕ) → f q ≡ Some bytes → g q ≡ Some bytes
 
-held_kept : (outputs : List Output) (before after : Files) → Holds outputs before after → Keeps (content_of outputs) (file after)
+pub held_kept : (outputs : List Output) (before after : Files) → Holds outputs before after → Keeps (content_of outputs) (file after)
 held_kept outputs before after holds q bytes is = holds q ∙ ap (λ (m : Option (List ℕ)). option_or m (file before q)) is
 
-told_as : (x y : Option Files) (P Q : Files → Files → Type 0) → Told x y P → ((before after : Files) → P before after → Q before after) → Told x y Q
+pub told_as : (x y : Option Files) (P Q : Files → Files → Type 0) → Told x y P → ((before after : Files) → P before after → Q before after) → Told x y Q
 told_as None None P Q h f = tt
 told_as None (Some v) P Q h f = absurd h
 told_as (Some u) None P Q h f = absurd h
 told_as (Some u) (Some v) P Q h f = f u v h
 
 unmet_moved : (i : LinkReading) (stream : List Word) (c : IsSentBy i stream) (f g : List ℕ → Option (List ℕ)) → Keeps f g → DeliversUnmet i stream c f → DeliversUnmet i stream c g
-unmet_moved i stream c f g keeps d = record {
-  epochs = d.epochs;
-  are = d.are;
-  table = keeps _ _ d.table;
-  captures = λ channel has. keeps _ _ (d.captures channel has);
-}
+unmet_moved i stream c f g keeps d channel has = keeps _ _ (d channel has)
 
 all_moved : (i : LinkReading) (stream : List Word) (c : IsSentBy i stream) (f g : List ℕ → Option (List ℕ)) → Keeps f g → DeliversAll i stream c f → DeliversAll i stream c g
 all_moved i stream c f g keeps d = record {
-  none = d.none;
-  unmet = record {
-    epochs = d.unmet.epochs;
-    are = d.unmet.are;
-    table = keeps _ _ d.unmet.table;
-    captures = λ channel has. keeps _ _ (d.unmet.captures channel has);
-  };
+  passing = d.passing;
   two = d.two;
   meet_none = d.meet_none;
   captures = λ channel has. keeps _ _ (d.captures channel has);
@@ -82,8 +72,10 @@ module _ (words : List (List ℕ)) (status : Status) (u : Files) (x y : Option F
       (moved : (i : LinkReading) (stream : List Word) (c : IsSentBy i stream) (f g : List ℕ → Option (List ℕ)) → Keeps f g → Says i stream c f → Says i stream c g) where
     -- what holds of the files of whatever comes of the inputs, holds of the files that are there after
     of_sent : ((name : List ℕ) (i : LinkReading) (stream : List Word) (o : Outcome) → linked_in u name ≡ Ok i → (h : IsLinkedBy i stream o) → Says i stream h.over (content_of o.files)) → OfSent Says words u status x y
-    of_sent says name i asks is answer =
+    of_sent says name i are is come =
+        let answer : IsAnswer status = answers status come in
         let (o, of, s) = found answer in
+        let asks : request_of words ≡ Some (Link name) = asks_link words name u o status are come of s in
         let (stream, h) = made_of (link_work name) u i o is (asked_for words (Link name) u o asks of) in
         record {
           some = (stream, h.over);
@@ -110,10 +102,19 @@ module _ (words : List (List ℕ)) (status : Status) (u : Files) (x y : Option F
         }
 
   delivers_at : Delivers words u status x y
-  delivers_at = of_sent _ (λ i stream c f g keeps says none. unmet_moved i stream c f g keeps (says none)) (λ name i stream o is h none. delivers u name i stream o is h none)
+  delivers_at = of_sent _ (λ i stream c f g keeps says passing. unmet_moved i stream c f g keeps (says passing)) (λ name i stream o is h passing. delivers u name i stream o is h passing)
 
   clean_at : DeliversClean words u status x y
   clean_at = of_sent _ (λ i stream c f g keeps says whole within. all_moved i stream c f g keeps (says whole within)) (λ name i stream o is h whole within. clean_delivers u name i stream o is h whole within)
+
+  spans_at : ListsAllSpans words u status x y
+  spans_at = of_sent _ (λ i stream c f g keeps says. keeps _ _ says) (λ name i stream o is h. lists_spans i stream o h)
+
+  blocks_at : CountsAllBlocks words u status x y
+  blocks_at = of_links _ (λ name i stream o is s h. counts_blocks i stream o h)
+
+  none_at : CountsNone words u status x y
+  none_at = of_links _ (λ name i stream o is s h whole within. clean_counts i stream o h whole within)
 
   lock_at : LawOnOwnLocks → LinksLock words u status x y
   lock_at law = of_links _ (λ name i stream o is s h whole within. clean_locks law i stream o h whole within)
@@ -139,6 +140,15 @@ module _ (words : List (List ℕ)) (status : Status) (x y : Option Files) (found
 
   pub run_delivers_clean : IfSome x (λ files. DeliversClean words files status x y)
   run_delivers_clean = told (λ u z. DeliversClean words u status z y) words status x y (λ u f s. clean_at words status u x y f s) found settled
+
+  pub run_lists_spans : IfSome x (λ files. ListsAllSpans words files status x y)
+  run_lists_spans = told (λ u z. ListsAllSpans words u status z y) words status x y (λ u f s. spans_at words status u x y f s) found settled
+
+  pub run_counts_blocks : IfSome x (λ files. CountsAllBlocks words files status x y)
+  run_counts_blocks = told (λ u z. CountsAllBlocks words u status z y) words status x y (λ u f s. blocks_at words status u x y f s) found settled
+
+  pub run_counts_none : IfSome x (λ files. CountsNone words files status x y)
+  run_counts_none = told (λ u z. CountsNone words u status z y) words status x y (λ u f s. none_at words status u x y f s) found settled
 
   pub run_links_lock : LawOnOwnLocks → IfSome x (λ files. LinksLock words files status x y)
   run_links_lock law = told (λ u z. LinksLock words u status z y) words status x y (λ u f s. lock_at words status u x y f s law) found settled

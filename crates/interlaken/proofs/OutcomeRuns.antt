@@ -1,7 +1,6 @@
 -- The outcome that a run of `link` answered delivers.
-use Rattle.std.proofs.Common.{◌≡◌, ◌∙◌, sym, subst, ℕ, List, Contains, Option, Some, IfSome, Ok}
+use Rattle.std.proofs.Common.{◌≡◌, ◌∙◌, sym, subst, ℕ, List, Contains, Option, Some, Ok}
 use Rattle.lk_base.specs.declared.word.Word.{Word}
-use Rattle.lane_model.specs.Damage.{IsWithinDepth}
 use Rattle.lk_outside.specs.Files.{Files}
 use Rattle.run_shell.specs.declared.status.Status.{Status}
 use Rattle.run_shell.specs.Outcome.{Outcome, IsAnswer, content_of}
@@ -10,8 +9,9 @@ use Rattle.run_shell.proofs.Works.{made_of}
 use Rattle.link_commands.specs.Inputs.{LinkReading, linked_in}
 use Rattle.link_commands.specs.Link.{link_work}
 use Rattle.link_commands.specs.Linked.{IsLinkedBy}
-use Rattle.link_commands.specs.Delivery.{DeliversAll, DeliversUnmet}
-use Rattle.link_commands.proofs.Delivers.{clean_delivers, delivers, never_when_off}
+use Rattle.link_laws.specs.Accidents.{no_accidents}
+use Rattle.link_commands.specs.Delivery.{DeliversAll, DeliversUnmet, PassingAreSenders}
+use Rattle.link_commands.proofs.Delivers.{clean_counts, clean_delivers, counts_blocks, delivers, lists_spans, never_when_off}
 use Rattle.interlaken.specs.declared.request.Request.TheVariants.{Link}
 use Rattle.interlaken.specs.Request.{request_of}
 use Rattle.interlaken.specs.Run.{OutcomeOf}
@@ -27,20 +27,24 @@ module _ (i : LinkReading) (stream : List Word) (o : Outcome) (h : IsLinkedBy i 
 
   unmet_of : DeliversUnmet i stream h.over (content_of o.files) → OutcomeUnmet i stream o h
   unmet_of d = record {
-    epochs = d.epochs;
-    are = d.are;
-    table = d.table;
-    captures = λ channel has. d.captures channel (sent_there channel has);
+    epochs = h.over.epochs;
+    are = h.over.are_epochs;
+    table = lists_spans i stream o h;
+    captures = λ channel has. d channel (sent_there channel has);
   }
 
-  all_of : DeliversAll i stream h.over (content_of o.files) → OutcomeAll i stream o h
-  all_of d = record {
-    none = d.none;
+  -- each passing block is the sender's
+  passing_of : h.counts.stretches ≡ 0 → PassingAreSenders i stream h.over
+  passing_of none = (counts_blocks i stream o h).none.0 none
+
+  all_of : h.counts ≡ no_accidents → DeliversUnmet i stream h.over (content_of o.files) → DeliversAll i stream h.over (content_of o.files) → OutcomeAll i stream o h
+  all_of none unmet d = record {
+    none = none;
     unmet = record {
-      epochs = d.unmet.epochs;
-      are = d.unmet.are;
-      table = d.unmet.table;
-      captures = λ channel has. d.unmet.captures channel (sent_there channel has);
+      epochs = h.over.epochs;
+      are = h.over.are_epochs;
+      table = lists_spans i stream o h;
+      captures = λ channel has. unmet channel (sent_there channel has);
     };
     two = d.two;
     meet_none = d.meet_none;
@@ -66,10 +70,12 @@ module _ (words : List (List ℕ)) (status : Status) (u : Files) (x y : Option F
     }
 
   deliver_at : OutcomesDeliver words u status x y
-  deliver_at = of_outcomes _ (λ name i stream o is h none. unmet_of i stream o h (delivers u name i stream o is h none))
+  deliver_at = of_outcomes _ (λ name i stream o is h none. unmet_of i stream o h (delivers u name i stream o is h (passing_of i stream o h none)))
 
   clean_at : OutcomesDeliverClean words u status x y
-  clean_at = of_outcomes _ (λ name i stream o is h whole within. all_of i stream o h (clean_delivers u name i stream o is h whole within))
+  clean_at = of_outcomes _ (λ name i stream o is h whole within.
+      let all = clean_delivers u name i stream o is h whole within in
+      all_of i stream o h (clean_counts i stream o h whole within) (delivers u name i stream o is h all.passing) all)
 
   when_on_at : OutcomesWhenOn words u status x y
   when_on_at = of_outcomes _ (λ name i stream o is h. never_when_off i stream h.over)

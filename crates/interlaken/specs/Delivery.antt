@@ -1,5 +1,5 @@
 -- The delivery theorem, of a run of `link`.
-use Rattle.std.specs.Prelude.{◌≡◌, ◌<◌, ℕ, List, [], Option, Some, Ok, get_or}
+use Rattle.std.specs.Prelude.{◌≡◌, ◌⊎◌, ◌<◌, ℕ, List, [], ◌∷◌, Option, Some, Ok, codes, get_or}
 use Rattle.lk_base.specs.declared.word.Word.{Word}
 use Rattle.lane_model.specs.Damage.{IsWithinDepth}
 use Rattle.lk_outside.specs.Files.{Files, Told, file}
@@ -10,7 +10,8 @@ use Rattle.run_shell.specs.Outcome.{Outcome, IsAnswer}
 use Rattle.stream_commands.specs.Off.{NoBurstWhenOff}
 use Rattle.link_commands.specs.Inputs.{LinkReading, linked_in}
 use Rattle.link_commands.specs.Linked.{IsLinked, IsLinkedBy, IsSentBy}
-use Rattle.link_commands.specs.Delivery.{AllUndamaged, DeliversAll, DeliversUnmet, LacksAPacket, LosesNoLock, NarrowSpans, SendsAll, TellsMissing}
+use Rattle.link_laws.specs.Accidents.{no_accidents}
+use Rattle.link_commands.specs.Delivery.{AllUndamaged, CountsBlocks, DeliversAll, DeliversUnmet, LacksAPacket, ListsSpans, LosesNoLock, NarrowSpans, PassingAreSenders, SendsAll, TellsMissing}
 use Rattle.interlaken.specs.declared.request.Request.TheVariants.{Link}
 use Rattle.interlaken.specs.Request.{request_of}
 use Rattle.interlaken.specs.Answered.{IsAnswered}
@@ -26,9 +27,9 @@ pub record SentSay (Says : (i : LinkReading) → (stream : List Word) → IsSent
   pub some : (stream : List Word) × IsSentBy i stream
   pub each : (stream : List Word) (h : IsSentBy i stream) → Told old new (λ before after. AreWritten i h.lanes (file after) × Says i stream h (file after))
 
--- what is said of what was sent, of a run of `link` with a valid plan, whose inputs and schedule are accepted, that came to an answer
+-- what is said of what was sent, of a run of `link` with a valid plan, whose inputs and schedule are accepted, that is done or held
 abbrev pub OfSent : ((i : LinkReading) → (stream : List Word) → IsSentBy i stream → (List ℕ → Option (List ℕ)) → Type 0) → List (List ℕ) → Files → Status → Option Files → Option Files → Type 0
-OfSent Says words files status old new = (name : List ℕ) (i : LinkReading) → request_of words ≡ Some (Link name) → linked_in files name ≡ Ok i → IsAnswer status → SentSay Says i old new
+OfSent Says words files status old new = (name : List ℕ) (i : LinkReading) → words ≡ codes "link" ∷ name ∷ [] → linked_in files name ≡ Ok i → (status ≡ Done) ⊎ (status ≡ Held) → SentSay Says i old new
 
 -- The inputs come to an outcome. Each outcome to which they come, of whatever stream and in whatever way, was answered, and this is
 -- said of it.
@@ -40,14 +41,26 @@ pub record LinksSay (Says : (i : LinkReading) → (stream : List Word) → (o : 
 abbrev pub OfLinks : ((i : LinkReading) → (stream : List Word) → (o : Outcome) → IsLinkedBy i stream o → Type 0) → List (List ℕ) → Files → Status → Option Files → Option Files → Type 0
 OfLinks Says words files status old new = (name : List ℕ) (i : LinkReading) → request_of words ≡ Some (Link name) → linked_in files name ≡ Ok i → IsAnswer status → LinksSay Says i status old new
 
--- Where of the accidents `stretches` is 0, the file of each listed channel is exactly the capture of the sent packets, in order,
--- whose word positions meet no fault span that the received lane bits show.
+-- Where each CRC24 block that passed at the receiver is the sender's, the file of each listed channel is exactly the capture of the
+-- sent packets, in order, whose word positions meet no fault span that the received lane bits show.
 abbrev pub Delivers : List (List ℕ) → Files → Status → Option Files → Option Files → Type 0
-Delivers = OfSent (λ i stream h file_of. h.counts.stretches ≡ 0 → DeliversUnmet i stream h file_of)
+Delivers = OfSent (λ i stream h file_of. PassingAreSenders i stream h → DeliversUnmet i stream h file_of)
 
--- With no bit damaged and the skews within the deskew depth, no accident was counted and no span meets a packet.
+-- With no bit damaged and the skews within the deskew depth, each of those blocks is the sender's and no span meets a packet.
 abbrev pub DeliversClean : List (List ℕ) → Files → Status → Option Files → Option Files → Type 0
 DeliversClean = OfSent (λ i stream h file_of. AllUndamaged i.reading.plan.settings i.schedule stream → IsWithinDepth i.reading.plan.settings i.schedule.skews → DeliversAll i stream h file_of)
+
+-- The span table lists exactly the fault spans that the received lane bits show.
+abbrev pub ListsAllSpans : List (List ℕ) → Files → Status → Option Files → Option Files → Type 0
+ListsAllSpans = OfSent ListsSpans
+
+-- The printed count of `stretches` is that of the blocks that passed and are not the sender's, so it is 0 exactly if each is.
+abbrev pub CountsAllBlocks : List (List ℕ) → Files → Status → Option Files → Option Files → Type 0
+CountsAllBlocks = OfLinks CountsBlocks
+
+-- With no bit damaged and the skews within the deskew depth, no accident is counted.
+abbrev pub CountsNone : List (List ℕ) → Files → Status → Option Files → Option Files → Type 0
+CountsNone = OfLinks (λ i stream o h. AllUndamaged i.reading.plan.settings i.schedule stream → IsWithinDepth i.reading.plan.settings i.schedule.skews → h.counts ≡ no_accidents)
 
 -- With no bit damaged and the skews within the deskew depth, the report of each lane has one lock, declared at the sender's Sync number
 -- 3 and never lost.
@@ -67,7 +80,7 @@ HeldLacksAPacket words files status old new = OfLinks (λ i stream o h. status �
 -- strictly between them. And where two control words or more after the last of those were received as they were sent, the span
 -- does not end after the second of them.
 abbrev pub SpansAreNarrow : List (List ℕ) → Files → Status → Option Files → Option Files → Type 0
-SpansAreNarrow words files status old new = OfLinks (λ i stream o h. h.over.counts.groups ≡ 0 → h.over.counts.stretches ≡ 0 → LosesNoLock h.reports → NarrowSpans i stream o h) words files status old new
+SpansAreNarrow words files status old new = OfLinks (λ i stream o h. h.counts.groups ≡ 0 → h.counts.stretches ≡ 0 → LosesNoLock h.reports → NarrowSpans i stream o h) words files status old new
 
 -- The text lists the sent packets that did not come, in the order of their SOP words, and no other; where `stretches` is 0, these
 -- are the sent packets that meet a fault span, each listed with the first.

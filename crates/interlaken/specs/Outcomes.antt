@@ -64,7 +64,7 @@ pub record OutcomeUnmet (i : LinkReading) (stream : List Word) (o : Outcome) (h 
 -- No accident was counted, there are two fault spans, and no sent packet meets one: the outcome's file of each channel of the
 -- receiver is exactly the capture of all sent packets, in order.
 pub record OutcomeAll (i : LinkReading) (stream : List Word) (o : Outcome) (h : IsLinkedBy i stream o) : Type 0 where
-  pub none : h.over.counts ≡ no_accidents
+  pub none : h.counts ≡ no_accidents
   pub unmet : OutcomeUnmet i stream o h
   pub two : length (spans (items_of unmet.epochs)) ≡ 2
   pub meet_none : (channel : ℕ) → list_all (meets_none (items_of unmet.epochs)) (sent_on i stream h.over channel) ≡ true
@@ -73,7 +73,7 @@ pub record OutcomeAll (i : LinkReading) (stream : List Word) (o : Outcome) (h : 
 
 -- where of the accidents `stretches` is 0
 abbrev pub OutcomesDeliver : List (List ℕ) → Files → Status → Option Files → Option Files → Type 0
-OutcomesDeliver = OfOutcomes (λ i stream o h. h.over.counts.stretches ≡ 0 → OutcomeUnmet i stream o h)
+OutcomesDeliver = OfOutcomes (λ i stream o h. h.counts.stretches ≡ 0 → OutcomeUnmet i stream o h)
 
 -- with no bit damaged and the skews within the deskew depth
 abbrev pub OutcomesDeliverClean : List (List ℕ) → Files → Status → Option Files → Option Files → Type 0

@@ -1,5 +1,5 @@
 //! The calls on a gatherer.
-ghost use Rattle.c_gatherer.specs.Held.{Feeds, FeedsBits, Finishes, Frees, GivesNext, Makes, Reports};
+ghost use Rattle.c_gatherer.specs.Held.{Feeds, FeedsBits, Finishes, Frees, GivesNext, GivesNexts, Makes, Reports};
 
 use c_gatherer::{CGathered, GathererHandle};
 use c_parts::{Refusal, Report};
@@ -83,6 +83,20 @@ pub extern "C" fn interlaken_gatherer_next(
     ensures { GivesNext gatherer.old.at.gatherer gatherer.new.at.gatherer result given.new }
 {
     c_gatherer::next(alloc, gatherer, given)
+}
+
+/// Writes words and breaks and the end, as `next` writes each: as many as there is room for, or up to the first none. Writes how many
+/// these are. It is `DONE` or `NO_GATHERER`.
+#[unsafe(no_mangle)]
+pub extern "C" fn interlaken_gatherer_words(
+    alloc: Global,
+    gatherer: &mut GathererHandle,
+    out: &mut [CGathered],
+    count: &mut usize,
+) -> u32
+    ensures { GivesNexts gatherer.old.at.gatherer gatherer.new.at.gatherer out.old out.new result count.new }
+{
+    c_gatherer::words(alloc, gatherer, out, count)
 }
 
 /// Writes the report of a lane over the bytes that were taken from its ring. It is `DONE`, `NO_LANE` or `NO_GATHERER`.

@@ -1,5 +1,5 @@
 -- What a step or payload words more change of the steps that are found.
-use Rattle.std.proofs.Common.{ℕ, suc, ◌≡◌, refl, sym, ap, ◌∙◌, ◌+◌, ◌*◌, ◌<◌, List, [], ◌∷◌, ◌++◌, length, take, set, get_or, append_assoc, arith}
+use Rattle.std.proofs.Common.{ℕ, suc, ◌≡◌, refl, sym, ap, ◌∙◌, ◌+◌, ◌*◌, ◌<◌, List, [], ◌∷◌, ◌++◌, length, take, set, get_or, append-nil, append_assoc, arith}
 use Rattle.std.proofs.lemmas.Grind.{take-set_at}
 use Rattle.std.proofs.lemmas.List.{length-take-le, take_more}
 use Rattle.lk_base.specs.declared.word.RxWord.{RxWord}
@@ -56,3 +56,28 @@ pub words_more : (found old new : List LaneStep) (number at k : ℕ) (ws : List 
 words_more found old new number at k ws d lt before e =
     e ∙ ap (λ (g : List LaneStep). g ++ payload_step number at k (get_or ws k d) ∷ []) before
     ∙ sym (found_more found (payload_steps number at (take k ws)) (payload_step number at k (get_or ws k d)) (payload_steps number at (take (k + 1) ws)) (payload_taken number at k ws d lt))
+
+-- payload words after payload words
+pub payloads_on : (number at : ℕ) (ws more : List RxWord) → payload_steps number at (ws ++ more) ≡ payload_steps number at ws ++ payload_steps (number + length ws) (at + 67 * length ws) more
+payloads_on number at [] more =
+    let e : number ≡ number + 0 = omega arith in
+    let f : at ≡ at + 67 * 0 = omega arith in
+    ap (λ (n : ℕ). payload_steps n at more) e ∙ ap (λ (a : ℕ). payload_steps (number + 0) a more) f
+payloads_on number at (w ∷ ws) more =
+    let e : number + 1 + length ws ≡ number + suc (length ws) = omega arith in
+    let f : at + 67 + 67 * length ws ≡ at + 67 * suc (length ws) = omega arith in
+    ap (λ (g : List LaneStep). steps.Word w (roles.Payload number) at ∷ g)
+    (payloads_on (number + 1) (at + 67) ws more
+    ∙ ap (λ (n : ℕ). payload_steps (number + 1) (at + 67) ws ++ payload_steps n (at + 67 + 67 * length ws) more) e
+    ∙ ap (λ (a : ℕ). payload_steps (number + 1) (at + 67) ws ++ payload_steps (number + suc (length ws)) a more) f)
+
+pub found_on : (before after : List LaneStep) (number at : ℕ) (ws more : List RxWord) → after ≡ [] →
+    before ++ (payload_steps number at (ws ++ more) ++ after) ≡ (before ++ (payload_steps number at ws ++ after)) ++ payload_steps (number + length ws) (at + 67 * length ws) more
+found_on before after number at ws more none =
+    let old = payload_steps number at ws in
+    let new = payload_steps (number + length ws) (at + 67 * length ws) more in
+    ap (λ (g : List LaneStep). before ++ (payload_steps number at (ws ++ more) ++ g)) none
+    ∙ ap (λ (g : List LaneStep). before ++ g) (append-nil (payload_steps number at (ws ++ more)) ∙ payloads_on number at ws more)
+    ∙ sym (append_assoc before old new)
+    ∙ ap (λ (g : List LaneStep). (before ++ g) ++ new) (sym (append-nil old))
+    ∙ ap (λ (g : List LaneStep). (before ++ (old ++ g)) ++ new) (sym none)

@@ -1,4 +1,4 @@
-ghost use Rattle.std.specs.Prelude.{◌≡◌, ◌<◌, ◌≤◌, ◌+◌, ◌^◌, ◌∷◌, ◌++◌, [], IfOk, false, length};
+ghost use Rattle.std.specs.Prelude.{◌≡◌, ◌<◌, ◌≤◌, ◌+◌, ◌*◌, ◌^◌, ◌∷◌, ◌++◌, [], IfOk, false, true, length, take};
 ghost use Rattle.lock_model.specs.PayloadSteps.{payload_steps};
 ghost use Rattle.lock_model.specs.Shows.{shown_in};
 ghost use Rattle.lane_lock.specs.Found.{found_steps};
@@ -107,25 +107,58 @@ impl StepList {
     }
 
     /// Appends the steps of these payload words. The first has the number `number` in its metaframe and the bit position `at`.
+    #[inline(always)]
     pub fn append_payloads(&mut self, words: &[RxWord], number: u32, at: u64)
         requires few { length words.now ≤ 64 }
-        requires number { number < 2 ^ 24 }
+        requires number { number < 2 ^ 25 }
         requires at { at < 2 ^ 60 }
         requires room { length (found_steps self.old) + length words.now ≤ self.old.room }
         ensures steps { found_steps self.new ≡ found_steps self.old ++ payload_steps number at words.now }
         ensures room { self.new.room ≡ self.old.room }
     {
-        if self.has_words() {
-            self.push_each(words, number, at);
+        self.begin(number, at);
+        if self.goes_on(words.len(), number, at) {
+            self.put_on(words);
         } else {
-            self.set_words(words, number, at);
+            self.push_each(words, number, at);
         }
+    }
+
+    // Says where its payload words begin, if it has none yet.
+    #[inline(always)]
+    fn begin(&mut self, number: u32, at: u64)
+        ensures steps { found_steps self.new ≡ found_steps self.old }
+        ensures room { self.new.room ≡ self.old.room }
+    {
+        if self.count == 0 {
+            self.number = number;
+            self.at = at;
+        }
+    }
+
+    // True if `more` payload words, the first of this number and bit position, are next in the run of its payload words and fit.
+    #[inline(always)]
+    fn goes_on(&self, more: usize, number: u32, at: u64) -> bool
+        requires { more ≤ 64 }
+        ensures last { result ≡ true → self.now.after ≡ [] }
+        ensures fit { result ≡ true → length self.now.words + more ≤ 64 }
+        ensures number { result ≡ true → number ≡ self.now.number + length self.now.words }
+        ensures at { result ≡ true → at ≡ self.now.at + 67 * length self.now.words }
+    {
+        let count = self.payload_words().len();
+        if !self.after.is_empty() || count + more > MOST_WORDS || at < self.at {
+            return false;
+        }
+        if number as u64 != self.number as u64 + count as u64 {
+            return false;
+        }
+        at - self.at == CODE_BITS as u64 * count as u64
     }
 
     // Appends the steps of these payload words as steps.
     fn push_each(&mut self, words: &[RxWord], number: u32, at: u64)
         requires few { length words.now ≤ 64 }
-        requires number { number < 2 ^ 24 }
+        requires number { number < 2 ^ 25 }
         requires at { at < 2 ^ 60 }
         requires room { length (found_steps self.old) + length words.now ≤ self.old.room }
         ensures steps { found_steps self.new ≡ found_steps self.old ++ payload_steps number at words.now }
@@ -137,17 +170,16 @@ impl StepList {
         }
     }
 
-    // Appends the steps of these payload words as words. No payload words and no steps after them are kept yet.
-    fn set_words(&mut self, words: &[RxWord], number: u32, at: u64)
-        requires few { length words.now ≤ 64 }
-        requires none { (self.old.words ≡ []) × (self.old.after ≡ []) }
-        ensures steps { found_steps self.new ≡ found_steps self.old ++ payload_steps number at words.now }
+    // Appends payload words that are next in the run of its payload words.
+    #[inline(always)]
+    fn put_on(&mut self, words: &[RxWord])
+        requires fit { length self.old.words + length words.now ≤ 64 }
+        requires last { self.old.after ≡ [] }
+        ensures steps { found_steps self.new ≡ found_steps self.old ++ payload_steps (self.old.number + length self.old.words) (self.old.at + 67 * length self.old.words) words.now }
         ensures room { self.new.room ≡ self.old.room }
     {
-        self.words[..words.len()].copy_from_slice(words);
-        self.count = words.len();
-        self.number = number;
-        self.at = at;
+        put_words(&mut self.words, self.count, words);
+        self.count += words.len();
     }
 
     /// Returns the steps before the payload words.
@@ -176,5 +208,17 @@ impl StepList {
         ensures { result.now ≡ self.now.after }
     {
         self.after.as_slice()
+    }
+}
+
+// Writes words to the place `at`.
+#[inline(always)]
+fn put_words(plain: &mut [RxWord; MOST_WORDS], at: usize, words: &[RxWord])
+    requires { at + length words.now ≤ 64 }
+    ensures { take (at + length words.now) plain.new ≡ take at plain.old ++ words.now }
+{
+    // Not by `copy_from_slice`: a copy that may overlap puts the words down twice.
+    for place in 0..words.len() {
+        plain[at + place] = words[place];
     }
 }

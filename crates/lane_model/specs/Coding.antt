@@ -26,7 +26,7 @@ code_of inverted word =
 abbrev pub excess : ℕ → ℕ → ℤ
 excess count one = pos one -ℤ pos (count - one)
 
--- the ones less the zeros in the payload and one further zero bit
+-- The ones less the zeros in the payload and one further zero bit. That one is bit 66 of the plain code.
 abbrev pub weight : ℕ → ℤ
 weight x = excess 65 (ones_in 64 x)
 

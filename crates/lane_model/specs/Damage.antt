@@ -31,7 +31,7 @@ received_bit damage (n, b) = if is_dark damage n then false else if is_flipped d
 abbrev pub damaged_bits : LaneDamage → List Bool → List Bool
 damaged_bits damage sent = map (received_bit damage) (enumerate_from 0 sent)
 
--- the received bits of a lane: the ones in front, and then each sent bit
+-- the received bits of a lane: the ones in front, and then each sent bit, inverted, dark or as it was
 abbrev pub received_bits : LaneDamage → List Bool → List Bool
 received_bits damage sent = replicate damage.skew true ++ damaged_bits damage sent
 
@@ -39,6 +39,6 @@ received_bits damage sent = replicate damage.skew true ++ damaged_bits damage se
 abbrev pub IsUndamaged : LaneDamage → List Bool → Type 0
 IsUndamaged damage sent = damaged_bits damage sent ≡ sent
 
--- the greatest of these skews less the least is at most that of the words by which lanes may be apart
+-- no two of these skews differ by more than the bits of `deskew` words
 abbrev pub IsWithinDepth : Settings → List ℕ → Type 0
 IsWithinDepth s skews = (a b : ℕ) → Contains skews a → Contains skews b → a ≤ b + 67 * s.deskew

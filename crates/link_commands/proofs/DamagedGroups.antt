@@ -88,27 +88,27 @@ module _ (packets : List (ℕ × List ℕ)) (source : Source) (w : List Word) (s
   over_lane tracks = record { tracks = tracks; over = true }
 
   -- the lanes of the accidents
-  whole : map (whole_lane two_lanes) h.over.are_counts.lanes ≡ over_lanes_of w
+  whole : map (whole_lane two_lanes) h.are_counts.lanes ≡ over_lanes_of w
   whole =
-      sym (map-map over_lane (tracks_received two_lanes) h.over.are_counts.lanes) ∙ ap (map over_lane) (locked h.over.are_counts.lanes h.over.are_counts.bits)
+      sym (map-map over_lane (tracks_received two_lanes) h.are_counts.lanes) ∙ ap (map over_lane) (locked h.are_counts.lanes h.are_counts.bits)
 
-  its_groups : AreGrouped two_lanes h.over.are_counts.lanes (three_groups_of w ∷ [])
+  its_groups : AreGrouped two_lanes h.are_counts.lanes (three_groups_of w ∷ [])
   its_groups = subst (λ (lanes : List LaneSoFar). EpochsSoFar two_lanes two_lanes.deskew lanes None (three_groups_of w ∷ [])) (sym whole) (grouped w)
 
-  pub none_there : accidents_in (sent_over (flipped_reading packets) w) (locks_of w) (three_groups_of w ∷ []) ≡ no_accidents → h.over.counts ≡ no_accidents
+  pub none_there : accidents_in (sent_over (flipped_reading packets) w) (locks_of w) (three_groups_of w ∷ []) ≡ no_accidents → h.counts ≡ no_accidents
   none_there none =
-      h.over.are_counts.counted
-      ∙ ap₂ (accidents_in (sent_over (flipped_reading packets) w)) (locked h.over.are_counts.lanes h.over.are_counts.bits)
-      (grouped_same two_lanes h.over.are_counts.lanes h.over.are_counts.lanes h.over.are_counts.epochs (three_groups_of w ∷ []) (lit< tt) refl h.over.are_counts.are its_groups)
+      h.are_counts.counted
+      ∙ ap₂ (accidents_in (sent_over (flipped_reading packets) w)) (locked h.are_counts.lanes h.are_counts.bits)
+      (grouped_same two_lanes h.are_counts.lanes h.are_counts.lanes h.are_counts.epochs (three_groups_of w ∷ []) (lit< tt) refl h.are_counts.are its_groups)
       ∙ none
 
   pub one_epoch : (all : List Epoch) → AreReceived two_lanes (map bits_of_bytes h.over.lanes) all → all ≡ damaged_epoch_of w ∷ []
   one_epoch all are =
       epochs_determined two_lanes (map bits_of_bytes h.over.lanes) all (damaged_epoch_of w ∷ []) (lit< tt) are
-      (record { lanes = h.over.are_counts.lanes; bits = h.over.are_counts.bits; are = grouped_epochs two_lanes h.over.are_counts.lanes (three_groups_of w ∷ []) its_groups })
+      (record { lanes = h.are_counts.lanes; bits = h.are_counts.bits; are = grouped_epochs two_lanes h.are_counts.lanes (three_groups_of w ∷ []) its_groups })
 
   pub lose_none : LosesNoLock h.reports
-  lose_none = reports_kept two_lanes h.over.lanes h.reports h.over.are_counts.lanes h.over.are_counts.bits h.are_reports (have_locks source w stream six h.over.lanes h.over.are_counts.lanes h.over.are_lanes h.over.are_counts.bits).1
+  lose_none = reports_kept two_lanes h.over.lanes h.reports h.are_counts.lanes h.are_counts.bits h.are_reports (have_locks source w stream six h.over.lanes h.are_counts.lanes h.over.are_lanes h.are_counts.bits).1
 
   pub setting_is : h.setting ≡ channel_1
   unfolding channels_in_order

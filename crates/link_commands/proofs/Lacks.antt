@@ -104,7 +104,7 @@ lacks_one place source channel z w stream finish left =
 
 module _ (i : LinkReading) (stream : List Word) (o : Outcome) (h : IsLinkedBy i stream o) where
   abbrev lines : List ℕ
-  lines = link_text h.over.source stream h.reports h.setting h.events h.over.counts (missing_lines h.sent (missing_among (sent_over i stream) h.events h.sent))
+  lines = link_text h.over.source stream h.reports h.setting h.events h.counts (missing_lines h.sent (missing_among (sent_over i stream) h.events h.sent))
 
   lacks_on : (channel : ℕ) → IsHeldOn h.over.source stream channel → o.text ≡ lines ++ held_line channel → LacksAPacket i stream o h
   lacks_on channel (z, finish, least) text = record {

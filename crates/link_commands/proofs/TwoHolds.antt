@@ -41,7 +41,7 @@ use Rattle.link_commands.specs.PremisesMet.{one_to_eight, plan_name}
 use Rattle.link_commands.specs.TwoPacketsMet.{OneOfTwoArrives, eight_more, second_packet, two_entries, two_epoch, two_files, two_packets, two_reading, two_words}
 use Rattle.plan_inputs.proofs.ListedFiles.{HaveBytes, files_of_bytes}
 use Rattle.link_commands.proofs.DamagedGroups.{events_are, lose_none, none_there, one_epoch}
-use Rattle.link_commands.proofs.Delivers.{delivers}
+use Rattle.link_commands.proofs.Delivers.{counts_blocks, delivers, lists_spans}
 use Rattle.link_commands.proofs.LinkWork.{lawful_link}
 use Rattle.link_commands.proofs.PremisesHold.{done_by}
 use Rattle.link_commands.proofs.TwoStream.{two_stream}
@@ -143,7 +143,7 @@ abbrev two_to_send : List (ℕ × List ℕ)
 two_to_send = (1, one_to_eight) ∷ (1, eight_more) ∷ []
 
 module _ (o : Outcome) (h : IsLinkedBy two_reading two_words o) where
-  none : h.over.counts ≡ no_accidents
+  none : h.counts ≡ no_accidents
   none = none_there two_to_send two_packets two_words two_stream refl o h none_counted
 
   its_epoch : (all : List Epoch) → AreReceived two_lanes (map bits_of_bytes h.over.lanes) all → all ≡ epochs
@@ -163,15 +163,15 @@ module _ (o : Outcome) (h : IsLinkedBy two_reading two_words o) where
   -- ---- its files
 
   unmet : DeliversUnmet two_reading two_words h.over (content_of o.files)
-  unmet = delivers two_files plan_name two_reading two_words o two_read h (ap (λ (c : Accidents). c.stretches) none)
+  unmet = delivers two_files plan_name two_reading two_words o two_read h ((counts_blocks two_reading two_words o h).none.0 (ap (λ (c : Accidents). c.stretches) none))
 
   table : content_of o.files (spans_name (codes "o")) ≡ Some (span_table three_spans)
-  table = unmet.table ∙ ap (λ (es : List Epoch). Some (span_table (spans (items_of es)))) (its_epoch unmet.epochs unmet.are) ∙ ap (λ ss. Some (span_table ss)) spans_are
+  table = lists_spans two_reading two_words o h ∙ ap (λ (es : List Epoch). Some (span_table (spans (items_of es)))) (its_epoch h.over.epochs h.over.are_epochs) ∙ ap (λ ss. Some (span_table ss)) spans_are
 
   capture : content_of o.files (capture_name (codes "o") 1) ≡ Some (capture_bytes 1 (eight_more ∷ []))
   capture =
-      unmet.captures 1 (subst (λ (x : Source). Contains x.channels 1) (sym (source_is h.over.source h.over.is_source)) (0, lit< tt, refl))
-      ∙ ap₂ (λ (es : List Epoch) (ps : List Packet). Some (capture_bytes 1 (received.bytes_of (filter (meets_none (items_of es)) ps)))) (its_epoch unmet.epochs unmet.are) sent_is
+      unmet 1 (subst (λ (x : Source). Contains x.channels 1) (sym (source_is h.over.source h.over.is_source)) (0, lit< tt, refl))
+      ∙ ap₂ (λ (es : List Epoch) (ps : List Packet). Some (capture_bytes 1 (received.bytes_of (filter (meets_none (items_of es)) ps)))) (its_epoch h.over.epochs h.over.are_epochs) sent_is
       ∙ ap (λ (ps : List Packet). Some (capture_bytes 1 (received.bytes_of ps))) meets_one
 
 pub one_of_two : OneOfTwoArrives

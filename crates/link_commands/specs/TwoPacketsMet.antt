@@ -85,7 +85,7 @@ pub record OneOfTwoArrives : Type 0 where
   -- the bits of the written lanes show this epoch, and no other
   pub one_epoch : (epochs : List Epoch) → AreReceived two_lanes (map bits_of_bytes linked.over.lanes) epochs → epochs ≡ two_epoch ∷ []
   -- no accident is counted, and no declared lock was lost
-  pub none : linked.over.counts ≡ no_accidents
+  pub none : linked.counts ≡ no_accidents
   pub kept : LosesNoLock linked.reports
   pub are : spans (items_of (two_epoch ∷ [])) ≡ three_spans
   pub table : content_of outcome.files (spans_name (codes "o")) ≡ Some (span_table three_spans)

@@ -5,4 +5,4 @@ mod Standing
 mod SameRows
 mod Called
 mod Runs
-mod Steps
+mod CallLists

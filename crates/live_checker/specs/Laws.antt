@@ -70,29 +70,29 @@ LiveRowsAreInOrder = (p : Plan) (words : List RxWord) → live_faults p words �
 
 -- ---- words and words of flow control, in the order in which they are given
 
-pub data Call : Type 0 where
+pub data Input : Type 0 where
   -- the next word
-  GiveWord : RxWord → Call
+  GiveWord : RxWord → Input
   -- a word of flow control, which counts from the next word on
-  GiveFlow : ℕ → Call
+  GiveFlow : ℕ → Input
 
 -- the words among them
-abbrev pub words_in : List Call → List RxWord
+abbrev pub words_in : List Input → List RxWord
 words_in [] = []
-words_in (GiveWord word ∷ calls) = word ∷ words_in calls
-words_in (GiveFlow heard ∷ calls) = words_in calls
+words_in (GiveWord word ∷ inputs) = word ∷ words_in inputs
+words_in (GiveFlow heard ∷ inputs) = words_in inputs
 
 -- each word of flow control among them as a row: its slot is the number of words that come before it, after n words
-abbrev pub rows_in : ℕ → List Call → List FlowRow
+abbrev pub rows_in : ℕ → List Input → List FlowRow
 rows_in n [] = []
-rows_in n (GiveWord word ∷ calls) = rows_in (suc n) calls
-rows_in n (GiveFlow heard ∷ calls) = record { slot = n; word = heard } ∷ rows_in n calls
+rows_in n (GiveWord word ∷ inputs) = rows_in (suc n) inputs
+rows_in n (GiveFlow heard ∷ inputs) = record { slot = n; word = heard } ∷ rows_in n inputs
 
 -- what was given to a checker, with these given after it
-abbrev pub after : List Call → Checked → Checked
+abbrev pub after : List Input → Checked → Checked
 after [] x = x
-after (GiveWord word ∷ calls) x = after calls (with_word word x)
-after (GiveFlow heard ∷ calls) x = after calls (with_heard heard x)
+after (GiveWord word ∷ inputs) x = after inputs (with_word word x)
+after (GiveFlow heard ∷ inputs) x = after inputs (with_heard heard x)
 
 -- the same, if these faults were given back, and the words were ended or not
 abbrev pub told_of : Checked → List Fault → Bool → Checked
@@ -104,6 +104,6 @@ plan_with limits channels entries rows = record { limits = limits; channels = ch
 
 -- What a checker gave, and then what is due, are the faults of the words by the plan with the rows.
 abbrev pub LawOnCalls : Type 0
-LawOnCalls = (limits : WordLimits) (channels entries : List ℕ) (calls : List Call) (given : List Fault) (finished : Bool) (t : State) →
-    Checks t (told_of (after calls (nothing_checked limits channels entries)) given finished) →
-    AreSameRows (given ++ t.due) (faults (plan_with limits channels entries (rows_in 0 calls)) (words_in calls))
+LawOnCalls = (limits : WordLimits) (channels entries : List ℕ) (inputs : List Input) (given : List Fault) (finished : Bool) (t : State) →
+    Checks t (told_of (after inputs (nothing_checked limits channels entries)) given finished) →
+    AreSameRows (given ++ t.due) (faults (plan_with limits channels entries (rows_in 0 inputs)) (words_in inputs))

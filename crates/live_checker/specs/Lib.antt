@@ -3,5 +3,5 @@ pub mod States
 pub mod Standing
 pub mod Calls
 pub mod Laws
-pub mod Steps
+pub mod CallLists
 pub mod Examples

@@ -1,6 +1,6 @@
 //! The laws on faults that are told as words come.
 ghost use Rattle.live_checker.specs.Laws.{LawOnCalls, LiveRowsAreInOrder, LiveRowsAreRows};
-ghost use Rattle.live_checker.specs.Steps.{StepsCheck, StepsTellFaults};
+ghost use Rattle.live_checker.specs.CallLists.{CallsCheck, CallsTellFaults};
 
 /// The faults that words show one by one are the faults of all words together. The rows of all rules but `empty` are the same list,
 /// and so are the rows of `empty`.
@@ -24,6 +24,6 @@ pub fn faults_are_those_of_check()
 /// that they gave back, and then those that are due, are the faults of all words that were taken, in the same two lists: the rows of
 /// `empty`, and all others.
 pub fn calls_lead_to_checks()
-    ensures check { StepsCheck }
-    ensures tell { StepsTellFaults }
+    ensures check { CallsCheck }
+    ensures tell { CallsTellFaults }
 {}

@@ -5,7 +5,7 @@ use Rattle.lk_base.specs.declared.word.Aligned.TheVariants.{Group, Word, Break}
 use Rattle.lk_base.specs.declared.word.RxWord.{RxWord}
 use Rattle.lk_base.specs.Link.{Settings}
 use Rattle.epoch_model.specs.SoFar.{EpochSoFar, break_of, items_of_epoch}
-use Rattle.event_model.proofs.KnownItems.{whole_items_end}
+use Rattle.event_model.proofs.KnownEvents.{whole_items_end}
 use Rattle.live_gatherer.specs.Laws.{AllAreGathered, begun, begun_after, words_given}
 use Rattle.live_gatherer.specs.Numbers.{numbered}
 use Rattle.live_gatherer.proofs.LawsHold.{numbered_are_gathered}

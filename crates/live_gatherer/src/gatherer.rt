@@ -134,6 +134,8 @@ impl LiveGatherer {
 
     /// The next word or break, or the end. `None` exactly if a lane that is not finished lacks bytes, and all that is known was given,
     /// or after the end, which comes once.
+    // why: it has two callers, and as a call of its own it takes a fifth more instructions.
+    #[inline(always)]
     pub fn next(&mut self) -> Option<Gathered>
         ensures { IsNext self.old self.new result }
     {

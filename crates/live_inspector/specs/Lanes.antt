@@ -68,7 +68,7 @@ pub record Takes (l m : Lane) (piece : List ℕ) (n : ℕ) : Type 0 where
   pub waits : (l.due ≡ [] → ⊥) → n ≡ 0
   -- if none is due before and after, all are
   pub all : l.due ≡ [] → m.due ≡ [] → n ≡ length piece
-  -- no byte is taken past the word whose events are due: all bytes but the last seven show none
+  -- at most six bytes are taken past the byte that shows an event: all bytes but the last seven show none
   pub soon : (k : ℕ) → k + 7 ≤ n → (s : Settings) (t : Told) → Stands s l t → AreLaneEvents s (bits_of_bytes (t.bytes ++ take k piece)) (t.given ++ l.due)
   -- nothing else happened
   pub stands : (s : Settings) (t : Told) → Stands s l t → Stands s m (took (take n piece) t)

@@ -535,6 +535,7 @@ _GATHERER_CALLS = {
     "feed": (_handle, _u32, ctypes.c_char_p, _size, ctypes.POINTER(_size)),
     "finish": (_handle, _u32),
     "next": (_handle, ctypes.POINTER(_Gathered)),
+    "words": (_handle, ctypes.POINTER(_Gathered), _size, ctypes.POINTER(_size)),
     "report": (_handle, _u32, ctypes.POINTER(_Report)),
 }
 
@@ -1080,6 +1081,12 @@ class Gatherer(_OfPlan):
         gathered = _Gathered()
         self._call("next", gathered)
         return gathered.value()
+
+    def words(self, most: int) -> list[Gathered]:
+        """The next words and breaks, and the end: at most `most`, and fewer only if no more are known of what was fed. It is faster than `next`."""
+        gathered, count = (_Gathered * most)(), _size()
+        self._call("words", gathered, most, count)
+        return [value for one in gathered[: count.value] if (value := one.value()) is not None]
 
     def gathered(self) -> Iterator[Gathered]:
         """All words and breaks that are known of what was fed, and the end, if it was not told before."""

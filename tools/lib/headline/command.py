@@ -9,7 +9,7 @@ from headline.clauses import read_clauses
 from headline.items import Item, read_items
 from headline.names import Names, Unresolved
 from headline.pages import html_of
-from headline.reached import reach
+from headline.reached import chapter_of, reach
 from headline.rules import read_rules, rules_of
 from headline.texts import text_of
 
@@ -56,6 +56,11 @@ class Page:
             pairs = ((word, self.printed(lead)) for word, lead in self.reached.names.words_of(item) if lead is not None)
             self.known_leads[item.path] = {word: lead for word, lead in pairs if lead and lead is not item}
         return self.known_leads[item.path]
+
+    def begins_chapter(self, number):
+        """Whether definition number `number`, counted from 1, is the first of its chapter."""
+        order = self.reached.order
+        return number == 1 or chapter_of(order[number - 1]) != chapter_of(order[number - 2])
 
     def first_of_rule(self, item):
         rule = self.rules[item.path]

@@ -4,6 +4,7 @@ import html
 import re
 
 from headline.names import WORD
+from headline.reached import CHAPTERS, chapter_of
 from headline.texts import counts
 from headline.words import kit_words, signs
 
@@ -20,13 +21,15 @@ def html_of(page):
     yield "<h1>%s</h1>" % escaped(page.title)
     yield from ("<p>%s</p>" % escaped(found) for found in counts(page.reached, page.receiver))
     yield from table("How to read it", signs())
+    yield from table("Words of the kit", kit_words(page.reached.kit))
     for comment, clauses in page.groups():
         yield "<p>%s</p>" % escaped(comment)
         for clause in clauses:
             yield '<pre id="clause-%s">%s</pre>' % (clause.name, "\n".join(linked_clause(page, line) for line in clause.lines))
     for number, item in enumerate(page.reached.order, 1):
+        if page.begins_chapter(number):
+            yield "<h2>%s</h2>" % escaped(CHAPTERS[chapter_of(item)][0])
         yield from shown(page, number, item)
-    yield from table("Words of the kit", kit_words(page.reached.kit))
     yield "</body></html>"
 
 

@@ -1,14 +1,22 @@
-"""The definitions that clauses reach, in the order in which a reader needs them."""
+"""The definitions that clauses reach, in chapters, and in each chapter in the order in which a reader needs them."""
 
 import re
 
 from reading.files import Refused
 
 from headline.names import IS_NAME, WORD
+from headline.words import pairs_in
+
+CHAPTERS = [(title, crates.split()) for title, crates in pairs_in("chapters.csv")]
+
+
+def chapter_of(item):
+    """The number of the chapter of a definition: that of its crate, or the last."""
+    return next((number for number, (_, crates) in enumerate(CHAPTERS) if item.crate in crates), len(CHAPTERS) - 1)
 
 
 class Reached:
-    """Definitions in the order in which they are first named, each followed by those that it names; who names each; the definitions
+    """Definitions by chapters, and there in the order in which they are first named, each followed by those that it names; who names each; the definitions
     that are not opened; and the words of the kit."""
 
     def __init__(self, names, closed):
@@ -51,4 +59,5 @@ def reach(names, clauses, scope, closed):
     reached = Reached(names, closed)
     for clause in clauses:
         reached.follow_clause(clause, scope)
+    reached.order.sort(key=chapter_of)
     return reached

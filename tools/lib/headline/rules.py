@@ -30,15 +30,14 @@ def read_rules(top):
 
 
 def rules_of(rules, reached):
-    """The rule of each definition: one that names it in its brackets; or the rule of the definition of its crate that names it first; or one
-    that names its file."""
+    """The rule of each definition: one that names it in its brackets; or the rule of the definition of its file that names it first; or one
+    that names its file; or the rule of the definition of its crate that names it first."""
     found = {}
     for item in reached.order:
         user = reached.users[item.path][0]
-        rule = named(rules, item, item.name)
-        if rule is None and not isinstance(user, str) and user.crate == item.crate:
-            rule = found.get(user.path)
-        rule = rule or named(rules, item, item.stem)
+        theirs = None if isinstance(user, str) or user.crate != item.crate else found.get(user.path)
+        rule = named(rules, item, item.name) or (theirs if theirs and user.stem == item.stem else None)
+        rule = rule or named(rules, item, item.stem) or theirs
         if rule:
             found[item.path] = rule
     return found

@@ -3,10 +3,11 @@
 import collections
 import textwrap
 
+from headline.reached import CHAPTERS, chapter_of
 from headline.words import kit_words, signs
 
 WIDTH = 130
-SHOWN_USERS = 6
+SHOWN_USERS = 2
 
 
 def counts(reached, receiver):
@@ -16,8 +17,8 @@ def counts(reached, receiver):
     if lines:
         theirs = reached.lines(receiver)
         yield "%d lines, %d %%, are the receiver's (%s)." % (theirs, 100 * theirs / lines, ", ".join(sorted(receiver)))
-    if reached.not_opened:
-        yield "Not opened: %s." % ", ".join("%s (%s:%d)" % ((item.name,) + item.place) for item in reached.not_opened)
+    for item in reached.not_opened:
+        yield "Not opened: %s (%s:%d). %s" % ((item.name,) + item.place + (" ".join(line.lstrip("-/ ") for line in item.comment),))
     by_crate = collections.Counter()
     for item in reached.order:
         by_crate[item.crate] += len(item.code())
@@ -32,7 +33,7 @@ def table(title, pairs):
     yield ""
     yield title
     for word, meaning in pairs:
-        yield "    %-32s%s" % (word, meaning)
+        yield "    %-32s %s" % (word, meaning)
 
 
 def users_of(page, item):
@@ -55,6 +56,7 @@ def text_of(page):
     """The lines of the text of a page."""
     yield from (line for found in counts(page.reached, page.receiver) for line in wrapped(found))
     yield from table("How to read it:", signs())
+    yield from table("Words of the kit:", kit_words(page.reached.kit))
     for comment, clauses in page.groups():
         yield ""
         yield from wrapped(comment)
@@ -62,9 +64,10 @@ def text_of(page):
             yield ""
             yield from clause.lines
     for number, item in enumerate(page.reached.order, 1):
+        if page.begins_chapter(number):
+            yield from ("", "==== " + CHAPTERS[chapter_of(item)][0])
         yield ""
         yield "[%d] %s   %s:%d" % ((number, item.name) + item.place)
         yield from wrapped("named by " + users_of(page, item), "    ")
         yield from rule_lines(page, item)
         yield from item.comment + item.lines
-    yield from table("Words of the kit:", kit_words(page.reached.kit))

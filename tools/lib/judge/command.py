@@ -7,6 +7,7 @@ from judge.calendars import is_local, last_calendar, local_change, states_text
 from judge.causes import causes_of
 from judge.events import event_findings
 from judge.faults import fault_findings, place_finding
+from judge.filled import is_by_fill
 from judge.findings import Finding, in_order, judged_table
 from judge.following import Following
 from judge.judged import judged_line
@@ -60,12 +61,13 @@ class Judgement:
         self.findings = in_order(found + without + list(self.calendar_findings()), self.skews)
         for finding in self.findings:
             finding.number = run.number_of(finding.word)
-        self.left_out = self.leave_out(without_kinds)
+        self.leave_out(lambda finding: is_by_fill(run, finding))
+        self.left_out = self.leave_out(lambda finding: finding.what in without_kinds)
         self.lines = list(self.all_lines(lost, following.slips))
 
-    def leave_out(self, kinds):
-        """Leaves out the findings of some kinds and those that follow from them; how many of each kind."""
-        out = {id(finding) for finding in self.findings if finding.what in kinds}
+    def leave_out(self, is_out):
+        """Leaves out some findings and those that follow from them; how many of each kind."""
+        out = {id(finding) for finding in self.findings if is_out(finding)}
         count = 0
         while count < len(out):
             count = len(out)

@@ -4,32 +4,31 @@ A metaframe is read with the scrambler of the device's own register. What is wro
 rewritten, and what is written then is wrong by as much: by the same wrong bit of the metaframe, or else in the same bits of the field.
 """
 
-import csv
-import io
-import mmap
+import os
 import shutil
+import struct
+import tempfile
 from collections import Counter, namedtuple
 from functools import lru_cache
+from itertools import chain
 
 from lanes.adapt_stream import parts_together, skips_of
 from lanes.metaframes import LOOKED_AT, WRONG_STATES, LaneOfSyncs
 from probe.variants import after, jump, steps_on
 from reading.control_words import is_control
 from reading.conventions import Crc32Rule, crc24_part, crc32_part, key_bits, profile_parts
+from reading.lane_words import bits_of
 from reading.metaframes import DIAGNOSTIC_MARK, HALF, SKIP, STATE_BITS, STATE_MARK, SYNC, WORD
-from reading.plans import CODE
 from reading.writing import Outputs, must_be_free, must_have_no_lanes
 
 IDLE_FIELDS, MULTI_USE = 0xFF << 32 | 1 << 61, 0xFF << 24
 TYPE = 1 << 62
-HEADING = ("lane", "bit", "what", "was", "is")
-STEPS_OF_RUNNING = -64  # a register that runs on in the State word is 64 steps further behind it
+INVERTED_ONES = 65  # of the inversion bit and of a payload and its complement
+HEADING = b"lane,bit,what,was,is\n"
 
 # What is adapted: `steps` of the State words, whether the scrambler runs through, the rules of the checksums or None, and whether the
 # fields of idles and the multiple-use bits are cleared.
 Changes = namedtuple("Changes", "steps runs crc32 crc24 idle_fields multi_use")
-# A row of the table.
-Row = namedtuple("Row", "lane bit what was now")
 
 
 @lru_cache(maxsize=None)
@@ -51,8 +50,20 @@ class Metaframe:
         """A word as it came, descrambled."""
         return self.codes.payload(place) ^ self.keys[place - 2]
 
-    def is_bad(self, place):
-        return self.codes.headers[place - self.codes.first] in ("00", "11")
+    def columns(self, first, end):
+        """The headers and the words from a place up to another; of one that is not on the lane both are None."""
+        codes = self.codes
+        begin, last = max(first, codes.first), min(end, codes.end)
+        here = slice(begin - codes.first, max(begin, last) - codes.first)
+        words = [payload ^ key for payload, key in zip(codes.payloads[here], self.keys[begin - 2:])]
+        before, behind = [None] * (min(begin, end) - first), [None] * (end - max(begin, last))
+        return before + codes.headers[here] + behind, before + words + behind
+
+    def scrambled(self, keys):
+        """By place the words behind the State word as they are with other keys, but for bad ones."""
+        begin = max(2, self.codes.first)
+        headers, words = self.columns(begin, self.codes.end)
+        return [(place, word ^ key) for place, header, word, key in zip(range(begin, self.codes.end), headers, words, keys[begin - 2:]) if header in ("01", "10")]
 
     @property
     def is_whole(self):
@@ -70,34 +81,40 @@ class Metaframe:
             if self.codes.headers[place - first] == "10":
                 yield place
 
-    def covered(self, is_new):
+    def is_told(self, skips):
+        """Whether the CRC32 can be judged: no word is missing but framing words in front, which all metaframes have."""
+        return self.codes.end == self.length and self.codes.first <= 2 + skips
+
+    def covered(self, is_new, skips):
         """The bytes that a CRC32 covers, as they came or as they are written: bad words are zeros, and so are the state and the CRC32."""
-        payloads = self.codes.payloads
-        words = payloads[:2] + [payload ^ key for payload, key in zip(payloads[2:], self.keys)]
-        for place, header in enumerate(self.codes.headers):
+        first, payloads = self.codes.first, self.codes.payloads
+        plain = max(0, 2 - first)
+        words = ([SYNC, STATE_MARK << STATE_BITS] + [SKIP] * skips)[:first] + payloads[:plain]
+        words += [payload ^ key for payload, key in zip(payloads[plain:], self.keys[max(0, first - 2):])]
+        for place, header in enumerate(self.codes.headers, first):
             if header in ("00", "11"):
                 words[place] = 0
         if is_new:
             for place, word in self.words.items():
                 words[place] = word
         words[1], words[-1] = words[1] >> STATE_BITS << STATE_BITS, words[-1] >> 32 << 32
-        return b"".join(word.to_bytes(8, "big") for word in words)
+        return struct.pack(">%dQ" % len(words), *words)
 
 
 def words_of(bits, count):
-    data = bits.to_bytes(8 * count, "big")
-    return [int.from_bytes(data[at:at + 8], "big") for at in range(0, 8 * count, 8)]
+    return struct.unpack(">%dQ" % count, bits.to_bytes(8 * count, "big"))
 
 
 class LaneOut:
-    """A lane that is adapted. `counts` has by option (rewritten, right, wrong), and `rows` what was wrong, or all that was rewritten."""
+    """A lane that is adapted. `counts` has by option (rewritten, right, wrong), and `table`, a file, the rows of what
+    was wrong, or of all that was rewritten."""
 
     def __init__(self, number, name, changes, tells_all):
         self.number, self.changes, self.tells_all = number, changes, tells_all
         self.lane = LaneOfSyncs(name)
-        self.counts, self.rows = {}, []
+        self.counts, self.table = {}, tempfile.TemporaryFile()
         self.excess = 0  # of the running disparity as it is written over the device's
-        self.steps = STEPS_OF_RUNNING if changes.runs else changes.steps
+        self.steps = changes.steps
         self.skips = 0  # the Skip words of a metaframe, as soon as they are known
         self.words = self.lane.length - (0 if changes.runs else 2)  # by which the device's register goes on in a metaframe
 
@@ -142,8 +159,8 @@ class LaneOut:
         return found.most_common(1)[0][0] if found else None
 
     def parts(self):
-        """The metaframes of which the state is known."""
-        new_state = None
+        """The metaframes of which the state is known, as soon as one tells how many Skip words they have."""
+        new_state, held = None, []
         for codes, state, is_new in self.states():
             if state is None:
                 new_state = None
@@ -153,8 +170,12 @@ class LaneOut:
             part = Metaframe(codes, self.lane.length, state, new_state)
             if part.is_whole and not self.skips:
                 self.skips = skips_of(part)
-            yield part
+            held.append(part)
+            if self.skips or len(held) > LOOKED_AT:
+                yield from held
+                held = []
             new_state = after(jump(self.lane.length - 2), new_state)
+        yield from held
 
     # ---- what is changed
 
@@ -185,12 +206,9 @@ class LaneOut:
         if self.changes.runs:
             count = part.codes.end - 2
             keys = words_of(key_bits(part.new_state, 64 * count), count) if count > 0 else []
-            for place in range(max(2, part.codes.first), part.codes.end):
-                if not part.is_bad(place):
-                    new[place] = part.words.get(place, part.word(place)) ^ keys[place - 2]
-        else:
-            for place, word in part.words.items():
-                new[place] = word ^ keys[place - 2]
+            new.update(part.scrambled(keys))
+        for place, word in part.words.items():
+            new[place] = word ^ keys[place - 2]
         return new
 
     def adapt_state(self, part, new):
@@ -210,8 +228,8 @@ class LaneOut:
         last = part.length - 1
         word = part.word(last)
         found = word & HALF
-        if part.is_whole and self.changes.crc32:
-            covered, written_over, states = part.covered(False), part.covered(True), after(steps_of(self.steps), part.state)
+        if part.is_told(self.skips) and self.changes.crc32:
+            covered, written_over, states = part.covered(False, self.skips), part.covered(True, self.skips), after(steps_of(self.steps), part.state)
             expected = self.changes.crc32.of(covered, states)
             if found != expected and found == self.changes.crc32.of(self.mended(covered), states):
                 written = Crc32Rule().of(self.mended(written_over), 0)
@@ -244,40 +262,57 @@ class LaneOut:
         counts[1 if is_right else 2] += 1
 
     def tell(self, bit, what, was, now):
-        self.rows.append(Row(self.number, bit, what, was, now))
+        self.table.write(b"%d,%d,%s,%s,%s\n" % (self.number, bit, what.encode(), was.encode(), now.encode()))
 
     # ---- the file
 
     def write(self, file, part, new):
-        """Writes the codes of a metaframe over those of the lane in a file (mmap)."""
+        """Writes the codes of a metaframe over those of the lane in a file."""
         codes = part.codes
-        for place in sorted(new):
-            header, old = codes.headers[place - codes.first], codes.payload(place)
-            if new[place] == old:
-                continue
-            was_inverted = codes.inverted[place - codes.first] == "1"
-            inverted, self.excess = self.inversion(header, old, new[place], was_inverted)
-            put_code(file, codes.bit_of(place), inverted << 66 | int(header, 2) << 64 | (new[place] ^ WORD if inverted else new[place]))
+        for first, end in runs_in([place for place in sorted(new) if new[place] != codes.payload(place)]):
+            here = slice(first - codes.first, end - codes.first)
+            payloads = [new[place] for place in range(first, end)]
+            inverted = self.inverted(codes.payloads[here], payloads, codes.inverted[here])
+            put_codes(file, codes.bit_of(first), inverted, codes.headers[here], payloads)
 
-    def inversion(self, header, old, new, was_inverted):
-        """Whether a code is inverted, so that the running disparity stays nearest to the device's; and by how much it then is over it."""
-        before = ones_of(old, was_inverted)
-        found = [(abs(excess), inverted != was_inverted, inverted, excess) for inverted in (False, True)
-                 for excess in [self.excess + 2 * (ones_of(new, inverted) - before)]]
-        _, _, inverted, excess = min(found)
-        return inverted, excess
+    def inverted(self, olds, news, was_inverted):
+        """Whether codes with new payloads are inverted, each "1" or "0": so that the running disparity stays nearest to the device's, or
+        else as they were."""
+        excess, found = self.excess, []
+        for old, new, is_inverted in zip(map(int.bit_count, olds), map(int.bit_count, news), was_inverted):
+            if is_inverted == "1":
+                old, new = INVERTED_ONES - old, INVERTED_ONES - new
+            as_it_was = excess + 2 * (new - old)
+            turned = as_it_was + 2 * (INVERTED_ONES - 2 * new)
+            if abs(turned) < abs(as_it_was):
+                excess, is_inverted = turned, "0" if is_inverted == "1" else "1"
+            else:
+                excess = as_it_was
+            found.append(is_inverted)
+        self.excess = excess
+        return found
 
 
-def ones_of(payload, is_inverted):
-    """The ones of a code but for its header."""
-    return 65 - payload.bit_count() if is_inverted else payload.bit_count()
+def runs_in(places):
+    """The first and the last + 1 of numbers that follow one another."""
+    first = None
+    for place, behind in zip(places, places[1:] + [None]):
+        first = place if first is None else first
+        if behind != place + 1:
+            yield first, place + 1
+            first = None
 
 
-def put_code(file, bit, code):
-    begin, end = bit // 8, -(-(bit + CODE) // 8)
-    shift = 8 * end - bit - CODE
-    number = int.from_bytes(file[begin:end], "big") & ~((1 << CODE) - 1 << shift) | code << shift
-    file[begin:end] = number.to_bytes(end - begin, "big")
+def put_codes(file, bit, inverted, headers, payloads):
+    """Writes codes that follow one another from a bit on: of each its inversion bit and header as characters, and its payload as it is
+    meant."""
+    sent = [payload ^ WORD if is_inverted == "1" else payload for payload, is_inverted in zip(payloads, inverted)]
+    bits = bits_of(struct.pack(">%dQ" % len(sent), *sent))
+    text = "".join(chain.from_iterable(zip(inverted, headers, [bits[at:at + 64] for at in range(0, len(bits), 64)])))
+    begin, end = bit // 8, -(-(bit + len(text)) // 8)
+    shift = 8 * end - bit - len(text)
+    number = int.from_bytes(os.pread(file.fileno(), end - begin, begin), "big") & ~((1 << len(text)) - 1 << shift) | int(text, 2) << shift
+    os.pwrite(file.fileno(), number.to_bytes(end - begin, "big"), begin)
 
 
 def adapt_lanes(settings):
@@ -291,7 +326,10 @@ def adapt_lanes(settings):
         for lane, part, new in adapted(lanes, settings.changes):
             lane.write(files[lane.number], part, new)
         table = outputs.open(settings.out + ".adapted.csv")
-        table.write(table_of(row for lane in lanes for row in lane.rows).encode())
+        table.write(HEADING)
+        for lane in lanes:
+            lane.table.seek(0)
+            shutil.copyfileobj(lane.table, table)
     return [line for lane in lanes for line in lines_of(lane, settings.changes)]
 
 
@@ -310,18 +348,10 @@ def adapted(lanes, changes):
 def copy_of(outputs, name, lane):
     """A copy of a lane file, as it can be written over."""
     file = outputs.open(name)
-    with open(lane.lane.name, "rb") as source:
-        shutil.copyfileobj(source, file)
+    lane.lane.file.seek(0)
+    shutil.copyfileobj(lane.lane.file, file)
     file.flush()
-    return mmap.mmap(file.fileno(), 0, access=mmap.ACCESS_WRITE)
-
-
-def table_of(rows):
-    text = io.StringIO()
-    writer = csv.writer(text, lineterminator="\n")
-    writer.writerow(HEADING)
-    writer.writerows(rows)
-    return text.getvalue()
+    return file
 
 
 def lines_of(lane, changes):

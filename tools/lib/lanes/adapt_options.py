@@ -11,6 +11,7 @@ from reading.lane_names import in_order
 from reading.plans import PLAN
 
 ADAPT = "adapt"
+STEPS_OF_RUNNING = "-64"  # a register that runs on in the State word is 64 steps further behind it
 # What the options come to: the changes, whether each rewritten word is told, the prefix and the lane files.
 Settings = namedtuple("Settings", "changes tells_all out overwrite files")
 
@@ -19,7 +20,7 @@ def parser_of():
     parser = Options(prog="lanes", usage="lanes adapt [options] --out NEW LANE ..", description="Makes lanes of the profile out of lanes of another convention, each bit at its place.")
     parser.add_argument("files", nargs="+", metavar="LANE", help="the lane files; names that differ in a number only are taken by it")
     parser.add_argument("--out", required=True, metavar="NEW", help="the prefix of what is written: NEW.lane.0, .. and NEW.adapted.csv")
-    parser.add_argument("--state", metavar="N", help="the State words are N steps on, from -%d to %d; or `running`: the scrambler runs through Sync and State words, too" % (MOST_STEPS, MOST_STEPS))
+    parser.add_argument("--state", metavar="N", help="the State words are N steps on, from -%d to %d; or `running`: the scrambler runs through Sync and State words, too; `running,N`: and State words are N steps on" % (MOST_STEPS, MOST_STEPS))
     parser.add_argument("--crc32", metavar="A,..", help="the CRC32 is by these: " + groups_text(CRC32_GROUPS))
     parser.add_argument("--crc24", metavar="A,..", help="the CRC24 is by these: " + groups_text(CRC24_GROUPS))
     parser.add_argument("--idle-fields", choices=("clear",), help="the channel and the SOP bit of idle words become 0")
@@ -57,8 +58,7 @@ def adapt_settings_of(words):
 
 def state_of(parser, text):
     """The steps of the State words, and whether the scrambler runs through."""
-    if text is None or text == RUNNING:
-        return 0, text == RUNNING
-    if not re.fullmatch(r"[+-]?\d{1,3}", text) or abs(int(text)) > MOST_STEPS:
-        parser.error("--state %s: a number from -%d to %d, or %s" % (text[:40], MOST_STEPS, MOST_STEPS, RUNNING))
-    return int(text), False
+    runs, _, number = (text or "0").rpartition(",") if text != RUNNING else (RUNNING, "", STEPS_OF_RUNNING)
+    if runs not in ("", RUNNING) or not re.fullmatch(r"[+-]?\d{1,3}", number) or abs(int(number)) > MOST_STEPS:
+        parser.error("--state %s: a number from -%d to %d, or %s, or %s and such a number" % (text[:40], MOST_STEPS, MOST_STEPS, RUNNING, RUNNING + ","))
+    return int(number), runs == RUNNING

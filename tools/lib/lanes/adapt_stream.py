@@ -1,6 +1,10 @@
 """The CRC24 of lanes that are adapted: it covers words of all of them, so their metaframes are taken together."""
 
-from reading.conventions import Crc24Rule
+import struct
+from functools import lru_cache
+from itertools import chain
+
+from reading.conventions import Crc24Rule, crc24_part
 from reading.metaframes import SKIP
 
 CRC24_BITS = (1 << 24) - 1
@@ -40,37 +44,43 @@ class Stream:
 
     def __init__(self, rule):
         self.rule, self.covered, self.is_known = rule, [], False
-        self.skips = None
 
     def take(self, lanes, parts):
         length = max(part.length for part in parts if part is not None)
-        if self.skips is None:
-            self.skips = next((skips_of(part) for part in parts if part is not None and part.is_whole), None)
-        for place in range(2 + (self.skips or 1), length - 1):
-            for lane, part in zip(lanes, parts):
-                self.word(lane, part, place)
+        first, end = 2 + max(1, *(lane.skips for lane in lanes)), length - 1
+        columns = [([None] * (end - first),) * 2 if part is None else part.columns(first, end) for part in parts]
+        # Words of all lanes that follow one another: each place's, lane by lane.
+        headers, words = (chain.from_iterable(zip(*kind)) for kind in zip(*columns))
+        for number, (header, word) in enumerate(zip(headers, words)):
+            if header == "01":
+                self.covered.append(word)
+            else:
+                place, lane = divmod(number, len(lanes))
+                self.closed(lanes[lane], parts[lane], first + place, header)
 
-    def word(self, lane, part, place):
-        """A word of the stream; nothing is known behind one that is bad or not there."""
-        if part is None or not part.codes.has(place) or part.is_bad(place):
-            self.is_known = False
-        elif part.codes.headers[place - part.codes.first] == "01":
-            self.covered.append(part.word(place).to_bytes(8, "big"))
-        else:
-            if self.is_known:
-                self.control(lane, part, place)
-            self.covered, self.is_known = [], True
+    def closed(self, lane, part, place, header):
+        """A word that is no data word; nothing is known behind one that is bad or not there."""
+        if header == "10" and self.is_known:
+            self.control(lane, part, place)
+        self.covered, self.is_known = [], header == "10"
 
     def control(self, lane, part, place):
         word = part.word(place)
-        new, data = part.words.get(place, word) >> 24 << 24, b"".join(self.covered)
-        wrong = word & CRC24_BITS ^ self.rule.of(data + (word >> 24 << 24).to_bytes(8, "big"))
-        new |= Crc24Rule().of(data + new.to_bytes(8, "big")) ^ wrong
+        data = struct.pack(">%dQ" % (len(self.covered) + 1), *self.covered, word >> 24 << 24)
+        wrong = word & CRC24_BITS ^ self.rule.of(data)
+        changed = part.words.get(place, word) >> 24 << 24 ^ word >> 24 << 24
+        new = word ^ changed ^ crc24_part(changed) ^ crc24_between(self.rule, len(data))
         if new != word:
             part.words[place] = new
         lane.count("--crc24", not wrong)
         if wrong or lane.tells_all:
             lane.tell(part.codes.bit_of(place), "crc24", "%06X" % (word & CRC24_BITS), "%06X" % (new & CRC24_BITS))
+
+
+@lru_cache(maxsize=4096)
+def crc24_between(rule, count):
+    """By what the CRC24 of so many bytes differs by a rule and by the profile's."""
+    return rule.of(bytes(count)) ^ Crc24Rule().of(bytes(count))
 
 
 def skips_of(part):

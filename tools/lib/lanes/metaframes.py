@@ -2,12 +2,13 @@
 slips, and read one after another.
 """
 
-import mmap
+import os
 import struct
 from collections import Counter, namedtuple
+from functools import lru_cache
 
 from reading.files import Refused, shown_name
-from reading.lane_bits import sync_words
+from reading.lane_bits import syncs_in
 from reading.lane_words import bits_of
 from reading.metaframes import STATE, STATE_BITS, STATE_MARK, WORD
 from reading.plans import CODE
@@ -21,6 +22,12 @@ WRONG_STATES = 3  # so many wrong State words in a row are another register
 Run = namedtuple("Run", "first end")
 
 
+@lru_cache(maxsize=16)
+def payloads_of(count):
+    """The form of so many codes as characters, of which it takes the payloads."""
+    return struct.Struct("3x64s" * count)
+
+
 class Codes:
     """Codes of a metaframe from one place on: of each its inversion bit and its header, as characters, and the payloads as they were
     meant, as numbers. `bit` is that of place 0, which may be before the lane."""
@@ -28,8 +35,8 @@ class Codes:
     def __init__(self, bit, first, text):
         self.bit, self.first, self.count = bit, first, len(text) // CODE
         self.inverted, self.headers = text[0::CODE], [high + low for high, low in zip(text[1::CODE], text[2::CODE])]
-        payloads = "".join(text[at + 3:at + CODE] for at in range(0, len(text), CODE))
-        numbers = struct.unpack(">%dQ" % self.count, int("1" + payloads, 2).to_bytes(8 * self.count + 1, "big")[1:])
+        payloads = b"".join(payloads_of(self.count).unpack(text.encode()))
+        numbers = struct.unpack(">%dQ" % self.count, int(payloads, 2).to_bytes(8 * self.count, "big"))
         self.payloads = [number ^ WORD if inverted == "1" else number for number, inverted in zip(numbers, self.inverted)]
 
     @property
@@ -60,12 +67,15 @@ class LaneOfSyncs:
 
     def __init__(self, name):
         self.name = name
-        with open(name, "rb") as file:
-            size = file.seek(0, 2)
-            self.data = mmap.mmap(file.fileno(), 0, access=mmap.ACCESS_READ) if size else b""
-        self.count = 8 * size
+        self.file = open(name, "rb")
+        self.size = self.file.seek(0, os.SEEK_END)
+        self.count = 8 * self.size
         self.length = self.find_length()
         self.period = CODE * self.length
+
+    def part(self, begin, end):
+        """The bytes from one up to another."""
+        return os.pread(self.file.fileno(), end - begin, begin)
 
     def find_length(self):
         """The words of a metaframe, by the distances of Sync words in the first part that has some."""
@@ -86,8 +96,9 @@ class LaneOfSyncs:
     def syncs(self):
         """The bits of the Sync words, in order."""
         seen = -1
-        for begin in range(0, len(self.data), BLOCK):
-            for at in sync_words(bits_of(bytes(self.data[begin:begin + BLOCK + CODE // 8 + 2]))):
+        for begin in range(0, self.size, BLOCK):
+            block = self.part(begin, begin + BLOCK + CODE // 8 + 2)
+            for at in syncs_in(int.from_bytes(block, "big"), 8 * len(block)):
                 if 8 * begin + at > seen:
                     seen = 8 * begin + at
                     yield seen
@@ -110,8 +121,7 @@ class LaneOfSyncs:
         if count <= 0:
             return None
         begin, last = bit + CODE * first, bit + CODE * (first + count)
-        number = int.from_bytes(self.data[begin // 8:-(-last // 8)], "big") >> -last % 8
-        return Codes(bit, first, bin(1 << last - begin | number & (1 << last - begin) - 1)[3:])
+        return Codes(bit, first, bits_of(self.part(begin // 8, -(-last // 8)))[begin % 8:][:last - begin])
 
     def metaframes(self):
         """The metaframes in order, as (run, Codes)."""

@@ -85,7 +85,7 @@ class Scrambler(namedtuple("Scrambler", "is_reversed steps runs plain stands", d
         if self.is_reversed or self.plain or self.stands or not (self.runs or self.steps):
             return None
         if self.runs:
-            return "--state running" if self.steps == -MOST_STEPS else None
+            return "--state running" if self.steps == -MOST_STEPS else "--state running,%d" % self.steps
         return "--state %d" % self.steps
 
     def start(self, carried):

@@ -20,23 +20,60 @@ CRC32_GROUPS = (("highest-first", "bytes-lowest-first", "word-lowest-first"), ("
 CRC24_GROUPS = (("ones", "zeros"), ("complemented", "plain"))
 MOST_STEPS = 64  # State words are at most so many steps on, or back
 RUNNING = "running"
+FOLDED = 1024  # bits of data that a table takes in the end
+PART = 1 << 15  # bytes that are folded at once
 REVERSED_BYTES = bytes(int(format(byte, "08b")[::-1], 2) for byte in range(256))
 
 
 class Wide:
-    """A checksum of `reading.checksums` that takes two bytes at once."""
+    """A checksum of `reading.checksums` that takes two bytes at once, and folds long data until little is left of it."""
 
     def __init__(self, checksum):
         self.width, self.ones = checksum.ones.bit_length(), checksum.ones
         self.drop = self.width - 16
         self.table = [checksum.after(0, pair.to_bytes(2, "big")) for pair in range(1 << 16)]
+        self.powers = [1]  # the remainders of the powers of two
+        self.folds = {}  # by the bits of data, as `folds_of` has them
 
     def after(self, register, data):
         """The register after an even number of bytes."""
+        for at in range(0, len(data), PART):
+            register = self.after_part(register, data[at:at + PART])
+        return register
+
+    def after_part(self, register, data):
+        if 8 * len(data) > FOLDED:
+            register, data = 0, self.folded(int.from_bytes(data, "big") ^ register << 8 * len(data) - self.width, 8 * len(data))
         table, ones, drop = self.table, self.ones, self.drop
         for pair in struct.unpack(">%dH" % (len(data) // 2), data):
             register = register << 16 & ones ^ table[register >> drop ^ pair]
         return register
+
+    def folded(self, number, length):
+        """Few bytes with the same checksum as so many bits, from a register of zeros."""
+        if length not in self.folds:
+            self.folds[length] = list(self.folds_of(length))
+        for split, low, shifts in self.folds[length]:
+            high = number >> split
+            number &= low
+            for shift in shifts:
+                number ^= high << shift
+        return number.to_bytes(FOLDED // 8, "big")
+
+    def folds_of(self, length):
+        """How so many bits are folded: (the bits that stay, their mask, and the bits that one bit behind them is by the polynomial)."""
+        while length > FOLDED:
+            half = length + self.width >> 1
+            split = min(range(half, half + length // 16 + 1), key=lambda place: self.power(place).bit_count())
+            yield split, (1 << split) - 1, [bit for bit in range(self.width) if self.power(split) >> bit & 1]
+            length = max(split, length - split + self.width - 1)
+
+    def power(self, place):
+        """The remainder of a power of two."""
+        while len(self.powers) <= place:
+            register = self.powers[-1] << 1
+            self.powers.append(register & self.ones ^ (self.table[1] if register > self.ones else 0))
+        return self.powers[place]
 
 
 @lru_cache(maxsize=None)
@@ -68,7 +105,8 @@ class Crc32Rule(namedtuple("Crc32Rule", "order field start end state diagnostic"
         if self.diagnostic == "diagnostic-left-out":
             words = words[:-8]
         if self.order == "word-lowest-first":
-            words = b"".join(words[at:at + 8][::-1] for at in range(0, len(words), 8))
+            count = len(words) // 8
+            words = struct.pack("<%dQ" % count, *struct.unpack(">%dQ" % count, words))
         is_reflected = self.order != "highest-first"
         register = wide(32).after(0 if self.start == "zeros" else HALF, words.translate(REVERSED_BYTES) if is_reflected else words)
         return reflected(register, 32) if is_reflected else register
@@ -137,6 +175,7 @@ def crc32_rules():
 
 # ---- the linear parts
 
+@lru_cache(maxsize=4096)
 def crc24_part(delta):
     """What bits of a control word add to its CRC24."""
     return CRC24.after(0, delta.to_bytes(8, "big"))

@@ -11,17 +11,31 @@ from reading.metaframes import STATE, STATE_BITS, STATE_MARK, SYNC
 from reading.plans import CODE
 
 FIRST_STATE = STATE  # of lane 0; that of lane i is less by i
+ROUND = 16  # a Sync word repeats so many bits
+# Bit n is 1 if, of a code with the payload of a Sync word, the bits n and n + 1 differ.
+SYNC_TURNS = sum((SYNC >> 63 - place ^ SYNC >> 62 - place) % 2 << 3 + place for place in range(ROUND - 1))
 
 
 def sync_words(bits):
     """The bits at which Sync words begin, inverted ones among them."""
-    found = []
-    for pattern in ("010" + format(SYNC, "064b"), "110" + format(~SYNC & (1 << 64) - 1, "064b")):
-        at = bits.find(pattern)
-        while at >= 0:
-            found.append(at)
-            at = bits.find(pattern, at + 1)
-    return sorted(found)
+    return syncs_in(int(bits or "0", 2), len(bits))
+
+
+def syncs_in(number, length):
+    """The same of a number of so many bits, the first of them highest: each bit of it is looked at at once."""
+    every = (1 << length) - 1
+    alike = every & ~(number ^ number << ROUND)
+    for reach in (1, 2, 4, 8, ROUND, ROUND):
+        alike &= alike << reach  # so 48 bits are those 16 places on
+    turns = number ^ number << 1
+    # A header 10, a payload that begins with the inversion bit and repeats 16 bits, and these.
+    found = alike << 3 & number << 1 & (number ^ every) << 2 & ~(number ^ number << 3)
+    for place in range(3, 2 + ROUND):
+        found &= (turns if SYNC_TURNS >> place & 1 else turns ^ every) << place
+    found = (found & every) >> CODE - 1 << CODE - 1
+    data = found.to_bytes(-(-length // 8), "big")
+    late = 8 * len(data) - length
+    return [8 * some.start() + 8 - some[0][0].bit_length() - late for some in re.finditer(rb"[^\0]", data)]
 
 
 def first_state(bits):

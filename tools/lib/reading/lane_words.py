@@ -14,9 +14,16 @@ HEADERS, ILLEGAL, SEARCHED = 64, 16, 6
 Word = namedtuple("Word", "bit lock header inverted disparity framed")
 
 
+# For each bit of a byte, from the highest on, the characters of all bytes.
+BITS = [bytes(48 + (byte >> 7 - place & 1) for byte in range(256)) for place in range(8)]
+
+
 def bits_of(data):
     """Bytes as a text of 0 and 1."""
-    return bin(int.from_bytes(b"\1" + data, "big"))[3:]
+    text = bytearray(8 * len(data))
+    for place, characters in enumerate(BITS):
+        text[place::8] = data.translate(characters)
+    return text.decode()
 
 
 def bits_between(folder, name, first, last):

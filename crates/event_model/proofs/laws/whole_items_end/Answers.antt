@@ -1,5 +1,5 @@
 -- An epoch of whole lanes ends with its break.
-use Rattle.event_model.proofs.KnownItems.{whole_items_end}
+use Rattle.event_model.proofs.KnownEvents.{whole_items_end}
 use Rattle.event_model.proofs.laws.whole_items_end.Goals as goal
 
 pub returns : goal.returns

@@ -1,6 +1,6 @@
-use Rattle.std.proofs.Common.{◌∙◌, ◌++◌, length-append, refl, arith}
+use Rattle.std.proofs.Common.{refl}
 use Rattle.std.proofs.lemmas.Result.{err_from_is_err_and}
-use Rattle.gather_commands.proofs.Stops.{grown_puts, opens_differ, two_opens, words_given, words_stopped}
+use Rattle.gather_commands.proofs.Stops.{same_files, words_stopped}
 use Rattle.gather_commands.proofs.files.GatheredFiles.put_words.Goals as goal
 
 pub returns-in_err-words_bytes-clause-puts : goal.returns-in_err-words_bytes-clause-puts
@@ -8,32 +8,11 @@ returns-in_err-words_bytes-clause-puts g c out before rows was h =
     let p = err_from_is_err_and c.from_residual.result c.from_residual.ensures.1 in
     rw (p.1, p.2) (words_stopped out before c.args.words.now rows c.args.self.now was _ h)
 
-pub returns-in_err-self-clause-puts : goal.returns-in_err-self-clause-puts
-returns-in_err-self-clause-puts g c out before rows was h =
-    let p = err_from_is_err_and c.from_residual-in_err-self.result c.from_residual-in_err-self.ensures.1 in
-    rw (p.1, p.2) (words_stopped out before c.args.words.now rows c.args.self.now was _ h)
-
-pub put-requires-clause-place : goal.put-requires-clause-place
-put-requires-clause-place g c =
+pub put_made-requires-clause-has : goal.put_made-requires-clause-has
+put_made-requires-clause-has g c =
     let (out, before, rows, was, h) = c.requires.has in
-    let two = two_opens out c.args.self.now.outputs h.names in
-    omega (arith, two)
-
-pub put-requires-clause-differ : goal.put-requires-clause-differ
-put-requires-clause-differ g c =
-    let (out, before, rows, was, h) = c.requires.has in
-    opens_differ out c.args.self.now.outputs h.names
-
-pub put-requires-clause-open : goal.put-requires-clause-open
-put-requires-clause-open g c =
-    let (out, before, rows, was, h) = c.requires.has in
-    (_, was, h.given)
+    (out, before, rows, was, same_files out before rows c.args.self.now _ was _ refl refl h)
 
 pub returns-clause-puts : goal.returns-clause-puts
 returns-clause-puts g c out before rows was h =
-    let bytes = c.deref.ensures.value ∙ c.in_ok-words_bytes.ensures.file in
-    let added = length-append before c.args.words.now in
-    let had = h.count in
-    let sum = c.in_ok-self.ensures in
-    grown_puts out (before ++ c.args.words.now) rows c.args.self.now.outputs c.put.new.self _ was _ h.names (words_given before c.args.words.now rows _ bytes) c.put.result _ refl (omega (arith, added, had, sum)) c.put.ensures.names c.put.ensures.stops
-    (c.put.ensures.grown _ was h.given)
+    c.put_made.ensures.puts out before c.args.words.now rows was (same_files out before rows c.args.self.now _ was _ refl refl h) c.in_ok-words_bytes.ensures.file refl

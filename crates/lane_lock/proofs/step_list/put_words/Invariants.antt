@@ -1,5 +1,5 @@
 use Rattle.std.proofs.Common.{◌≡◌, ◌+◌, ◌++◌, length, take}
-use Rattle.lane_lock.proofs.lane.put_eight.Given as goal
+use Rattle.lane_lock.proofs.step_list.put_words.Given as goal
 
 -- the first of them are there
 abbrev pub invariant-loop-place : goal.invariant-loop-place
