@@ -66,7 +66,7 @@ same_as_check() { # WHAT PLAN
   local out
   out=$(awk -F, '$1 == "out" { print $2 }' "$2")
   "$program" check "$2" >checked.txt 2>&1 || gives_up "check $2 fails"
-  holds "faults of $1" "$(python3 -B "$top/checks/clib/checked.py" "$top/examples/python" library/lib/libinterlaken.so "$2" 2>&1)" "$(cat "$out.faults.csv")"
+  holds "faults of $1" "$(python3 -B "$top/checks/clib/checked.py" "$top/python" library/lib/libinterlaken.so "$2" 2>&1)" "$(cat "$out.faults.csv")"
 }
 
 # Passes if the example and `receive` print the same of these lanes, and write the same.
@@ -93,7 +93,7 @@ same_as_inspect() { # PLAN SEED
   local lines out
   out=$(awk -F, '$1 == "out" { print $2 }' "$1")
   lines=$("$program" inspect "$1" 2>&1)
-  holds "what the lanes of $1 show, seed $2" "$(python3 -B "$top/checks/clib/inspected.py" "$top/examples/python" library/lib/libinterlaken.so "$1" "$2" 2>&1)" \
+  holds "what the lanes of $1 show, seed $2" "$(python3 -B "$top/checks/clib/inspected.py" "$top/python" library/lib/libinterlaken.so "$1" "$2" 2>&1)" \
     "$(printf '%s\n' "$lines" && cat "$out.events.csv")"
 }
 
@@ -103,7 +103,7 @@ same_as_gather() { # PLAN SEED
   out=$(awk -F, '$1 == "out" { print $2 }' "$1")
   lines=$("$program" gather "$1" 2>&1)
   holds "the words of the lanes of $1, seed $2" \
-    "$(python3 -B "$top/checks/clib/gathered.py" "$top/examples/python" library/lib/libinterlaken.so "$top/model" "$1" "$2" 2>&1)" \
+    "$(python3 -B "$top/checks/clib/gathered.py" "$top/python" library/lib/libinterlaken.so "$top/model" "$1" "$2" 2>&1)" \
     "$(printf '%s\n' "$lines" && sed '1d; /,-$/d' "$out.places.csv" && sha256sum <"$out.words" | cut -d ' ' -f 1)"
 }
 
@@ -179,7 +179,7 @@ if ! lacks c++ g++ 'the same calls as C++'; then
   holds 'drawn calls as C++' "$(./calls_plus drawn.plan drawn.lane.0 drawn.lane.1 100 2>&1 | sed '/^not tried/d; s/^[0-9]* tried, //')" '0 wrong'
 fi
 
-if ! lacks python3 python3 'the numbers of the crates, and examples/python'; then
+if ! lacks python3 python3 'the numbers of the crates, and the Python package'; then
   holds 'numbers of the header and of the crates' "$numbers" "$(python3 -B "$top/checks/clib/numbers.py" "$top" 2>&1 | LC_ALL=C sort)"
   holds 'numbers of the header and of the Python module' "$(python3 -B -c '
 import sys
@@ -188,7 +188,7 @@ import interlaken as i
 for kind, prefix in (i.Result, ""), (i.Cause, ""), (i.Key, "KEY_"), (i.Kind, ""), (i.Drop, "DROP_"), (i.Fault, "FAULT_"), (i.LaneState, "LANE_"), (i.LaneEventKind, "LANE_EVENT_"), (i.WordKind, "WORD_"), (i.Rule, "RULE_"), (i.GatheredKind, "GATHERED_"):
     for one in kind:
         print(one.name if one.name in ("NO_KEY", "NO_LANE_EVENT") else prefix + one.name, one.value)
-' "$top/examples/python" | LC_ALL=C sort)" "$numbers"
+' "$top/python" | LC_ALL=C sort)" "$numbers"
   holds 'channels that the far end turns off, in Python' "$(python3 -B -c '
 import sys
 sys.path.insert(0, sys.argv[1])
@@ -204,7 +204,7 @@ with i.Receiver(open("drawn.plan", "rb").read(), "library/lib/libinterlaken.so")
         receiver.is_on(7)
     except i.Misuse as misuse:
         print(misuse)
-' "$top/examples/python" 2>&1)" $'False True\nTrue False\nNO_CHANNEL'
+' "$top/python" 2>&1)" $'False True\nTrue False\nNO_CHANNEL'
   holds 'the numbers of a plan in Python, and places' "$(python3 -B -c '
 import sys
 sys.path.insert(0, sys.argv[1])
@@ -224,7 +224,7 @@ for wrong in (lambda: plan.slot(1 << 56), lambda: plan.place(i.Place(0, 56)), la
     except (i.Misuse, i.BadPlan) as error:
         print(error)
 print(".".join(str(number) for number in i.version(library)))
-' "$top/examples/python" 2>&1)" "2 32 1 4 2 [1, 2] 64
+' "$top/python" 2>&1)" "2 32 1 4 2 [1, 2] 64
 (0, 201) (1, 2345) (1, 2479)
 True True
 OUT_OF_RANGE
@@ -270,10 +270,10 @@ with i.Checker(open("damaged.plan", "rb").read(), library) as checker:
             wrong()
         except (i.Misuse, i.BadPlan, ValueError) as error:
             print(error)
-' "$top/examples/python" 2>&1)" "WAITING
+' "$top/python" 2>&1)" "WAITING
 WAITING
 WAITING
-RuleFault(word=0, rule=<Rule.BAD: 1>, channel=None) None
+RuleFault(word=0, rule=Rule.BAD, channel=None) None
 OUT_OF_RANGE
 no kind of a word: 4294967296
 no word: 18446744073709551616
@@ -314,7 +314,7 @@ with i.Damage(2, "library/lib/libinterlaken.so") as damage:
             wrong()
         except i.Misuse as misuse:
             print(misuse)
-' "$top/examples/python" 2>&1)" $'True False True\nTrue False True\nPASSED\nPASSED\nOUT_OF_RANGE\nOUT_OF_RANGE\nNO_LANE\nNO_LANE\nOUT_OF_RANGE\nNO_DAMAGE'
+' "$top/python" 2>&1)" $'True False True\nTrue False True\nPASSED\nPASSED\nOUT_OF_RANGE\nOUT_OF_RANGE\nNO_LANE\nNO_LANE\nOUT_OF_RANGE\nNO_DAMAGE'
   # What lanes show: lanes of the program, with damage, and the same ones struck by many rows; and generated cases.
   # And lanes that lose their locks.
   sed 's/^out,.*/out,drawn.damaged/' struck.plan >seen.plan
@@ -354,7 +354,7 @@ with i.Inspector(open("damaged.plan", "rb").read(), library) as inspector:
             wrong()
         except (i.Misuse, i.BadPlan) as error:
             print(error)
-' "$top/examples/python" 2>&1)" "True 0 0
+' "$top/python" 2>&1)" "True 0 0
 0 LOCK True
 $(printf '%s\n' FINISHED FINISHED NO_LANE NO_LANE NO_INSPECTOR NO_INSPECTOR)
 row 1: RANGE"
@@ -375,10 +375,47 @@ with i.Gatherer(open("damaged.plan", "rb").read(), library) as gatherer:
             print(error)
 with i.Gatherer(open("damaged.plan", "rb").read(), library) as gatherer:
     print(*{type(one).__name__: None for one in gatherer.feed_all(lanes)}, gatherer.next())
-' "$top/examples/python" 2>&1)" "4096 0 None 0
+' "$top/python" 2>&1)" "4096 0 None 0
 $(printf '%s\n' FINISHED FINISHED NO_LANE NO_LANE NO_GATHERER NO_GATHERER)
 row 1: RANGE
 GatheredWord GatheredBreak Ended None"
+  holds 'the Python package: lanes that lack, buffers, bits, iteration' "$(INTERLAKEN_LIBRARY=library/lib/libinterlaken.so python3 -B -c '
+import sys
+sys.path.insert(0, sys.argv[1])
+import interlaken as i
+from interlaken.monitor import Monitor
+plan = bytearray(open("damaged.plan", "rb").read())
+lanes = [open("thrice.lane.%d" % lane, "rb").read() for lane in (0, 1)]
+for kind in i.Receiver, i.Inspector, i.Gatherer, Monitor:
+    with kind(plan) as one:
+        for wrong in lambda: one.feed_all(lanes[:1]), lambda: one.feed_all(3 * lanes), lambda: one.feed_bits(0, 9, 3), lambda: one.feed_bits(1, 0, -1):
+            try:
+                wrong()
+            except ValueError as error:
+                print(error)
+        print(one, list(one))
+        whole = list(map(repr, one.feed_all([bytearray(lanes[0]), memoryview(lanes[1])])))
+    with kind(memoryview(plan)) as one:
+        print(whole == list(map(repr, one.feed_all(lanes))))
+size = min(map(len, lanes))
+def bitwise(one, takes):
+    found, waiting = [], [int.from_bytes(lane[:size], "big") for lane in lanes]
+    at = [0, 0]
+    while min(at) < 8 * size:
+        for lane in (0, 1):
+            count = min(61, 8 * size - at[lane])
+            at[lane] += takes(one.feed_bits(lane, waiting[lane] >> 8 * size - at[lane] - count & (1 << count) - 1, count), count)
+        found += one
+    for lane in (0, 1):
+        one.finish(lane)
+    return sorted(map(repr, found + list(one)))
+for kind, takes in (i.Gatherer, lambda taken, count: count if taken else 0), (i.Inspector, lambda taken, count: taken):
+    with kind(plan) as one, kind(plan) as other:
+        print(bitwise(one, takes) == sorted(map(repr, other.feed_all([lane[:size] for lane in lanes]))))
+' "$top/python" 2>&1)" "$(for one in Receiver Inspector Gatherer Monitor; do
+    printf '%s\n' 'feed_all: 1 lanes; the plan has 2' 'feed_all: 6 lanes; the plan has 2' 'feed_bits: lane 0: 9 is not a number of 3 bits' \
+      'feed_bits: lane 1: a count of -1; it is 0 or more' "<$one of 2 lanes> []" True
+  done && printf '%s\n' True True)"
   # Two ends, each with a transmitter and a receiver: the far end turns channel 1 off, and on again.
   holds 'flow control between two ends in Python' "$(python3 -B -c '
 import sys
@@ -422,7 +459,7 @@ with i.Transmitter(plan, library) as near, i.Transmitter(plan, library) as far, 
             wrong()
         except (i.Misuse, i.BadPlan, ValueError) as error:
             print(error)
-' "$top/examples/python" 2>&1)" "True 0
+' "$top/python" 2>&1)" "True 0
 True 10
 Counts(packets_given=10, packets_sent=0, bytes_given=1090, bytes_sent=0)
 Counts(packets_given=10, packets_sent=10, bytes_given=1100, bytes_sent=1100)
@@ -441,6 +478,6 @@ no word: 18446744073709551616
 row 1: RANGE"
   try_monitor
   try_late_monitor
-  holds 'examples/python' "$(python3 -B "$top/examples/python/packets.py" library/lib/libinterlaken.so damaged.plan damaged.lane.0 damaged.lane.1 2>&1)" "$printed"
+  holds 'examples/python' "$(PYTHONPATH=$top/python INTERLAKEN_LIBRARY=library/lib/libinterlaken.so python3 -B "$top/examples/python/packets.py" damaged.plan damaged.lane.0 damaged.lane.1 2>&1)" "$printed"
 fi
 ends

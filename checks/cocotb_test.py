@@ -115,8 +115,8 @@ def try_monitor(tally, folder, library):
     got = re.findall(r"^got channel=\d+ packets=(\d+)", run(PROGRAM, "receive", "many.plan", folder=folder)[1], re.M)
     tally.expect("packets beside a monitor", len(packets), sum(map(int, got)))
     # The example feeds longer pieces, so what one lane shows may come before what another did.
-    words = [TOP + "/examples/python/findings.py", library, "many.plan", "many.lane.0", "many.lane.1"]
-    status, text = run(sys.executable, "-B", *words, folder=folder)
+    words = [TOP + "/examples/python/findings.py", "many.plan", "many.lane.0", "many.lane.1"]
+    status, text = run(sys.executable, "-B", *words, folder=folder, PYTHONPATH=TOP + "/python", INTERLAKEN_LIBRARY=library)
     lines = [str(finding) for finding in found] + ["packets %d" % len(packets)]
     tally.expect("examples/python/findings.py", (status, sorted(text.split("\n")[:-1])), (0, sorted(lines)))
 
@@ -139,6 +139,7 @@ def main():
     with tempfile.TemporaryDirectory(prefix="cocotb.") as top:
         folder = top + "/examples"
         copy_examples(TOP, folder)
+        os.symlink(TOP + "/python", top + "/python")
         tally.expect("the library", run(TOP + "/tools/library", "library", folder=folder)[0], 0)
         library = folder + "/library/lib/libinterlaken.so"
         try_bits(tally, folder, library)

@@ -289,7 +289,7 @@ def main():
         for files, bench, more in (("live", "live", ()), ("drive", "drive", ()), ("monitor", "monitor", ()), ("adapted", "monitor", ("-GLANES=4", "-GWIDTH=67"))):
             words = ["--lint-only", "-Wall", "--timing", "-f", files + ".f", "--top-module", "tb_" + bench, *more]
             tally.expect("lint of %s.f" % files, run("verilator", *words, folder=folder + "/dpi"), (0, ""))
-        sys.path.insert(0, TOP + "/examples/python")
+        sys.path.insert(0, TOP + "/python")
         try_layer(tally, folder)
         try_drive(tally, folder + "/dpi")
         for shape, name in PLANS.items():

@@ -20,8 +20,8 @@ METAFRAME = 67 * 32 // 8  # bytes of a metaframe of the plan
 WRONG = {
     "feed where bits wait": (lambda receiver, near: receiver.feed(0, b"a"), "bits of lane 0 wait"),
     "bits of no lane": (lambda receiver, near: receiver.feed_bits(2, 0, 1), "NO_LANE"),
-    "a number of more bits": (lambda receiver, near: receiver.feed_bits(0, 8, 3), "no number of 3 bits: 8"),
-    "bits of no count": (lambda receiver, near: receiver.feed_bits(0, 0, -1), "no count: -1"),
+    "a number of more bits": (lambda receiver, near: receiver.feed_bits(0, 8, 3), "feed_bits: lane 0: 8 is not a number of 3 bits"),
+    "bits of no count": (lambda receiver, near: receiver.feed_bits(0, 0, -1), "feed_bits: lane 0: a count of -1; it is 0 or more"),
     "take where bits wait": (lambda receiver, near: near.take(1, 1), "bits of lane 1 wait"),
     "bits to take of no lane": (lambda receiver, near: near.take_bits(2, 1), "NO_LANE"),
     "bits to take of no count": (lambda receiver, near: near.take_bits(0, -1), "no count: -1"),

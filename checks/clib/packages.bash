@@ -405,15 +405,15 @@ try_pages() { # PREFIX
 # The package of Python, by the wheel that its backend writes.
 try_package() {
   ! lacks python3 python3 'the package of Python' || return 0
-  local python=$top/examples/python
+  local python=$top/python
   mkdir wheel site
   (cd "$python" && python3 -B -c 'import building, sys; print(building.build_wheel(sys.argv[1])); building.build_editable(sys.argv[2])' \
     "$folder/wheel" "$folder/site") >wheel.txt
   holds 'the wheel' "$(cat wheel.txt)" "interlaken-$(cat "$top/release/VERSION")-py3-none-any.whl"
   holds 'files of the wheel' "$(python3 -c 'import sys, zipfile; print(*zipfile.ZipFile(sys.argv[1]).namelist(), sep="\n")' wheel/*.whl)" \
     "$(cd "$python" && printf '%s\n' interlaken/*.py interlaken/*.typed "interlaken-$(cat "$top/release/VERSION").dist-info"/{METADATA,WHEEL,RECORD})"
-  holds 'packets by the wheel' "$(cp "$python/packets.py" . && PYTHONPATH=$(echo wheel/*.whl) python3 -B packets.py library/lib/libinterlaken.so damaged.plan damaged.lane.0 damaged.lane.1 | cksum)" \
-    "$(python3 -B "$python/packets.py" library/lib/libinterlaken.so damaged.plan damaged.lane.0 damaged.lane.1 | cksum)"
+  holds 'packets by the wheel' "$(cp "$top/examples/python/packets.py" . && INTERLAKEN_LIBRARY=library/lib/libinterlaken.so PYTHONPATH=$(echo wheel/*.whl) python3 -B packets.py damaged.plan damaged.lane.0 damaged.lane.1 | cksum)" \
+    "$(INTERLAKEN_LIBRARY=library/lib/libinterlaken.so PYTHONPATH=$python python3 -B "$top/examples/python/packets.py" damaged.plan damaged.lane.0 damaged.lane.1 | cksum)"
   try_pip "$python"
   try_take_all "$python"
 }
@@ -425,10 +425,13 @@ try_pip() { # PACKAGE
     rm -rf site
     python3 -m pip install --no-index --no-deps --quiet --disable-pip-version-check --target site "$python" >pip.txt 2>&1
     holds 'pip install' "$? $(cd site/interlaken && printf '%s ' *.*)" '0 __init__.py monitor.py py.typed '
+    rm -rf with && (cd "$folder" && INTERLAKEN_LIBRARY=$folder/library/lib/libinterlaken.so python3 -m pip install --no-index --no-deps --quiet \
+      --disable-pip-version-check --target with "$python") >pip.txt 2>&1
+    holds 'pip install with the library' "$? $(PYTHONPATH=with python3 -B -c 'import interlaken; print(*interlaken.version(), sep=".")' 2>&1)" "0 $(cat "$top/release/VERSION")"
     holds 'the installed package' "$(PYTHONPATH=site python3 -B -c 'import interlaken, importlib.metadata as m; print(interlaken.__file__, m.version("interlaken"))')" \
       "$folder/site/interlaken/__init__.py $(cat "$top/release/VERSION")"
   else
-    echo "$name: not tried, no pip (Debian package python3-pip): pip install examples/python"
+    echo "$name: not tried, no pip (Debian package python3-pip): pip install ./python"
   fi
 }
 
@@ -470,7 +473,7 @@ try_bits() {
   ! lacks python3 python3 'bits of lanes in Python' || return 0
   sed 's/^warmup.*/warmup,64/' sent.plan >bits.plan && "$program" send bits.plan >/dev/null
   holds 'bits of lanes in Python' \
-    "$(python3 -B "$top/checks/clib/bits.py" "$top/examples/python" library/lib/libinterlaken.so bits.plan sent 1 one.pcap 2 two.pcap 2>&1)" '31 tried'
+    "$(python3 -B "$top/checks/clib/bits.py" "$top/python" library/lib/libinterlaken.so bits.plan sent 1 one.pcap 2 two.pcap 2>&1)" '31 tried'
 }
 
 # A capture of one packet of 90 letters.

@@ -6,7 +6,7 @@ import os
 import sys
 from typing import Iterator
 
-sys.path.insert(0, os.path.join(os.path.dirname(os.path.abspath(__file__)), "..", "python"))
+sys.path.insert(0, os.path.join(os.path.dirname(os.path.abspath(__file__)), "..", "..", "python"))
 from interlaken import Event, Receiver
 from interlaken.monitor import Finding, Monitor
 

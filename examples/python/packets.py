@@ -1,8 +1,8 @@
 """Prints the packets and fault spans of the lanes of a link.
 
-    packets.py LIBRARY PLAN LANE..
+    packets.py PLAN LANE..
 
-LIBRARY is libinterlaken.so, PLAN a plan file, and each LANE the file of a lane, from lane 0 on.
+PLAN is a plan file, and each LANE the file of a lane, from lane 0 on.
 """
 
 import sys
@@ -10,18 +10,12 @@ from pathlib import Path
 
 from interlaken import Packet, Receiver, Span
 
-
-def main() -> None:
-    library, plan, *lanes = sys.argv[1:]
-    with Receiver(Path(plan).read_bytes(), library) as receiver:
-        for event in receiver.feed_all([Path(lane).read_bytes() for lane in lanes]):
-            if isinstance(event, Packet):
-                print("packet channel=%d %s" % (event.channel, event.data.hex()))
-            elif isinstance(event, Span):
-                print("span %s" % event.why.name.lower())
-        for lane in range(len(lanes)):
-            print("lane %d locks=%d" % (lane, receiver.report(lane).locks))
-
-
-if __name__ == "__main__":
-    main()
+plan, *lanes = sys.argv[1:]
+with Receiver(Path(plan).read_bytes()) as receiver:
+    for event in receiver.feed_all([Path(lane).read_bytes() for lane in lanes]):
+        if isinstance(event, Packet):
+            print("packet channel=%d %s" % (event.channel, event.data.hex()))
+        elif isinstance(event, Span):
+            print("span %s" % event.why.name.lower())
+    for lane in range(len(lanes)):
+        print("lane %d locks=%d" % (lane, receiver.report(lane).locks))

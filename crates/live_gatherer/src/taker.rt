@@ -110,6 +110,7 @@ impl Taker {
     }
 
     /// The next word or break of what was fed. `None` exactly if all that are known of it were given.
+    #[inline(always)]
     pub fn next(&mut self) -> Option<Gathered>
         requires { HasRun self.old }
         ensures gives { (s : Settings) (fed : List Fed) (given : List Numbered) →

@@ -2,7 +2,7 @@
 
 A receiver takes bytes of lanes and returns packets, fault spans and control words:
 
-    with Receiver(plan, library="lib/libinterlaken.so") as receiver:
+    with Receiver(plan) as receiver:
         for event in receiver.feed_all(lanes):
             ...
 
@@ -10,7 +10,7 @@ If bytes arrive live, call `feed` and `finish` for each lane, and read `events()
 
 A transmitter takes packets and rows of flow control at any time, and returns bytes of lanes:
 
-    with Transmitter(plan, library="lib/libinterlaken.so") as transmitter:
+    with Transmitter(plan) as transmitter:
         transmitter.packet(3, b"..")
         transmitter.finish()
         lanes = transmitter.take_all(2)
@@ -19,37 +19,39 @@ If lanes leave live, call `take` for each in turn, and `packet`, `flow` and `loc
 
 A checker applies the rules of a sender to words. Call `flow` between words, as for a transmitter, and read all faults before the next word:
 
-    with Checker(plan, library="lib/libinterlaken.so") as checker:
+    with Checker(plan) as checker:
         checker.word(WordKind.CONTROL, 0x81ffff0000188177)
         for fault in checker.faults():
             ...
 
 Damage changes bits of lanes on their way:
 
-    with Damage(2, library="lib/libinterlaken.so") as damage:
+    with Damage(2) as damage:
         damage.flip(0, 12345)
         damaged = damage.apply(0, data)
 
 A plan has the numbers of a link, and finds the lane and bit of a received word by its place, and of a sent word by its slot:
 
-    plan = Plan(text, library="lib/libinterlaken.so")
+    plan = Plan(text)
     plan.lanes, plan.channels, plan.place(event.first), plan.slot(0)
 
 An inspector returns the events of lanes. It accepts no byte of a lane while an event of this lane is due:
 
-    with Inspector(plan, library="lib/libinterlaken.so") as inspector:
+    with Inspector(plan) as inspector:
         for event in inspector.feed_all(lanes):
             ...
 
 A gatherer returns the words of aligned lanes; live, read `gathered()` after each `feed` and `finish`:
 
-    with Gatherer(plan, library="lib/libinterlaken.so") as gatherer:
+    with Gatherer(plan) as gatherer:
         for word in gatherer.feed_all(lanes):
             ...
 
 interlaken.monitor runs a receiver, an inspector, and a gatherer with a checker over the same bytes, and returns one stream of findings.
 
-`library` is the path of the C library, or its name if the system finds it by name. A misused call raises Misuse and changes nothing; a
+The C library is the one in the package's folder, as a wheel may have it, or what INTERLAKEN_LIBRARY names, or the one beside that folder,
+or the system's. Each class accepts `library`, the path of another. Bytes may be of any object with a buffer, such as bytearray. A receiver,
+an inspector, a gatherer and a checker can be iterated: this returns what is due. A misused call raises Misuse and changes nothing; a
 refused plan raises BadPlan with the row and the cause. Each object accepts one call at a time. Numbers of a later version of the library
 have the name UNKNOWN. The package needs Python 3.10.
 """
@@ -58,8 +60,12 @@ from __future__ import annotations
 
 import ctypes
 import enum
+import os
+import struct
 import weakref
+from collections import deque
 from dataclasses import dataclass
+from pathlib import Path
 from typing import Callable, Iterator, Optional, Sequence, TypeVar
 
 
@@ -73,6 +79,9 @@ class _Number(enum.IntEnum):
         number = int.__new__(cls, value)
         number._name_, number._value_ = "UNKNOWN", value
         return number
+
+    def __repr__(self) -> str:
+        return "%s.%s" % (type(self).__name__, self.name if self.name != "UNKNOWN" else "UNKNOWN(%d)" % self.value)
 
 
 class Result(_Number):
@@ -243,7 +252,7 @@ class BadPlan(Exception):
         self.cause, self.row, self.key = cause, row, key
 
 
-@dataclass(frozen=True)
+@dataclass(slots=True, unsafe_hash=True)
 class Place:
     """The place of a payload word: the received bit position of its group's Sync on lane 0, and the word in the group."""
 
@@ -251,7 +260,7 @@ class Place:
     index: int
 
 
-@dataclass(frozen=True)
+@dataclass(slots=True, unsafe_hash=True)
 class Packet:
     """A packet, with the places of its SOP word and of the word that ends it."""
 
@@ -261,7 +270,7 @@ class Packet:
     last: Place
 
 
-@dataclass(frozen=True)
+@dataclass(slots=True, unsafe_hash=True)
 class Dropped:
     """A piece of a packet is dropped."""
 
@@ -278,12 +287,15 @@ class Span:
     why: Fault
 
 
-@dataclass(frozen=True)
+@dataclass(slots=True, unsafe_hash=True)
 class Flow:
     """A verified control word."""
 
     at: Place
     word: int
+
+    def __repr__(self) -> str:
+        return "Flow(at=%r, word=0x%016x)" % (self.at, self.word)
 
 
 @dataclass(frozen=True)
@@ -291,6 +303,7 @@ class Ended:
     """The end: all lanes are finished, and all other events were returned."""
 
 
+Bytes = bytes | bytearray | memoryview
 Event = Packet | Dropped | Span | Flow | Ended
 
 
@@ -338,17 +351,55 @@ class LaneEvent:
     kind: LaneEventKind
 
 
-@dataclass(frozen=True)
 class GatheredWord:
     """A word of the aligned lanes: its kind and 64 bits, its place, its number in `OUT.words`, and the lane and bit at which its code
-    begins."""
+    begins. It is a view of the struct of interlaken.h, since a lane has very many."""
 
-    kind: WordKind
-    word: int
-    at: Place
-    number: int
-    lane: int
-    bit: int
+    __slots__ = ("_row",)
+    __match_args__ = ("kind", "word", "at", "number", "lane", "bit")
+
+    def __init__(self, row: tuple[int, ...]):
+        self._row = row
+
+    @property
+    def kind(self) -> WordKind:
+        """Data, control or bad."""
+        return _WORD_KINDS[kind] if (kind := self._row[1]) < len(_WORD_KINDS) else WordKind(kind)
+
+    @property
+    def word(self) -> int:
+        """Its 64 bits."""
+        return self._row[9]
+
+    @property
+    def at(self) -> Place:
+        """Its place."""
+        return Place(self._row[6], self._row[5])
+
+    @property
+    def number(self) -> int:
+        """Its number in `OUT.words`."""
+        return self._row[8]
+
+    @property
+    def lane(self) -> int:
+        """The lane on which it came."""
+        return self._row[2]
+
+    @property
+    def bit(self) -> int:
+        """The bit of the lane at which its code begins."""
+        return self._row[7]
+
+    def __repr__(self) -> str:
+        shown = (self.kind, self.word, self.at, self.number, self.lane, self.bit)
+        return "GatheredWord(kind=%r, word=0x%016x, at=%r, number=%d, lane=%d, bit=%d)" % shown
+
+    def __eq__(self, other: object) -> bool:
+        return self._row == other._row if isinstance(other, GatheredWord) else NotImplemented
+
+    def __hash__(self) -> int:
+        return hash(self._row)
 
 
 @dataclass(frozen=True)
@@ -471,13 +522,21 @@ class _Gathered(ctypes.Structure):
         ("word", ctypes.c_uint64),
     ]
 
-    def value(self) -> Optional[Gathered]:
-        kind = GatheredKind(self.kind)
-        if kind is GatheredKind.WORD:
-            return GatheredWord(WordKind(self.word_kind), self.word, self.at.place(), self.number, self.lane, self.bit)
-        if kind is GatheredKind.BREAK:
-            return GatheredBreak(self.at.place(), Fault(self.why), self.number)
-        return Ended() if kind is GatheredKind.ENDED else None
+
+# The numbers of an _Event and of a _Gathered, in their order; and kinds of words by number, which is quicker than a call of the class.
+_EVENT_ROW = struct.Struct("@4I2IQ2IQQ")
+_GATHERED_ROW = struct.Struct("@4I2I4Q")
+_WORD_KINDS = (WordKind(0), *WordKind)
+_WORDS_AT_ONCE = 4096
+
+
+def _gathered(row: tuple[int, ...]) -> Optional[Gathered]:
+    """What a struct of a gatherer stands for; None if it stands for nothing that is known here."""
+    if row[0] == 1:  # GatheredKind.WORD
+        return GatheredWord(row)
+    if row[0] == GatheredKind.BREAK:
+        return GatheredBreak(Place(row[6], row[5]), Fault(row[3]), row[8])
+    return Ended() if row[0] == GatheredKind.ENDED else None
 
 
 _size = ctypes.c_size_t
@@ -533,6 +592,7 @@ _GATHERER_CALLS = {
     "new": (_handle, ctypes.c_char_p, _size, ctypes.POINTER(_Refusal)),
     "free": (_handle,),
     "feed": (_handle, _u32, ctypes.c_char_p, _size, ctypes.POINTER(_size)),
+    "feed_bits": (_handle, _u32, _u64, _u32, ctypes.POINTER(_u32)),
     "finish": (_handle, _u32),
     "next": (_handle, ctypes.POINTER(_Gathered)),
     "words": (_handle, ctypes.POINTER(_Gathered), _size, ctypes.POINTER(_size)),
@@ -543,6 +603,7 @@ _INSPECTOR_CALLS = {
     "new": (_handle, ctypes.c_char_p, _size, ctypes.POINTER(_Refusal)),
     "free": (_handle,),
     "feed": (_handle, _u32, ctypes.c_char_p, _size, ctypes.POINTER(_size)),
+    "feed_bits": (_handle, _u32, _u64, _u32, ctypes.POINTER(_u32)),
     "finish": (_handle, _u32),
     "next": (_handle, ctypes.POINTER(_LaneEvent)),
     "report": (_handle, _u32, ctypes.POINTER(_Report)),
@@ -567,11 +628,32 @@ def _bit(number: int) -> int:
     return number if 0 <= number < _NO_BIT else _NO_BIT
 
 
-def _loaded(library: str, prefix: str, calls: dict[str, tuple[type, ...]]) -> dict[str, Callable[..., int]]:
+_LIBRARY = "libinterlaken.so"
+_NEW_CALLS = ("interlaken_gatherer_words",)  # a library may be older than these
+
+
+def _found_library() -> str:
+    """The library that counts if none is named: the wheel's, that of the environment, the one beside the package, or the system's."""
+    package = Path(__file__).resolve().parent
+    if (package / _LIBRARY).exists():
+        return str(package / _LIBRARY)
+    if os.environ.get("INTERLAKEN_LIBRARY"):
+        return os.environ["INTERLAKEN_LIBRARY"]
+    return str(package.parent / _LIBRARY) if (package.parent / _LIBRARY).exists() else _LIBRARY
+
+
+def _bytes(data: Bytes) -> bytes:
+    """The bytes of an object with a buffer; a number, of which bytes() would make zeros, has none."""
+    return data if isinstance(data, bytes) else bytes(memoryview(data))
+
+
+def _loaded(library: Optional[str], prefix: str, calls: dict[str, tuple[type, ...]]) -> dict[str, Callable[..., int]]:
     """These calls of the library, by their names without the prefix."""
-    loaded = ctypes.CDLL(library)
+    loaded = ctypes.CDLL(_found_library() if library is None else library)
     found = {}
     for name, types in calls.items():
+        if prefix + name in _NEW_CALLS and not hasattr(loaded, prefix + name):
+            continue
         found[name] = getattr(loaded, prefix + name)
         found[name].argtypes, found[name].restype = types, _u32
     return found
@@ -593,7 +675,7 @@ _Self = TypeVar("_Self", bound="_Opened")
 class _Opened:
     """What the library has behind a handle. As a context manager it is closed at the end."""
 
-    def __init__(self, library: str, prefix: str, calls: dict[str, tuple[type, ...]]):
+    def __init__(self, library: Optional[str], prefix: str, calls: dict[str, tuple[type, ...]]):
         self._calls = _loaded(library, prefix, calls)
         self._handle = _Handle()
 
@@ -604,7 +686,8 @@ class _Opened:
         self._free = weakref.finalize(self, self._calls["free"], self._handle)
 
     def _call(self, name: str, *words: object) -> None:
-        _check(self._result(name, *words))
+        if number := self._calls[name](self._handle, *words):
+            _check(Result(number))
 
     def close(self) -> None:
         """Frees it, which else is done with this object; a second time does nothing. Each further call raises Misuse."""
@@ -620,11 +703,35 @@ class _Opened:
 class _OfPlan(_Opened):
     """What is opened with a plan."""
 
-    def __init__(self, plan: bytes, library: str, prefix: str, calls: dict[str, tuple[type, ...]]):
+    def __init__(self, plan: Bytes, library: Optional[str], prefix: str, calls: dict[str, tuple[type, ...]]):
         super().__init__(library, prefix, calls)
-        refusal = _Refusal()
+        plan, refusal = _bytes(plan), _Refusal()
         _check(self._result("new", plan, len(plan), refusal), refusal)
         self._opened()
+        self._lanes = Plan(plan, library).lanes
+
+    def __repr__(self) -> str:
+        return "<%s of %d lanes>" % (type(self).__name__, self._lanes)
+
+    def _report(self, lane: int) -> Report:
+        report = _Report()
+        self._call("report", _lane(lane), report)
+        return report.value()
+
+
+def _all_lanes(lanes: Sequence[Bytes], count: int) -> list[bytes]:
+    """The bytes of lanes, if they are all lanes of the plan and no further ones."""
+    if len(lanes) != count:
+        raise ValueError("feed_all: %d lanes; the plan has %d" % (len(lanes), count))
+    return [_bytes(data) for data in lanes]
+
+
+def _check_bits(lane: int, bits: int, count: int) -> None:
+    """Refuses bits that are not `count` of them."""
+    if not 0 <= count < 1 << 63:
+        raise ValueError("feed_bits: lane %d: a count of %d; it is 0 or more" % (lane, count))
+    if bits < 0 or bits.bit_length() > count:
+        raise ValueError("feed_bits: lane %d: %d is not a number of %d bits" % (lane, bits, count))
 
 
 def _within(number: int, bits: int, what: str) -> int:
@@ -659,9 +766,9 @@ class Plan:
     window: int
     channels: list[int]
 
-    def __init__(self, plan: bytes, library: str = "libinterlaken.so"):
-        """`plan` is the text of a plan file, and `library` the path of the shared library."""
-        self._calls = _loaded(library, "interlaken_plan_", _PLAN_CALLS)
+    def __init__(self, plan: Bytes, library: Optional[str] = None):
+        """`plan` is the text of a plan file, and `library` the path of the shared library, if it is not the one that is found without."""
+        self._calls, plan = _loaded(library, "interlaken_plan_", _PLAN_CALLS), _bytes(plan)
         self._numbers, refusal, count = _Plan(), _Refusal(), _size()
         _check(Result(self._calls["read"](plan, len(plan), self._numbers, refusal)), refusal)
         for name in _NUMBERS:
@@ -686,7 +793,7 @@ class Plan:
         return self._found("slot", _within(slot, 64, "slot"))
 
 
-def version(library: str = "libinterlaken.so") -> tuple[int, int, int]:
+def version(library: Optional[str] = None) -> tuple[int, int, int]:
     """The version of the library: its major number, its minor number, and its patch number."""
     number = _loaded(library, "interlaken_", {"version": ()})["version"]()
     return number // 10000, number // 100 % 100, number % 100
@@ -729,18 +836,17 @@ class _Bits:
         return True
 
 
-class Receiver(_OfPlan):
-    """A receiver of the lanes of a plan. As a context manager it is closed at the end."""
+class _Fed(_OfPlan):
+    """What is fed with lanes, each of which has a ring."""
 
-    def __init__(self, plan: bytes, library: str = "libinterlaken.so"):
-        """`plan` is the text of a plan file, and `library` the path of the shared library."""
-        super().__init__(plan, library, "interlaken_receiver_", _RECEIVER_CALLS)
+    def __init__(self, plan: Bytes, library: Optional[str], prefix: str, calls: dict[str, tuple[type, ...]]):
+        super().__init__(plan, library, prefix, calls)
         self._bits: dict[int, _Bits] = {}
 
-    def feed(self, lane: int, data: bytes) -> int:
+    def feed(self, lane: int, data: Bytes) -> int:
         """Feeds a lane with the next of its bytes, as many as its ring of 4,096 bytes has room for, and returns how many. It raises
         ValueError if bits of `feed_bits` wait."""
-        taken = _size()
+        data, taken = _bytes(data), _size()
         if lane in self._bits and self._bits[lane].count > 0 or self._result("feed", _lane(lane), data, 0, taken) == Result.PART_BYTE:
             raise ValueError("bits of lane %d wait" % lane)
         self._call("feed", _lane(lane), data, len(data), taken)
@@ -754,7 +860,7 @@ class Receiver(_OfPlan):
     def feed_bits(self, lane: int, bits: int, count: int) -> bool:
         """Feeds a lane with its next `count` bits: the low bits of a number, the highest first. False if the ring of the lane has no room: then
         nothing was taken; take events and feed these again."""
-        _within(bits, _within(count, 63, "count"), "number of %d bits" % count)
+        _check_bits(lane, bits, count)
         self._feed_bits(lane, 0, 0)  # what is misused raises before bits are kept
         return self._bits.setdefault(lane, _Bits()).feed(bits, count, lambda bits, count: self._feed_bits(lane, bits, count))
 
@@ -769,25 +875,35 @@ class Receiver(_OfPlan):
             waiting.put(0, 1)
         raise ValueError("bits of lane %d wait" % lane)
 
+    def report(self, lane: int) -> Report:
+        """The report of a lane over the bytes that were taken from its ring so far."""
+        return self._report(lane)
+
+
+class Receiver(_Fed):
+    """A receiver of the lanes of a plan. As a context manager it is closed at the end."""
+
+    def __init__(self, plan: Bytes, library: Optional[str] = None):
+        """`plan` is the text of a plan file, and `library` the path of the shared library, if it is not the one that is found without."""
+        super().__init__(plan, library, "interlaken_receiver_", _RECEIVER_CALLS)
+        self._event = _Event()
+
     def next(self) -> Optional[Event]:
         """The next event; None if there is none so far, and after the end. Events of kinds that are not known here are passed over. An
         event comes once each lane that is not finished has been fed up to the byte that shows it."""
-        event = _Event()
-        self._call("next", event)
-        while event.kind > Kind.ENDED:
-            self._call("next", event)
-        return self._event(event)
-
-    def _event(self, event: _Event) -> Optional[Event]:
-        if event.kind == Kind.PACKET:
-            return Packet(event.channel, self._packet(event.length), event.first.place(), event.last.place())
-        if event.kind == Kind.DROPPED:
-            return Dropped(event.channel, Drop(event.why))
-        if event.kind == Kind.SPAN:
-            return Span(event.first.value(), event.last.value(), Fault(event.why))
-        if event.kind == Kind.FLOW:
-            return Flow(event.first.place(), event.word)
-        return Ended() if event.kind == Kind.ENDED else None
+        self._call("next", self._event)
+        kind, channel, length, why, known, index, group, has_last, last_index, last_group, word = _EVENT_ROW.unpack_from(self._event)
+        if kind == 4:  # Kind.FLOW
+            return Flow(Place(group, index), word)
+        if kind == 1:  # Kind.PACKET
+            return Packet(channel, self._packet(length), Place(group, index), Place(last_group, last_index))
+        if kind == Kind.DROPPED:
+            return Dropped(channel, Drop(why))
+        if kind == Kind.SPAN:
+            return Span(Place(group, index) if known else None, Place(last_group, last_index) if has_last else None, Fault(why))
+        if kind > Kind.ENDED:
+            return self.next()
+        return Ended() if kind == Kind.ENDED else None
 
     def _packet(self, length: int) -> bytes:
         data, copied = ctypes.create_string_buffer(max(length, 1)), _size()
@@ -799,32 +915,23 @@ class Receiver(_OfPlan):
         while (event := self.next()) is not None:
             yield event
 
-    def feed_all(self, lanes: Sequence[bytes]) -> Iterator[Event]:
-        """Feeds all lanes of the plan from first to last byte, and yields all events as they come. Nothing may have been fed before."""
-        fed = [0] * len(lanes)
-        over = [False] * len(lanes)
-        while True:
-            for event in self.events():
-                yield event
-                if isinstance(event, Ended):
-                    return
-            moved = False
-            for lane, data in enumerate(lanes):
-                if fed[lane] < len(data):
-                    taken = self.feed(lane, data[fed[lane] : fed[lane] + 4096])
-                    fed[lane] += taken
-                    moved = moved or taken > 0
-                elif not over[lane]:
-                    self.finish(lane)
-                    over[lane] = moved = True
-            if not moved:  # What lacks bytes is a lane that is not among these.
-                raise ValueError("%d lanes are fewer than the plan has" % len(lanes))
+    def __iter__(self) -> Iterator[Event]:
+        return self.events()
 
-    def report(self, lane: int) -> Report:
-        """The report of a lane over the bytes that were taken from its ring so far."""
-        report = _Report()
-        self._call("report", _lane(lane), report)
-        return report.value()
+    def feed_all(self, lanes: Sequence[Bytes]) -> Iterator[Event]:
+        """Feeds all lanes of the plan from first to last byte, and yields all events as they come. Nothing may have been fed before. If these
+        are not all lanes of the plan, it raises ValueError, and nothing is fed."""
+        return self._feed_all(_all_lanes(lanes, self._lanes))
+
+    def _feed_all(self, lanes: list[bytes]) -> Iterator[Event]:
+        fed, going = [0] * len(lanes), set(range(len(lanes)))
+        while going:
+            for lane in sorted(going):
+                fed[lane] += self.feed(lane, lanes[lane][fed[lane] : fed[lane] + 4096])
+                if fed[lane] == len(lanes[lane]):
+                    self.finish(lane)
+                    going.discard(lane)
+            yield from self.events()
 
     def lane_state(self, lane: int) -> LaneState:
         """How far the search for the locks of a lane is after the bytes that were taken from its ring so far."""
@@ -843,14 +950,15 @@ class Transmitter(_OfPlan):
     """A transmitter of the lanes of a plan. Its words are made as bytes of lanes are taken, one of each lane at a time, so what is given
     counts from the next word on. As a context manager it is closed at the end."""
 
-    def __init__(self, plan: bytes, library: str = "libinterlaken.so"):
-        """`plan` is the text of a plan file, and `library` the path of the shared library."""
+    def __init__(self, plan: Bytes, library: Optional[str] = None):
+        """`plan` is the text of a plan file, and `library` the path of the shared library, if it is not the one that is found without."""
         super().__init__(plan, library, "interlaken_transmitter_", _TRANSMITTER_CALLS)
         self._finished = False
         self._bits: dict[int, _Bits] = {}
 
-    def packet(self, channel: int, data: bytes) -> None:
+    def packet(self, channel: int, data: Bytes) -> None:
         """Gives a packet of 1 byte to the plan's `max_packet` bytes to be sent on a channel that the plan lists."""
+        data = _bytes(data)
         self._call("packet", _channel(channel), data, len(data))
 
     def flow(self, word: int) -> None:
@@ -923,8 +1031,8 @@ class Transmitter(_OfPlan):
         nothing is taken."""
         if not self._finished:
             raise ValueError("the transmitter was not finished")
-        if lanes != (there := self._lane_count()):
-            raise ValueError("the plan has %d lanes, not %d" % (there, lanes))
+        if lanes != self._lanes:
+            raise ValueError("the plan has %d lanes, not %d" % (self._lanes, lanes))
         for lane in range(lanes):
             self.take(lane, 0)  # raises if bits of the lane wait
         taken = [bytearray() for _ in range(lanes)]
@@ -932,13 +1040,6 @@ class Transmitter(_OfPlan):
             for lane, data in enumerate(taken):
                 data += self.take(lane, 2048)
         return [bytes(data) for data in taken]
-
-    def _lane_count(self) -> int:
-        lane = 0
-        while (result := self._result("status_of", lane, _Status())) is not Result.NO_LANE:
-            _check(result)
-            lane += 1
-        return lane
 
     def _has_ended(self, lane: int) -> bool:
         status = self.status(lane)
@@ -949,8 +1050,8 @@ class Checker(_OfPlan):
     """A checker of the words of a sender by the rules of a plan. The faults of a word are due once it was given; a burst word that a control
     word follows breaks Rule.EMPTY, which is told with that word. As a context manager it is closed at the end."""
 
-    def __init__(self, plan: bytes, library: str = "libinterlaken.so"):
-        """`plan` is the text of a plan file, and `library` the path of the shared library."""
+    def __init__(self, plan: Bytes, library: Optional[str] = None):
+        """`plan` is the text of a plan file, and `library` the path of the shared library, if it is not the one that is found without."""
         super().__init__(plan, library, "interlaken_checker_", _CHECKER_CALLS)
 
     def word(self, kind: int, number: int = 0) -> None:
@@ -980,6 +1081,9 @@ class Checker(_OfPlan):
         self._call("next", fault)
         return RuleFault(fault.word, Rule(fault.rule), fault.channel if fault.has_channel else None) if fault.rule else None
 
+    def __iter__(self) -> Iterator[RuleFault]:
+        return self.faults()
+
     def faults(self) -> Iterator[RuleFault]:
         """The faults that are due."""
         while (fault := self.next()) is not None:
@@ -990,8 +1094,8 @@ class Damage(_Opened):
     """Damage of 1 to 64 lanes on their way. The bytes of each lane pass through `apply`, piece by piece. Bits of a lane are counted from 0,
     the highest bit of its first byte, over all its pieces. As a context manager it is closed at the end."""
 
-    def __init__(self, lanes: int, library: str = "libinterlaken.so"):
-        """Nothing happens to this many lanes so far; `library` is the path of the shared library."""
+    def __init__(self, lanes: int, library: Optional[str] = None):
+        """Nothing happens to this many lanes so far; `library` is the path of the shared library, if it is not the one that is found without."""
         super().__init__(library, "interlaken_damage_", _DAMAGE_CALLS)
         self._call("new", _lane(lanes))
         self._opened()
@@ -1005,8 +1109,9 @@ class Damage(_Opened):
         PASSED."""
         self._call("dark", _lane(lane), _bit(first), _bit(bits))
 
-    def apply(self, lane: int, data: bytes) -> bytes:
+    def apply(self, lane: int, data: Bytes) -> bytes:
         """The next bytes of a lane, damaged."""
+        data = _bytes(data)
         damaged = ctypes.create_string_buffer(data, max(len(data), 1))
         self._call("apply", _lane(lane), damaged, len(data))
         return damaged.raw[: len(data)]
@@ -1016,20 +1121,37 @@ class Inspector(_OfPlan):
     """An inspector of the lanes of a plan: it tells what each lane shows, and at which bit, as the command `inspect` does. As a context
     manager it is closed at the end."""
 
-    def __init__(self, plan: bytes, library: str = "libinterlaken.so"):
-        """`plan` is the text of a plan file, and `library` the path of the shared library."""
+    def __init__(self, plan: Bytes, library: Optional[str] = None):
+        """`plan` is the text of a plan file, and `library` the path of the shared library, if it is not the one that is found without."""
         super().__init__(plan, library, "interlaken_inspector_", _INSPECTOR_CALLS)
 
-    def feed(self, lane: int, data: bytes) -> int:
+    def feed(self, lane: int, data: Bytes) -> int:
         """Feeds a lane with the next of its bytes, and returns how many it takes: up to a word that shows events, and none while events of the
         lane are due."""
-        taken = _size()
+        data, taken = _bytes(data), _size()
+        if self._result("feed", _lane(lane), data, 0, taken) == Result.PART_BYTE:
+            raise ValueError("feed: lane %d: a part of a byte is left" % lane)
         self._call("feed", _lane(lane), data, len(data), taken)
         return taken.value
 
+    def feed_bits(self, lane: int, bits: int, count: int) -> int:
+        """Feeds a lane with its next `count` bits, the low bits of a number, the highest first, and returns how many it takes, as `feed` does."""
+        _check_bits(lane, bits, count)
+        fed, taken = 0, _u32()
+        while True:
+            piece = min(count - fed, 64)
+            self._call("feed_bits", _lane(lane), bits >> count - fed - piece & (1 << 64) - 1, piece, taken)
+            fed += taken.value
+            if taken.value < piece or fed == count:
+                return fed
+
     def finish(self, lane: int) -> None:
-        """No further byte of this lane comes."""
-        self._call("finish", _lane(lane))
+        """No further byte of this lane comes. Its last byte is filled up with zeros. If events of the lane are due then, it raises ValueError, and
+        the lane is not finished: take them first."""
+        while (result := self._result("finish", _lane(lane))) == Result.PART_BYTE:
+            if self.feed_bits(lane, 0, 1) == 0:
+                raise ValueError("finish: lane %d: events are due" % lane)
+        _check(result)
 
     def next(self) -> Optional[LaneEvent]:
         """The next event that is due, of the lowest lane first; None if none is due on any lane."""
@@ -1043,8 +1165,15 @@ class Inspector(_OfPlan):
         while (event := self.next()) is not None:
             yield event
 
-    def feed_all(self, lanes: Sequence[bytes]) -> Iterator[LaneEvent]:
-        """Feeds these lanes from first to last byte, one after another, and yields all their events. Nothing of them may have been fed before."""
+    def __iter__(self) -> Iterator[LaneEvent]:
+        return self.events()
+
+    def feed_all(self, lanes: Sequence[Bytes]) -> Iterator[LaneEvent]:
+        """Feeds all lanes of the plan from first to last byte, one after another, and yields all their events. Nothing of them may have been
+        fed before. If these are not all lanes of the plan, it raises ValueError, and nothing is fed."""
+        return self._feed_all(_all_lanes(lanes, self._lanes))
+
+    def _feed_all(self, lanes: list[bytes]) -> Iterator[LaneEvent]:
         for lane, data in enumerate(lanes):
             fed = 0
             while fed < len(data):
@@ -1054,49 +1183,61 @@ class Inspector(_OfPlan):
 
     def report(self, lane: int) -> Report:
         """The report of a lane over the bytes that were taken of it so far."""
-        report = _Report()
-        self._call("report", _lane(lane), report)
-        return report.value()
+        return self._report(lane)
 
 
-class Gatherer(_OfPlan):
+class Gatherer(_Fed):
     """A gatherer of the words of the lanes of a plan, as the command `gather` has them. As a context manager it is closed at the end."""
 
-    def __init__(self, plan: bytes, library: str = "libinterlaken.so"):
-        """`plan` is the text of a plan file, and `library` the path of the shared library."""
+    def __init__(self, plan: Bytes, library: Optional[str] = None):
+        """`plan` is the text of a plan file, and `library` the path of the shared library, if it is not the one that is found without."""
         super().__init__(plan, library, "interlaken_gatherer_", _GATHERER_CALLS)
-
-    def feed(self, lane: int, data: bytes) -> int:
-        """Feeds a lane with the next of its bytes, as many as its ring of 4,096 bytes has room for, and returns how many."""
-        taken = _size()
-        self._call("feed", _lane(lane), data, len(data), taken)
-        return taken.value
-
-    def finish(self, lane: int) -> None:
-        """No further byte of this lane comes."""
-        self._call("finish", _lane(lane))
+        self._room = (_Gathered * _WORDS_AT_ONCE)()
+        self._ahead: deque[Gathered] = deque()  # What the library returned, and no call here did yet.
 
     def next(self) -> Optional[Gathered]:
         """The next word or break, or the end; None if a lane that is not finished lacks bytes, and after the end."""
+        if self._ahead:
+            return self._ahead.popleft()
         gathered = _Gathered()
         self._call("next", gathered)
-        return gathered.value()
+        return _gathered(_GATHERED_ROW.unpack(gathered))
 
     def words(self, most: int) -> list[Gathered]:
         """The next words and breaks, and the end: at most `most`, and fewer only if no more are known of what was fed. It is faster than `next`."""
-        gathered, count = (_Gathered * most)(), _size()
-        self._call("words", gathered, most, count)
-        return [value for one in gathered[: count.value] if (value := one.value()) is not None]
+        found = [self._ahead.popleft() for _ in range(min(most, len(self._ahead)))]
+        if "words" not in self._calls:
+            while len(found) < most and (one := self.next()) is not None:
+                found.append(one)
+            return found
+        count = _size()
+        while len(found) < most:
+            room = min(most - len(found), _WORDS_AT_ONCE)
+            self._call("words", self._room, room, count)
+            rows = _GATHERED_ROW.iter_unpack(memoryview(self._room).cast("B")[: count.value * _GATHERED_ROW.size])
+            found += [one for row in rows if (one := GatheredWord(row) if row[0] == 1 else _gathered(row)) is not None]
+            if count.value < room:
+                break
+        return found
+
+    def __iter__(self) -> Iterator[Gathered]:
+        return self.gathered()
 
     def gathered(self) -> Iterator[Gathered]:
         """All words and breaks that are known of what was fed, and the end, if it was not told before."""
-        while (gathered := self.next()) is not None:
-            yield gathered
+        while self._ahead or (found := self.words(_WORDS_AT_ONCE)):
+            if not self._ahead:
+                self._ahead.extend(found)
+            while self._ahead:
+                yield self._ahead.popleft()
 
-    def feed_all(self, lanes: Sequence[bytes]) -> Iterator[Gathered]:
-        """Feeds these lanes from first to last byte, side by side, and yields all words and breaks, and then the end."""
-        fed = [0] * len(lanes)
-        going = set(range(len(lanes)))
+    def feed_all(self, lanes: Sequence[Bytes]) -> Iterator[Gathered]:
+        """Feeds all lanes of the plan from first to last byte, side by side, and yields all words and breaks, and then the end. If these are
+        not all lanes of the plan, it raises ValueError, and nothing is fed."""
+        return self._feed_all(_all_lanes(lanes, self._lanes))
+
+    def _feed_all(self, lanes: list[bytes]) -> Iterator[Gathered]:
+        fed, going = [0] * len(lanes), set(range(len(lanes)))
         while going:
             for lane in sorted(going):
                 fed[lane] += self.feed(lane, lanes[lane][fed[lane] : fed[lane] + 4096])
@@ -1104,9 +1245,3 @@ class Gatherer(_OfPlan):
                     self.finish(lane)
                     going.discard(lane)
             yield from self.gathered()
-
-    def report(self, lane: int) -> Report:
-        """The report of a lane over the bytes that were taken from its ring so far."""
-        report = _Report()
-        self._call("report", _lane(lane), report)
-        return report.value()

@@ -1,7 +1,7 @@
 """Finds faults in the lanes of a device while it runs: a receiver, an inspector, and a gatherer with a checker over the same bytes return
 one stream of findings.
 
-    with Monitor(plan, library="lib/libinterlaken.so") as monitor:
+    with Monitor(plan) as monitor:
         for event in monitor.feed_all(lanes):
             if isinstance(event, Finding):
                 print(event)
@@ -19,6 +19,7 @@ from dataclasses import dataclass, replace
 from typing import Iterator, Optional, Sequence
 
 from . import (
+    Bytes,
     Checker,
     Drop,
     Dropped,
@@ -39,7 +40,10 @@ from . import (
     RuleFault,
     Span,
     WordKind,
+    _all_lanes,
     _Bits,
+    _bytes,
+    _check_bits,
 )
 
 _CODE_BITS = 67
@@ -90,8 +94,8 @@ class Finding:
 class Monitor:
     """A receiver, an inspector, and a gatherer with a checker of the lanes of a plan. As a context manager it is closed at the end."""
 
-    def __init__(self, plan: bytes, library: str = "libinterlaken.so", from_start: bool = False):
-        """`plan` is the text of a plan file, and `library` the path of the shared library. With `from_start` the first word of the lanes is
+    def __init__(self, plan: Bytes, library: Optional[str] = None, from_start: bool = False):
+        """`plan` is the text of a plan file, and `library` the path of the shared library, if it is not the one that is found without. With `from_start` the first word of the lanes is
         the first that the device sends; otherwise nothing is known of those before."""
         self.plan = Plan(plan, library)
         self.receiver, self.inspector = Receiver(plan, library), Inspector(plan, library)
@@ -121,8 +125,9 @@ class Monitor:
         for each in self.receiver, self.inspector, self.gatherer, self.checker:
             each.close()
 
-    def feed(self, lane: int, data: bytes) -> int:
+    def feed(self, lane: int, data: Bytes) -> int:
         """Feeds a lane with the next of its bytes, as many as the ring of the receiver has room for, and returns how many."""
+        data = _bytes(data)
         count = self.receiver.feed(lane, data)
         taken = 0
         while taken < count:
@@ -171,6 +176,7 @@ class Monitor:
     def feed_bits(self, lane: int, bits: int, count: int) -> bool:
         """Feeds a lane with its next `count` bits: the low bits of a number, the highest first. Up to seven bits wait for the next. False if the ring of
         the receiver has no room: then nothing was taken; take events and feed these again."""
+        _check_bits(lane, bits, count)
         waiting = self._bits.setdefault(lane, _Bits())
         if not self._feed_waiting(lane, waiting):
             return False
@@ -192,19 +198,26 @@ class Monitor:
         self._finished.add(lane)
         self._gather()
 
-    def feed_all(self, lanes: Sequence[bytes]) -> Iterator[Packet | Flow | Finding]:
-        """Feeds all lanes of the plan from first to last byte, and yields packets and findings as they come."""
+    def __repr__(self) -> str:
+        return "<Monitor of %d lanes>" % self.plan.lanes
+
+    def __iter__(self) -> Iterator[Packet | Flow | Finding]:
+        return self.events()
+
+    def feed_all(self, lanes: Sequence[Bytes]) -> Iterator[Packet | Flow | Finding]:
+        """Feeds all lanes of the plan from first to last byte, and yields packets and findings as they come. If these are not all lanes of the
+        plan, it raises ValueError, and nothing is fed."""
+        return self._feed_all(_all_lanes(lanes, self.plan.lanes))
+
+    def _feed_all(self, lanes: list[bytes]) -> Iterator[Packet | Flow | Finding]:
         fed, left = [0] * len(lanes), set(range(len(lanes)))
         while left:
-            before = sum(fed) - len(left)
             for lane in sorted(left):
                 fed[lane] += self.feed(lane, lanes[lane][fed[lane] : fed[lane] + 1024])
                 if fed[lane] == len(lanes[lane]):
                     self.finish(lane)
                     left.remove(lane)
             yield from self.events()
-            if sum(fed) - len(left) == before:  # What lacks bytes is a lane that is not among these.
-                raise ValueError("%d lanes are fewer than the plan has" % len(lanes))
 
     def events(self) -> Iterator[Packet | Flow | Finding]:
         """What there is so far. What the lanes show and the rules that words break come first, and then what the receiver makes of them."""
