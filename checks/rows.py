@@ -25,7 +25,6 @@ import os
 import sys
 
 from lib.captures import capture
-from lib.modeled import left_by_model
 from lib.runs import SECONDS, Run, content, files_in, left_by
 from lib.tally import Tally
 
@@ -84,6 +83,8 @@ class Row:
 
     def take_text(self):
         """Takes what the model prints as the text of the row, or says why not."""
+        from lib.modeled import left_by_model  # the model and the tools have modules of one name
+
         first = left_by_model(self.first, self.before) if self.first else Run(0, b"", b"", self.before)
         status, text, _, files = left_by_model(self.words, first.files)
         if first.status != 0 or status != self.status or self.differing(first.files, files):

@@ -89,6 +89,7 @@ impl Taker {
     }
 
     // The next word or break of what the clock has shown. `None` exactly if all of them were given.
+    #[inline(always)]
     fn shown(&mut self) -> Option<Gathered>
         requires { HasRun self.old }
         ensures gives { (s : Settings) (fed : List Fed) (given : List Numbered) →
